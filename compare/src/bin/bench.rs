@@ -1,0 +1,128 @@
+//! Times the linked archive beside the independent reader on generated deliveries: the least of three turns each.
+//!
+//!     bench MIB ..
+//!
+//! MIB is the size of FPLAN, such as 0.1, 1 or 4; the other files are in proportion. `EMULATOR` names the emulator that runs
+//! this program, if there is one. The answers of both must be the same.
+
+use std::process::exit;
+use std::time::{Duration, Instant};
+
+use compare::boundary::{Boundary, Reader};
+use compare::generate::plan::date_of;
+use compare::generate::{scaled, Rng};
+
+#[path = "../archive.rs"]
+mod archive;
+
+use archive::Archive;
+
+const TURNS: u32 = 3;
+const QUESTIONS: u32 = 20;
+
+/// Room for the rows of any walk.
+const ROW_ROOM: usize = 1_400;
+
+fn main() {
+    let sizes: Option<Vec<f64>> = std::env::args().skip(1).map(|text| text.parse().ok()).collect();
+    let sizes = match sizes {
+        Some(sizes) if !sizes.is_empty() => sizes,
+        _ => {
+            eprintln!("bench MIB ..");
+            exit(2);
+        }
+    };
+    match std::env::var("EMULATOR") {
+        Ok(name) if !name.is_empty() => {
+            println!("emulator: {}; a time says nothing by itself, a ratio is a hint at most", name)
+        }
+        _ => println!("emulator: none"),
+    }
+    for mib in sizes {
+        bench(mib);
+    }
+}
+
+fn bench(mib: f64) {
+    let files = scaled(&mut Rng::new(1), (mib * 1_048_576.0) as usize);
+    let [a, b, c, d, e] = &files;
+    let files: [&[u8]; 5] = [a, b, c, d, e];
+    let [number, _, line, words] = Reader.load(files, &mut []);
+    assert_eq!((number, line), (20, 0));
+    let load = |boundary: &dyn Boundary| {
+        let mut table = vec![0; words as usize];
+        let (answer, time) = timed(|| boundary.load(files, &mut table));
+        table.extend(answer);
+        (table, time)
+    };
+    let (table, archive, reader) = least("load", load);
+    println!(
+        "FPLAN {} bytes, {} services, {} stops, {} bit fields, table {} words",
+        e.len(),
+        table[6],
+        table[4],
+        table[3],
+        words
+    );
+    println!("  {:<12} {:>12} {:>12} {:>8}", "ms", "archive", "reader", "ratio");
+    show("load", archive, reader, 1);
+    for (name, ask) in [("walk", walk as Ask), ("day", day), ("interchange", interchange)] {
+        let (_, archive, reader) = least(name, |boundary| asked(boundary, &table, ask));
+        show(name, archive, reader, QUESTIONS);
+    }
+}
+
+/// The least times of the archive and of the reader, by turns, so that neither always finds the machine cold; and what
+/// all turns gave.
+fn least(name: &str, work: impl Fn(&dyn Boundary) -> (Vec<u32>, Duration)) -> (Vec<u32>, Duration, Duration) {
+    let (given, mut reader) = work(&Reader);
+    let mut archive = Duration::MAX;
+    for _ in 0..TURNS {
+        let (by_archive, archive_time) = work(&Archive);
+        let (by_reader, reader_time) = work(&Reader);
+        assert!(by_archive == given && by_reader == given, "the answers differ: {}", name);
+        archive = archive.min(archive_time);
+        reader = reader.min(reader_time);
+    }
+    (given, archive, reader)
+}
+
+fn timed<T>(work: impl FnOnce() -> T) -> (T, Duration) {
+    let start = Instant::now();
+    let result = work();
+    (result, start.elapsed())
+}
+
+fn show(what: &str, archive: Duration, reader: Duration, times: u32) {
+    let each = |time: Duration| 1_000.0 * time.as_secs_f64() / f64::from(times);
+    let ratio = archive.as_secs_f64() / reader.as_secs_f64();
+    println!("  {:<12} {:>12.3} {:>12.3} {:>8.2}", what, each(archive), each(reader), ratio);
+}
+
+/// A question and its answer, drawn by a generator that both boundaries start alike.
+type Ask = fn(&dyn Boundary, &[u32], &mut Rng) -> Vec<u32>;
+
+fn asked(boundary: &dyn Boundary, table: &[u32], ask: Ask) -> (Vec<u32>, Duration) {
+    let mut rng = Rng::new(2);
+    timed(|| (0..QUESTIONS).flat_map(|_| ask(boundary, table, &mut rng)).collect())
+}
+
+fn date(rng: &mut Rng, table: &[u32]) -> [u32; 3] {
+    let (day, month, year) = date_of(table[1] + rng.below(table[2]));
+    [day, month, year]
+}
+
+fn walk(boundary: &dyn Boundary, table: &[u32], rng: &mut Rng) -> Vec<u32> {
+    let mut rows = vec![0; ROW_ROOM];
+    let answer = boundary.walk(table, rng.below(table[6]), rng.below(4), date(rng, table), &mut rows);
+    rows.extend(answer);
+    rows
+}
+
+fn day(boundary: &dyn Boundary, table: &[u32], rng: &mut Rng) -> Vec<u32> {
+    boundary.day(table, date(rng, table), rng.below(table[3] + 1)).to_vec()
+}
+
+fn interchange(boundary: &dyn Boundary, table: &[u32], rng: &mut Rng) -> Vec<u32> {
+    boundary.interchange(table, 1_000_001 + rng.below(table[4]), [rng.below(4), 1]).to_vec()
+}

@@ -1,0 +1,54 @@
+//! The boundary's four functions as numbers, and the independent reader behind them.
+
+use crate::reader::{self, Changed, DayAnswer, Loaded, Walked};
+
+/// Whatever answers as the archive does. An answer's numbers stand in the order of its fields.
+pub trait Boundary {
+    /// number, file, line, words
+    fn load(&self, files: [&[u8]; 5], table: &mut [u32]) -> [u32; 4];
+
+    /// number, runs
+    fn day(&self, table: &[u32], date: [u32; 3], field: u32) -> [u32; 2];
+
+    /// number, minutes
+    fn interchange(&self, table: &[u32], stop: u32, classes: [u32; 2]) -> [u32; 2];
+
+    /// number, rows, needed
+    fn walk(&self, table: &[u32], service: u32, repeat: u32, date: [u32; 3], rows: &mut [u32]) -> [u32; 3];
+}
+
+/// The independent reader.
+pub struct Reader;
+
+impl Boundary for Reader {
+    fn load(&self, files: [&[u8]; 5], table: &mut [u32]) -> [u32; 4] {
+        match reader::load(files, table) {
+            Loaded::Accepted { words } => [0, 0, 0, words],
+            Loaded::Refused { number, file, line, needed } => [number, file, line, needed],
+        }
+    }
+
+    fn day(&self, table: &[u32], [day, month, year]: [u32; 3], field: u32) -> [u32; 2] {
+        match reader::day(table, day, month, year, field) {
+            DayAnswer::Runs => [0, 1],
+            DayAnswer::Rests => [0, 0],
+            DayAnswer::Refused { number } => [number, 0],
+        }
+    }
+
+    fn interchange(&self, table: &[u32], stop: u32, [arriving, departing]: [u32; 2]) -> [u32; 2] {
+        match reader::interchange(table, stop, arriving, departing) {
+            Changed::Minutes(minutes) => [0, minutes],
+            Changed::Refused { number } => [number, 0],
+        }
+    }
+
+    fn walk(&self, table: &[u32], service: u32, repeat: u32, date: [u32; 3], rows: &mut [u32]) -> [u32; 3] {
+        let [day, month, year] = date;
+        match reader::walk(table, service, repeat, day, month, year, rows) {
+            Walked::Rows(listed) => [0, listed, 0],
+            Walked::NotRunning => [0, 0, 0],
+            Walked::Refused { number, needed } => [number, 0, needed],
+        }
+    }
+}

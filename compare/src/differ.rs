@@ -1,0 +1,86 @@
+//! The comparison of boundaries with the independent reader: the same calls to all, answers and every word lent.
+//!
+//! A case is a seed and an index: one delivery, and questions on the table that it gives, on bent tables, and on words
+//! of no sense. It depends on nothing before it, so that a failing case runs again alone.
+
+mod cases;
+mod lent;
+mod report;
+mod tally;
+
+pub use lent::{Call, Outcome};
+pub use report::report;
+pub use tally::Tally;
+
+use crate::boundary::{Boundary, Reader};
+use crate::generate::{damaged_table, question, Question, Rng};
+use cases::{delivery, other_room, rng_of, senseless};
+
+/// A boundary to compare, and what it is called in a report.
+pub type Named<'a> = (&'static str, &'a dyn Boundary);
+
+const QUESTIONS_ON_TABLE: u32 = 6;
+const QUESTIONS_ON_BENT: u32 = 8;
+
+/// The first call of a case that a boundary answered otherwise than the reader.
+pub struct Difference {
+    pub by: &'static str,
+    pub call: Call,
+    pub expected: Outcome,
+    pub found: Outcome,
+}
+
+/// Boxed, since it holds whole files.
+pub type Compared<T> = Result<T, Box<Difference>>;
+
+/// Compares all calls of one case, and counts the reader's answers.
+pub fn compare(seed: u64, index: u64, boundaries: &[Named], tally: &mut Tally) -> Compared<()> {
+    let mut rng = rng_of(seed, index);
+    let mut run = Run { boundaries, tally };
+    let case = delivery(&mut rng, index);
+    let loaded = run.call(Call::Load { files: case.files, room: case.room })?;
+    if loaded.answer[0] != 0 {
+        return run.ask(&mut rng, senseless);
+    }
+    for _ in 0..QUESTIONS_ON_TABLE {
+        run.ask(&mut rng, |_| loaded.lent().to_vec())?;
+    }
+    for _ in 0..QUESTIONS_ON_BENT {
+        run.ask(&mut rng, |rng| damaged_table(rng, loaded.lent()))?;
+    }
+    Ok(())
+}
+
+struct Run<'a, 'b> {
+    boundaries: &'a [Named<'b>],
+    tally: &'a mut Tally,
+}
+
+impl Run<'_, '_> {
+    /// Makes a call by the reader and by each boundary; gives the reader's outcome.
+    fn call(&mut self, call: Call) -> Compared<Outcome> {
+        let expected = call.outcome(&Reader);
+        self.tally.count(&call, &expected);
+        for (by, boundary) in self.boundaries {
+            let found = call.outcome(*boundary);
+            if found != expected {
+                return Err(Box::new(Difference { by, call, expected, found }));
+            }
+        }
+        Ok(expected)
+    }
+
+    /// A question on words, and if it was a walk that has rows, the same walk with another room.
+    fn ask(&mut self, rng: &mut Rng, words: impl FnOnce(&mut Rng) -> Vec<u32>) -> Compared<()> {
+        let table = words(rng);
+        let question = question(rng, &table);
+        let outcome = self.call(Call::Ask { table: table.clone(), question })?;
+        if let Question::Walk { service, repeat, date, .. } = question {
+            if let Some(room) = other_room(rng, &outcome.answer) {
+                let question = Question::Walk { service, repeat, date, room };
+                self.call(Call::Ask { table, question })?;
+            }
+        }
+        Ok(())
+    }
+}

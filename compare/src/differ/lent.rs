@@ -1,0 +1,105 @@
+//! One call of the boundary, with words lent in a pattern, and all that it left.
+
+use crate::boundary::Boundary;
+use crate::generate::Question;
+
+/// Words on each side of the words lent that no call may touch.
+const GUARD: usize = 16;
+
+/// A call and all that it reads.
+#[derive(Clone, Debug)]
+pub enum Call {
+    Load { files: [Vec<u8>; 5], room: usize },
+    Ask { table: Vec<u32>, question: Question },
+}
+
+/// The answer's numbers, the words lent with their guards, and whether all that was only read is as it was.
+#[derive(Clone, Debug, PartialEq, Eq)]
+pub struct Outcome {
+    pub answer: Vec<u32>,
+    words: Vec<u32>,
+    read_only: bool,
+}
+
+/// No two words alike, and none that a table or row is likely to hold.
+fn pattern(at: usize) -> u32 {
+    0x8000_0000 | (at as u32).wrapping_mul(0x9E37_79B1) >> 1
+}
+
+fn with_guards(room: usize) -> Vec<u32> {
+    (0..room + 2 * GUARD).map(pattern).collect()
+}
+
+fn lent(words: &mut [u32]) -> &mut [u32] {
+    let end = words.len() - GUARD;
+    &mut words[GUARD..end]
+}
+
+impl Call {
+    /// The words that the call lends; a question but a walk lends none.
+    fn room(&self) -> usize {
+        match self {
+            Call::Load { room, .. } => *room,
+            Call::Ask { question: Question::Walk { room, .. }, .. } => *room,
+            Call::Ask { .. } => 0,
+        }
+    }
+
+    /// Makes the call.
+    pub fn outcome(&self, boundary: &dyn Boundary) -> Outcome {
+        let mut words = with_guards(self.room());
+        let lent = lent(&mut words);
+        let (answer, read_only) = match self {
+            Call::Load { files, .. } => loaded(boundary, files, lent),
+            Call::Ask { table, question } => asked(boundary, table, *question, lent),
+        };
+        Outcome { answer, words, read_only }
+    }
+}
+
+fn loaded(boundary: &dyn Boundary, files: &[Vec<u8>; 5], lent: &mut [u32]) -> (Vec<u32>, bool) {
+    let given = files.clone();
+    let [a, b, c, d, e] = &given;
+    let answer = boundary.load([a, b, c, d, e], lent);
+    (answer.to_vec(), given == *files)
+}
+
+fn asked(boundary: &dyn Boundary, table: &[u32], question: Question, lent: &mut [u32]) -> (Vec<u32>, bool) {
+    let given = table.to_vec();
+    let answer = match question {
+        Question::Day { date, bitfield } => boundary.day(&given, date, bitfield).to_vec(),
+        Question::Interchange { stop, classes } => boundary.interchange(&given, stop, classes).to_vec(),
+        Question::Walk { service, repeat, date, .. } => boundary.walk(&given, service, repeat, date, lent).to_vec(),
+    };
+    (answer, given == table)
+}
+
+impl Outcome {
+    /// The words lent, as the call left them.
+    pub fn lent(&self) -> &[u32] {
+        &self.words[GUARD..self.words.len() - GUARD]
+    }
+
+    /// How another outcome of the same call differs, a line each.
+    pub fn differs(&self, other: &Outcome) -> Vec<String> {
+        let mut lines = Vec::new();
+        if self.answer != other.answer {
+            lines.push(format!("the answer is {:?}, the reader's {:?}", other.answer, self.answer));
+        }
+        if !other.read_only {
+            lines.push("bytes or words that were only to be read have changed".to_string());
+        }
+        let unlike = (0..self.words.len()).filter(|at| self.words[*at] != other.words[*at]);
+        for at in unlike.take(8) {
+            lines.push(format!("{} is {}, the reader's {}", self.place(at), other.words[at], self.words[at]));
+        }
+        lines
+    }
+
+    /// A word by its place among those lent; the guards are outside.
+    fn place(&self, at: usize) -> String {
+        let (place, room) = (at as i64 - GUARD as i64, self.lent().len());
+        let side = if (0..room as i64).contains(&place) { "of" } else { "outside" };
+        format!("word {} {} the {} lent", place, side, room)
+    }
+}

@@ -1,0 +1,75 @@
+//! How often each kind of answer came.
+
+use std::collections::BTreeMap;
+use std::fmt;
+
+use super::lent::{Call, Outcome};
+use crate::generate::Question;
+
+/// Every kind of answer that there is, by call: what it is called without a refusal, and its refusals.
+const ANSWERS: [(&str, &[&str], &[u32]); 4] = [
+    ("load", &["accepted"], &[1, 2, 3, 4, 5, 6, 7, 8, 9, 10, 11, 12, 13, 14, 15, 16, 17, 18, 19, 20]),
+    ("day", &["runs", "rests"], &[21, 22, 23, 28]),
+    ("interchange", &["minutes"], &[21, 26, 27]),
+    ("walk", &["rows", "not running"], &[21, 22, 23, 24, 25, 29, 31, 32, 33, 34, 35, 36]),
+];
+
+/// The answers counted, by the name of the call and of the answer.
+#[derive(Default)]
+pub struct Tally {
+    counts: BTreeMap<(&'static str, String), u64>,
+}
+
+impl Tally {
+    pub fn count(&mut self, call: &Call, outcome: &Outcome) {
+        *self.counts.entry(kind(call, &outcome.answer)).or_insert(0) += 1;
+    }
+
+    /// The kinds of answers that never came.
+    pub fn missing(&self) -> Vec<String> {
+        let all = ANSWERS.iter().flat_map(|(call, plain, refusals)| {
+            let plain = plain.iter().map(|name| name.to_string());
+            plain.chain(refusals.iter().map(|number| refused(*number))).map(move |answer| (*call, answer))
+        });
+        all.filter(|kind| !self.counts.contains_key(kind))
+            .map(|(call, answer)| format!("{} {}", call, answer))
+            .collect()
+    }
+
+    fn calls(&self, of: &str) -> u64 {
+        self.counts.iter().filter(|((call, _), _)| *call == of).map(|(_, times)| times).sum()
+    }
+}
+
+fn refused(number: u32) -> String {
+    format!("refused {:2}", number)
+}
+
+fn kind(call: &Call, answer: &[u32]) -> (&'static str, String) {
+    let (name, plain) = match call {
+        Call::Load { .. } => ("load", "accepted"),
+        Call::Ask { question: Question::Day { .. }, .. } => ("day", if answer[1] == 1 { "runs" } else { "rests" }),
+        Call::Ask { question: Question::Interchange { .. }, .. } => ("interchange", "minutes"),
+        Call::Ask { question: Question::Walk { .. }, .. } => {
+            ("walk", if answer[1] > 0 { "rows" } else { "not running" })
+        }
+    };
+    match answer[0] {
+        0 => (name, plain.to_string()),
+        number => (name, refused(number)),
+    }
+}
+
+impl fmt::Display for Tally {
+    fn fmt(&self, f: &mut fmt::Formatter<'_>) -> fmt::Result {
+        for (of, _, _) in ANSWERS {
+            writeln!(f, "{}: {} calls", of, self.calls(of))?;
+            for ((call, answer), times) in &self.counts {
+                if *call == of {
+                    writeln!(f, "  {:<12} {:>9}", answer, times)?;
+                }
+            }
+        }
+        Ok(())
+    }
+}

@@ -1,0 +1,34 @@
+//! Seeded deliveries, damaged tables and questions for the comparison.
+//!
+//! A `Plan` says what a delivery means, a `Sheet` holds its lines, a `Case` its bytes. A damage changes a plan or a
+//! sheet in one clause of one refusal, and knows the refusal and the line that it must bring.
+
+pub mod bend_table;
+pub mod break_form;
+pub mod break_plan;
+pub mod break_sheet;
+pub mod case;
+pub mod ends;
+pub mod plan;
+pub mod questions;
+pub mod raw_table;
+pub mod rng;
+pub mod scaled;
+pub mod sheet;
+
+pub use bend_table::damaged_table;
+pub use case::{damaged, mixed, mutated, oversized, several, valid, Aim, Case};
+pub use questions::{question, Question};
+pub use rng::Rng;
+pub use scaled::scaled;
+
+/// How large a delivery gets.
+#[derive(Clone, Copy, Debug, PartialEq, Eq)]
+pub enum Size {
+    /// 1 to 3 services of 2 to 6 calls, each file up to about 1,500 bytes.
+    Small,
+    /// Up to 5 services of 2 to 14 calls.
+    Medium,
+    /// Services at the limits of refusal 13.
+    Large,
+}

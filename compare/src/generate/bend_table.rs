@@ -1,0 +1,407 @@
+//! (d) Words for the questions: tables bent so that they stay tables, and words that each miss one condition of 21.
+
+// All pokes have one type, whether they change the length or not.
+#![allow(clippy::ptr_arg)]
+
+use super::raw_table::{parts, RawService, RawTable};
+use super::rng::Rng;
+
+/// A damage to a table; `None` where the table has no place for it.
+pub type Bend = fn(&mut Rng, &mut RawTable) -> Option<()>;
+
+/// A damage to the words of a table; `None` where they have no place for it.
+pub type Poke = fn(&mut Rng, &mut Vec<u32>) -> Option<()>;
+
+/// Damages that leave a table: for 28, 31 to 36, and for lookups that take the first match.
+pub const BENDS: &[Bend] = &[
+    leg_on_other_bitfield,
+    bitfield_renamed,
+    bitfield_word,
+    bitfield_twice,
+    stop_renamed,
+    call_elsewhere,
+    record_twice,
+    one_record,
+    other_flags,
+    other_time,
+    other_categories,
+    other_days,
+    tear,
+    other_repeats,
+    other_period,
+];
+
+/// Damages after which the parts, written with right counts, are no table (21).
+pub const NO_TABLES: &[Bend] = &[
+    days_out_of_bounds,
+    last_day_too_late,
+    no_records,
+    under_two_calls,
+    over_200_calls,
+    over_50_categories,
+    over_50_days,
+    over_100_others,
+    repeats_over_999,
+    time_over_59999,
+    flags_over_15,
+    end_past_calls,
+    other_end_past_calls,
+    wrong_order,
+    other_wrong_order,
+];
+
+/// Damages to words after which they are no table (21).
+pub const POKES: &[Poke] = &[
+    under_8_words,
+    used_under_8,
+    lent_cut_short,
+    used_over_lent,
+    used_one_more,
+    used_one_less,
+    place_beyond_used,
+    place_off,
+    right_modulo_2_to_32,
+    header_count_off,
+    service_count_off,
+    section_count_off,
+];
+
+fn some<'a, T>(rng: &mut Rng, items: &'a mut [T]) -> Option<&'a mut T> {
+    if items.is_empty() {
+        return None;
+    }
+    let at = rng.index(items.len());
+    items.get_mut(at)
+}
+
+fn some_service<'a>(rng: &mut Rng, table: &'a mut RawTable) -> Option<&'a mut RawService> {
+    some(rng, &mut table.services)
+}
+
+fn some_call<'a>(rng: &mut Rng, table: &'a mut RawTable) -> Option<&'a mut [u32; 4]> {
+    let service = some_service(rng, table)?;
+    some(rng, &mut service.calls)
+}
+
+/// A *G or *A VE, with the calls of its service.
+fn some_range<'a>(rng: &mut Rng, table: &'a mut RawTable) -> Option<(&'a mut [u32; 3], u32)> {
+    let service = some_service(rng, table)?;
+    let calls = service.calls.len() as u32;
+    let ranges = if rng.coin() { &mut service.categories } else { &mut service.days };
+    Some((some(rng, ranges)?, calls))
+}
+
+/// Another *A, with the calls of its service.
+fn some_other<'a>(rng: &mut Rng, table: &'a mut RawTable) -> Option<(&'a mut [u32; 4], u32)> {
+    let service = some_service(rng, table)?;
+    let calls = service.calls.len() as u32;
+    Some((some(rng, &mut service.others)?, calls))
+}
+
+fn leg_on_other_bitfield(rng: &mut Rng, table: &mut RawTable) -> Option<()> {
+    let service = some_service(rng, table)?;
+    some(rng, &mut service.days)?[0] = rng.pick(&[0, 77, 999_999, u32::MAX]);
+    Some(())
+}
+
+fn bitfield_renamed(rng: &mut Rng, table: &mut RawTable) -> Option<()> {
+    some(rng, &mut table.bitfields)?[0] = rng.pick(&[0, 5, u32::MAX]);
+    Some(())
+}
+
+fn bitfield_word(rng: &mut Rng, table: &mut RawTable) -> Option<()> {
+    let (which, word) = (1 + rng.index(12), rng.draw() as u32);
+    some(rng, &mut table.bitfields)?[which] = word;
+    Some(())
+}
+
+fn bitfield_twice(rng: &mut Rng, table: &mut RawTable) -> Option<()> {
+    let number = some(rng, &mut table.bitfields)?[0];
+    some(rng, &mut table.bitfields)?[0] = number;
+    Some(())
+}
+
+fn stop_renamed(rng: &mut Rng, table: &mut RawTable) -> Option<()> {
+    some(rng, &mut table.stops)?[0] = rng.pick(&[0, 9_999_999, 1_000_011]);
+    Some(())
+}
+
+fn call_elsewhere(rng: &mut Rng, table: &mut RawTable) -> Option<()> {
+    some_call(rng, table)?[0] = rng.pick(&[0, 9_999_999, 7]);
+    Some(())
+}
+
+fn record_twice(rng: &mut Rng, table: &mut RawTable) -> Option<()> {
+    let number = some(rng, &mut table.records)?[0];
+    table.records.insert(0, [number, rng.draw() as u32, 61]);
+    Some(())
+}
+
+fn one_record(rng: &mut Rng, table: &mut RawTable) -> Option<()> {
+    table.records.truncate(1);
+    some(rng, &mut table.records)?[0] = rng.pick(&[0, 9_999_999, 5]);
+    Some(())
+}
+
+fn other_flags(rng: &mut Rng, table: &mut RawTable) -> Option<()> {
+    some_call(rng, table)?[3] = rng.below(16);
+    Some(())
+}
+
+fn other_time(rng: &mut Rng, table: &mut RawTable) -> Option<()> {
+    let which = 1 + rng.index(2);
+    some_call(rng, table)?[which] = rng.below(60_000);
+    Some(())
+}
+
+fn other_categories(rng: &mut Rng, table: &mut RawTable) -> Option<()> {
+    let service = some_service(rng, table)?;
+    bend_range(rng, &mut service.categories)
+}
+
+fn other_days(rng: &mut Rng, table: &mut RawTable) -> Option<()> {
+    let service = some_service(rng, table)?;
+    bend_range(rng, &mut service.days)
+}
+
+/// Takes a range away, doubles it, or takes a leg from it.
+fn bend_range(rng: &mut Rng, ranges: &mut Vec<[u32; 3]>) -> Option<()> {
+    if ranges.is_empty() {
+        return None;
+    }
+    let at = rng.index(ranges.len());
+    let long = ranges[at][2] - ranges[at][1] > 1;
+    match rng.below(4) {
+        1 if ranges.len() < 50 => ranges.push(ranges[at]),
+        2 if long => ranges[at][1] += 1,
+        3 if long => ranges[at][2] -= 1,
+        _ => {
+            ranges.remove(at);
+        }
+    }
+    Some(())
+}
+
+/// A service in three parts, of which the middle one never runs.
+fn tear(rng: &mut Rng, table: &mut RawTable) -> Option<()> {
+    let mut never = [0; 13];
+    never[0] = some(rng, &mut table.bitfields)?[0];
+    let service = some_service(rng, table)?;
+    let legs = service.calls.len() as u32 - 1;
+    if legs < 3 {
+        return None;
+    }
+    let a = rng.between(1, legs - 2);
+    let b = rng.between(a + 1, legs - 1);
+    service.days = vec![[0, 0, a], [never[0], a, b], [0, b, legs]];
+    table.bitfields.insert(0, never);
+    Some(())
+}
+
+fn other_repeats(rng: &mut Rng, table: &mut RawTable) -> Option<()> {
+    let (repeats, offset) = (rng.below(1_000), rng.below(1_000));
+    let service = some_service(rng, table)?;
+    service.head[4] = repeats;
+    service.head[5] = offset;
+    Some(())
+}
+
+fn other_period(rng: &mut Rng, table: &mut RawTable) -> Option<()> {
+    table.days = rng.between(1, 380);
+    table.first_day = table.first_day.min(109_573 - table.days);
+    Some(())
+}
+
+fn days_out_of_bounds(rng: &mut Rng, table: &mut RawTable) -> Option<()> {
+    table.days = rng.pick(&[0, 381, u32::MAX]);
+    Some(())
+}
+
+fn last_day_too_late(rng: &mut Rng, table: &mut RawTable) -> Option<()> {
+    table.first_day = rng.pick(&[109_573 - table.days.clamp(1, 380) + 1, 109_573, u32::MAX]);
+    Some(())
+}
+
+fn no_records(_: &mut Rng, table: &mut RawTable) -> Option<()> {
+    table.records.clear();
+    Some(())
+}
+
+fn under_two_calls(rng: &mut Rng, table: &mut RawTable) -> Option<()> {
+    let calls = rng.index(2);
+    let service = some_service(rng, table)?;
+    service.calls.truncate(calls);
+    service.categories.clear();
+    service.days.clear();
+    service.others.clear();
+    Some(())
+}
+
+fn over_200_calls(rng: &mut Rng, table: &mut RawTable) -> Option<()> {
+    let service = some_service(rng, table)?;
+    let last = *service.calls.last()?;
+    service.calls.resize(201, last);
+    Some(())
+}
+
+fn over_50_categories(rng: &mut Rng, table: &mut RawTable) -> Option<()> {
+    some_service(rng, table)?.categories.resize(51, [5, 0, 1]);
+    Some(())
+}
+
+fn over_50_days(rng: &mut Rng, table: &mut RawTable) -> Option<()> {
+    some_service(rng, table)?.days.resize(51, [0, 0, 1]);
+    Some(())
+}
+
+fn over_100_others(rng: &mut Rng, table: &mut RawTable) -> Option<()> {
+    some_service(rng, table)?.others.resize(101, [5, 0, 0, 1]);
+    Some(())
+}
+
+fn repeats_over_999(rng: &mut Rng, table: &mut RawTable) -> Option<()> {
+    let which = 4 + rng.index(2);
+    some_service(rng, table)?.head[which] = rng.pick(&[1_000, u32::MAX]);
+    Some(())
+}
+
+fn time_over_59999(rng: &mut Rng, table: &mut RawTable) -> Option<()> {
+    let which = 1 + rng.index(2);
+    some_call(rng, table)?[which] = rng.pick(&[60_000, u32::MAX]);
+    Some(())
+}
+
+fn flags_over_15(rng: &mut Rng, table: &mut RawTable) -> Option<()> {
+    some_call(rng, table)?[3] = rng.pick(&[16, 17, u32::MAX]);
+    Some(())
+}
+
+fn end_past_calls(rng: &mut Rng, table: &mut RawTable) -> Option<()> {
+    let which = 1 + rng.index(2);
+    let (range, calls) = some_range(rng, table)?;
+    range[which] = rng.pick(&[calls, calls + 1, u32::MAX]);
+    Some(())
+}
+
+fn other_end_past_calls(rng: &mut Rng, table: &mut RawTable) -> Option<()> {
+    let which = 2 + rng.index(2);
+    let (range, calls) = some_other(rng, table)?;
+    range[which] = rng.pick(&[calls, u32::MAX]);
+    Some(())
+}
+
+fn wrong_order(rng: &mut Rng, table: &mut RawTable) -> Option<()> {
+    let equal = rng.coin();
+    let (range, _) = some_range(rng, table)?;
+    let [given, from, to] = *range;
+    *range = if equal { [given, from, from] } else { [given, to, from] };
+    Some(())
+}
+
+fn other_wrong_order(rng: &mut Rng, table: &mut RawTable) -> Option<()> {
+    let (range, _) = some_other(rng, table)?;
+    range[2] = 1;
+    range[3] = 0;
+    Some(())
+}
+
+fn under_8_words(rng: &mut Rng, words: &mut Vec<u32>) -> Option<()> {
+    words.truncate(rng.index(8));
+    Some(())
+}
+
+fn used_under_8(rng: &mut Rng, words: &mut Vec<u32>) -> Option<()> {
+    words[0] = rng.below(8);
+    Some(())
+}
+
+fn lent_cut_short(rng: &mut Rng, words: &mut Vec<u32>) -> Option<()> {
+    let used = words[0] as usize;
+    words.truncate(used.saturating_sub(1 + rng.index(3)));
+    Some(())
+}
+
+fn used_over_lent(rng: &mut Rng, words: &mut Vec<u32>) -> Option<()> {
+    words[0] = rng.pick(&[words.len() as u32 + 1, u32::MAX]);
+    Some(())
+}
+
+fn used_one_more(_: &mut Rng, words: &mut Vec<u32>) -> Option<()> {
+    let used = words[0] as usize;
+    words.insert(used, 0);
+    words[0] += 1;
+    Some(())
+}
+
+fn used_one_less(_: &mut Rng, words: &mut Vec<u32>) -> Option<()> {
+    words[0] -= 1;
+    Some(())
+}
+
+/// Word 7 right, but beyond words used.
+fn place_beyond_used(_: &mut Rng, words: &mut Vec<u32>) -> Option<()> {
+    words[6] = 0;
+    words[0] = words[7] - 1;
+    Some(())
+}
+
+fn place_off(rng: &mut Rng, words: &mut Vec<u32>) -> Option<()> {
+    words[7] = rng.pick(&[words[7] - 1, words[7] + 1, 0, u32::MAX]);
+    Some(())
+}
+
+/// One more bit field and these stops are 2^32 words together: word 7 is right modulo 2^32 only.
+fn right_modulo_2_to_32(_: &mut Rng, words: &mut Vec<u32>) -> Option<()> {
+    words[3] += 1;
+    words[4] += 1_431_655_761;
+    Some(())
+}
+
+fn header_count_off(rng: &mut Rng, words: &mut Vec<u32>) -> Option<()> {
+    let which = rng.between(3, 6) as usize;
+    words[which] = rng.pick(&[words[which].wrapping_sub(1), words[which] + 1, 1 << 31]);
+    Some(())
+}
+
+/// A count of a service that is not the sum of its parts.
+fn service_count_off(rng: &mut Rng, words: &mut Vec<u32>) -> Option<()> {
+    let first = words[7] as usize;
+    if words[6] == 0 {
+        return None;
+    }
+    words[first] = rng.pick(&[words[first] - 1, words[first] + 1, 0, 11, u32::MAX]);
+    Some(())
+}
+
+fn section_count_off(rng: &mut Rng, words: &mut Vec<u32>) -> Option<()> {
+    let which = words[7] as usize + rng.between(6, 9) as usize;
+    if words[6] == 0 {
+        return None;
+    }
+    words[which] = rng.pick(&[words[which] + 1, u32::MAX, 1 << 30, 201]);
+    Some(())
+}
+
+/// Any damage to a table: bent, no table any more, or a word changed at random.
+pub fn damaged_table(rng: &mut Rng, table: &[u32]) -> Vec<u32> {
+    let mut raw = parts(table);
+    for _ in 0..rng.below(3) {
+        rng.pick(BENDS)(rng, &mut raw);
+    }
+    if rng.once_in(6) {
+        rng.pick(NO_TABLES)(rng, &mut raw);
+    }
+    let mut words = raw.words();
+    words.resize(words.len() + rng.pick(&[0, 0, 1, 9]), 0xAAAA_AAAA);
+    match rng.below(10) {
+        0 => {
+            rng.pick(POKES)(rng, &mut words);
+        }
+        1 => {
+            let at = rng.index(words.len());
+            words[at] = rng.pick(&[0, 1, 2, 199, 59_999, 1 << 31, u32::MAX]);
+        }
+        _ => {}
+    }
+    words
+}

@@ -1,0 +1,225 @@
+//! Damages to the form of one line (refusal 4), each with the column that document 02, No. 6 names.
+
+use super::rng::Rng;
+use super::sheet::{Row, Sheet, Tag};
+
+/// How columns a to b of a line can break.
+#[derive(Clone, Copy, Debug, PartialEq, Eq)]
+enum Field {
+    Date,
+    Digits,
+    DigitsOrBlank,
+    Hex,
+    Name,
+    CountTo60,
+    Count,
+    NoBlank,
+    NotBlank,
+    Mismatch,
+    End,
+    /// The column of the end beside it.
+    Detail(usize),
+    Time,
+    AllOrNone,
+    CrossOrBlank,
+    Percent,
+    Unnamed,
+}
+
+use Field::*;
+
+const DATE: &[(usize, usize, Field)] = &[(1, 10, Date)];
+const BITFIELD: &[(usize, usize, Field)] = &[(1, 6, Digits), (7, 7, Unnamed), (8, 103, Hex), (104, 110, Unnamed)];
+const STOP: &[(usize, usize, Field)] = &[(1, 7, Digits), (8, 8, Unnamed), (12, 12, Unnamed), (13, 62, Name)];
+const RECORD: &[(usize, usize, Field)] =
+    &[(1, 7, Digits), (8, 8, Unnamed), (9, 10, CountTo60), (11, 11, Unnamed), (12, 13, Count), (14, 14, Unnamed)];
+const Z: &[(usize, usize, Field)] = &[
+    (4, 8, Digits),
+    (9, 9, Unnamed),
+    (10, 15, NoBlank),
+    (16, 22, Unnamed),
+    (23, 25, DigitsOrBlank),
+    (26, 26, Unnamed),
+    (27, 29, DigitsOrBlank),
+    (27, 29, Mismatch),
+    (30, 58, Unnamed),
+    (59, 59, Percent),
+];
+const G: &[(usize, usize, Field)] = &[
+    (4, 4, NotBlank),
+    (7, 7, Unnamed),
+    (8, 14, End),
+    (15, 15, Unnamed),
+    (16, 22, End),
+    (23, 23, Unnamed),
+    (24, 29, Detail(8)),
+    (30, 30, Unnamed),
+    (31, 36, Detail(16)),
+    (37, 58, Unnamed),
+    (59, 59, Percent),
+];
+const A: &[(usize, usize, Field)] = &[
+    (4, 4, NotBlank),
+    (6, 6, Unnamed),
+    (7, 13, End),
+    (14, 14, Unnamed),
+    (15, 21, End),
+    (22, 22, Unnamed),
+    (23, 28, DigitsOrBlank),
+    (29, 29, Unnamed),
+    (30, 35, Detail(7)),
+    (36, 36, Unnamed),
+    (37, 42, Detail(15)),
+    (43, 58, Unnamed),
+    (59, 59, Percent),
+];
+/// Column 1 makes it a schedule line, so its digits break from column 2 on.
+const SCHEDULE: &[(usize, usize, Field)] = &[
+    (2, 7, Digits),
+    (8, 8, Unnamed),
+    (30, 35, Time),
+    (36, 36, Unnamed),
+    (37, 42, Time),
+    (43, 43, Unnamed),
+    (44, 48, DigitsOrBlank),
+    (49, 49, Unnamed),
+    (50, 55, AllOrNone),
+    (56, 56, Unnamed),
+    (57, 57, CrossOrBlank),
+    (58, 58, Unnamed),
+    (59, 59, Percent),
+];
+
+fn fields(tag: Tag) -> &'static [(usize, usize, Field)] {
+    match tag {
+        Tag::Skipped | Tag::Free => &[],
+        Tag::Date(_) => DATE,
+        Tag::BitField(_) => BITFIELD,
+        Tag::Stop(_) => STOP,
+        Tag::Record(_) => RECORD,
+        Tag::Z(_) => Z,
+        Tag::G(..) => G,
+        Tag::Ve(..) | Tag::Other(..) => A,
+        Tag::Call(..) => SCHEDULE,
+    }
+}
+
+/// Breaks the form of some line: the file, the line's place in it, and the column.
+pub fn break_form(rng: &mut Rng, sheet: &mut Sheet) -> Option<(u32, usize, usize)> {
+    let file = rng.pick(&[0, 1, 2, 3, 4, 4, 4, 4, 4]);
+    let rows = &mut sheet.files[file];
+    let formed: Vec<usize> = (0..rows.len()).filter(|i| !fields(rows[*i].tag).is_empty()).collect();
+    if formed.is_empty() {
+        return None;
+    }
+    let at = rng.pick(&formed);
+    let column = break_row(rng, &mut rows[at])?;
+    Some((file as u32 + 1, at, column))
+}
+
+/// Adds a second offence to a line that may have one: which of them counts is for the order of offences to say.
+pub fn pile_on(rng: &mut Rng, row: &mut Row) {
+    if rng.coin() {
+        break_row(rng, row);
+        return;
+    }
+    match row.tag {
+        Tag::Call(..) | Tag::Record(_) => put(&mut row.text, 1, b"7654321"),
+        Tag::Ve(..) | Tag::Other(..) => put(&mut row.text, 23, b"765432"),
+        Tag::BitField(_) => put(&mut row.text, 8, &[b'0'; 96]),
+        _ => {}
+    }
+}
+
+/// Breaks one field or unnamed column of a line, and names the column.
+fn break_row(rng: &mut Rng, row: &mut Row) -> Option<usize> {
+    let (a, b, field) = rng.pick(fields(row.tag));
+    let text = &mut row.text;
+    match field {
+        Unnamed => {
+            let column = rng.between(a as u32, b as u32) as usize;
+            put(text, column, &[rng.byte(false)]);
+            return Some(column);
+        }
+        Mismatch => mismatch(rng, text),
+        Percent if rng.coin() => {
+            text.truncate(58);
+            while rng.coin() && text.last() == Some(&b' ') {
+                text.pop();
+            }
+        }
+        Name => {
+            put(text, 13, &[b' '; 50]);
+            if rng.coin() {
+                text.truncate(12 + rng.index(51));
+            }
+        }
+        Date | Hex if rng.once_in(4) => text.truncate(a - 1 + rng.index(b - a + 1)),
+        Date | Digits | Hex | NoBlank => {
+            let column = rng.between(a as u32, b as u32) as usize;
+            let byte = wrong_byte(rng, field, text.get(column - 1).copied());
+            put(text, column, &[byte]);
+        }
+        Detail(end) if !has_stop(text, end) => return None,
+        _ => {
+            let wrong = rng.pick(wrong_texts(field, b + 1 - a));
+            put(text, a, wrong);
+        }
+    }
+    // Broken digits of a schedule line count where the field starts.
+    Some(if a == 2 { 1 } else { a })
+}
+
+/// A detail is read beside a stop number only.
+fn has_stop(text: &[u8], end: usize) -> bool {
+    text.get(end - 1..end + 6).map_or(false, |place| place.iter().all(u8::is_ascii_digit))
+}
+
+fn put(text: &mut Vec<u8>, column: usize, bytes: &[u8]) {
+    let end = column - 1 + bytes.len();
+    if text.len() < end {
+        text.resize(end, b' ');
+    }
+    text[column - 1..end].copy_from_slice(bytes);
+}
+
+/// A byte that a digit, hex digit, date or non-blank column must not hold.
+fn wrong_byte(rng: &mut Rng, field: Field, right: Option<u8>) -> u8 {
+    match field {
+        NoBlank => b' ',
+        Hex => rng.pick(b" agfG@:/`x-\xff"),
+        Date if right == Some(b'.') => rng.pick(b" 0/:-,"),
+        _ => rng.pick(b" .:/-+A#\xb2\xff"),
+    }
+}
+
+fn wrong_texts(field: Field, width: usize) -> &'static [&'static [u8]] {
+    match (field, width) {
+        (DigitsOrBlank, 3) => &[b"1  ", b" 12", b"  1", b"A12", b"1 2", b"-01", b"+01", b"01:"],
+        (DigitsOrBlank, 5) => &[b"12 45", b" 1234", b"1234 ", b"ABCDE", b"-1234"],
+        (DigitsOrBlank, _) => &[b"00000 ", b" 00001", b"     1", b"00000A", b"-00001", b"000 01"],
+        (CountTo60, _) => &[b"61", b"99", b"70", b"1 ", b"  ", b"A1", b"1A", b"-1", b"+1", b"\t1"],
+        (Count, _) => &[b"1 ", b"  ", b"A1", b"1A", b"-1", b"+1", b"\t1"],
+        (End, _) => &[
+            b"#      ", b"# 1    ", b"  #1 2 ", b"1#     ", b"123456 ", b" 123456", b"12345-6", b"-123456", b"##1    ",
+            b"ABCDEFG", b"12 4567", b"#1#    ", b"#12345x", b"      #", b"\t     1",
+        ],
+        (Detail(_), _) => &[
+            b"#     ", b"# 1   ", b"+00810", b" 00860", b" 0081 ", b"00810 ", b"081000", b"-     ", b"  0810", b"ABCDEF",
+            b" 00872", b"#1x   ", b"x#1   ", b"     #", b"-00060",
+        ],
+        (Time, _) => &[
+            b"+00810", b" 00860", b"-00899", b" 0081 ", b"00810 ", b"-     ", b"  0810", b" 008:1", b" A0810", b"000810",
+        ],
+        (AllOrNone, _) => &[b"FERRY ", b" FERRY", b"FE RY_", b"F     ", b"     Y"],
+        (CrossOrBlank, _) => &[b"x", b"Y", b"0", b"%", b"\t"],
+        (Percent, _) => &[b" ", b"&", b"$", b"*"],
+        _ => &[b" "],
+    }
+}
+
+/// "digits, both or neither blank"; "One or more repeats need an offset of at least 1".
+fn mismatch(rng: &mut Rng, text: &mut Vec<u8>) {
+    let pair: &[u8] = rng.pick::<&[u8]>(&[b"001    ", b"000    ", b"    001", b"    000", b"001 000", b"999 000"]);
+    put(text, 23, pair);
+}

@@ -1,0 +1,258 @@
+//! Whole cases: five files, the room of the table, and what they must bring if that is known.
+
+use super::break_form::{break_form, pile_on};
+use super::break_plan::{self, At};
+use super::break_sheet;
+use super::plan::{self, Given, Plan};
+use super::rng::Rng;
+use super::sheet::{bytes, sheet, Row, Sheet, Tag};
+use super::Size;
+
+/// The refusal that a damage must bring; the column is 0 unless 4.
+#[derive(Clone, Copy, Debug, PartialEq, Eq)]
+pub struct Aim {
+    pub number: u32,
+    pub file: u32,
+    pub line: u32,
+    pub column: usize,
+}
+
+#[derive(Clone, Debug)]
+pub struct Case {
+    pub files: [Vec<u8>; 5],
+    /// Words of the table to lend.
+    pub room: usize,
+    /// `None` where it is not known: after several damages, and after a mutation.
+    pub aim: Option<Aim>,
+    /// The plan and the lines of a delivery without damage.
+    pub plan: Option<(Plan, Sheet)>,
+}
+
+impl Case {
+    pub fn slices(&self) -> [&[u8]; 5] {
+        let [a, b, c, d, e] = &self.files;
+        [a, b, c, d, e]
+    }
+}
+
+/// The words that the table of a plan takes.
+pub fn planned_words(plan: &Plan) -> usize {
+    let service_words = |service: &plan::Service| {
+        let range_words = |range: &plan::Range| if let Given::Other(..) = range.given { 4 } else { 3 };
+        11 + 4 * service.calls.len() + service.ranges.iter().map(range_words).sum::<usize>()
+    };
+    let services: usize = plan.services.iter().map(service_words).sum();
+    8 + 13 * plan.bitfields.len() + 3 * plan.stops.len() + 3 * plan.interchange.len() + services
+}
+
+/// Room for so many words: just enough, or more.
+fn enough_room(rng: &mut Rng, words: usize) -> usize {
+    words + rng.pick(&[0, 0, 1, 7, 100])
+}
+
+fn files_of(rng: &mut Rng, sheet: &Sheet) -> [Vec<u8>; 5] {
+    let mut files: [Vec<u8>; 5] = Default::default();
+    for (file, rows) in files.iter_mut().zip(&sheet.files) {
+        *file = bytes(rng, rows);
+    }
+    files
+}
+
+/// (a) A delivery that breaks no rule, with room enough.
+pub fn valid(rng: &mut Rng, size: Size) -> Case {
+    let plan = plan::random(rng, size);
+    let sheet = sheet(rng, &plan);
+    let files = files_of(rng, &sheet);
+    Case { files, room: enough_room(rng, planned_words(&plan)), aim: None, plan: Some((plan, sheet)) }
+}
+
+/// (b) A delivery that breaks one clause of the refusal 2 to 20, and nothing before it.
+pub fn damaged(rng: &mut Rng, size: Size, number: u32) -> Case {
+    loop {
+        let mut plan = plan::random(rng, size);
+        if let Some(case) = try_damage(rng, &mut plan, number) {
+            return case;
+        }
+    }
+}
+
+fn try_damage(rng: &mut Rng, plan: &mut Plan, number: u32) -> Option<Case> {
+    let on_plan: Vec<break_plan::PlanDamage> = fitting(break_plan::DAMAGES, number);
+    let on_sheet: Vec<break_sheet::SheetDamage> = fitting(break_sheet::DAMAGES, number);
+    let mut hit = None;
+    if !on_plan.is_empty() {
+        hit = Some(rng.pick(&on_plan)(rng, plan)?);
+    }
+    let mut sheet = sheet(rng, plan);
+    if !on_sheet.is_empty() {
+        hit = Some(rng.pick(&on_sheet)(rng, plan, &mut sheet)?);
+    }
+    let words = planned_words(plan);
+    let mut room = enough_room(rng, words);
+    let aim = match (number, hit) {
+        (4, _) => {
+            let (file, at, column) = break_form(rng, &mut sheet)?;
+            Aim { number, file, line: at as u32 + 1, column }
+        }
+        (20, _) => {
+            let fewer = rng.index(words);
+            room = rng.pick(&[0, words - 1, words - 1, fewer]);
+            Aim { number, file: 0, line: 0, column: 0 }
+        }
+        (_, Some((file, at))) => Aim { number, file, line: line_of(&sheet.files[file as usize - 1], at)?, column: 0 },
+        (_, None) => return None,
+    };
+    let files = files_of(rng, &sheet);
+    Some(Case { files, room, aim: Some(aim), plan: None })
+}
+
+fn fitting<T: Copy>(damages: &[(u32, T)], number: u32) -> Vec<T> {
+    damages.iter().filter(|(of, _)| *of == number).map(|(_, damage)| *damage).collect()
+}
+
+fn line_of(rows: &[Row], at: At) -> Option<u32> {
+    let place = match at {
+        At::Line(line) => return Some(line),
+        At::Tag(tag) => rows.iter().position(|row| row.tag == tag),
+        At::Nth(like, nth) => {
+            let mut alike = (0..rows.len()).filter(|i| same_service_and_kind(rows[*i].tag, like));
+            alike.nth(nth)
+        }
+    };
+    place.map(|place| place as u32 + 1)
+}
+
+fn same_service_and_kind(a: Tag, b: Tag) -> bool {
+    match (a, b) {
+        (Tag::Call(s, _), Tag::Call(t, _))
+        | (Tag::G(s, _), Tag::G(t, _))
+        | (Tag::Ve(s, _), Tag::Ve(t, _))
+        | (Tag::Other(s, _), Tag::Other(t, _)) => s == t,
+        _ => false,
+    }
+}
+
+/// Some damages at once, often in one line or one service: which refusal comes first is for the readers to say.
+pub fn several(rng: &mut Rng, size: Size) -> Case {
+    let mut plan = plan::random(rng, size);
+    let mut hits = Vec::new();
+    for _ in 0..rng.between(0, 2) {
+        let mut tried = plan.clone();
+        let hit = rng.pick(break_plan::DAMAGES).1(rng, &mut tried);
+        if hit.is_some() && tried.services.iter().all(|service| service.calls.len() > 1) {
+            plan = tried;
+            hits.extend(hit);
+        }
+    }
+    let mut sheet = sheet(rng, &plan);
+    if rng.once_in(3) {
+        rng.pick(break_sheet::DAMAGES).1(rng, &plan, &mut sheet);
+    }
+    for (file, at) in hits {
+        let rows = &mut sheet.files[file as usize - 1];
+        if let (Some(line), true) = (line_of(rows, at), rng.coin()) {
+            pile_on(rng, &mut rows[line as usize - 1]);
+        }
+    }
+    for _ in 0..rng.pick(&[0, 0, 1, 2]) {
+        break_form(rng, &mut sheet);
+    }
+    let words = planned_words(&plan);
+    let room = rng.pick(&[words, words, words - 1]);
+    let files = files_of(rng, &sheet);
+    Case { files, room, aim: None, plan: None }
+}
+
+/// (c) A delivery with one to three bytes or lines changed.
+pub fn mutated(rng: &mut Rng, size: Size) -> Case {
+    let mut case = match rng.below(3) {
+        0 => several(rng, size),
+        _ => valid(rng, size),
+    };
+    for _ in 0..rng.between(1, 3) {
+        let file = rng.pick(&[0, 1, 2, 3, 4, 4, 4]);
+        match rng.below(2) {
+            0 => mutate_bytes(rng, &mut case.files[file]),
+            _ => mutate_lines(rng, &mut case.files[file]),
+        }
+    }
+    if rng.once_in(60) {
+        case.files.swap(rng.index(5), rng.index(5));
+    }
+    Case { aim: None, plan: None, ..case }
+}
+
+/// A byte that is likely to mean something.
+fn telling_byte(rng: &mut Rng) -> u8 {
+    match rng.below(3) {
+        0 => rng.below(256) as u8,
+        _ => rng.pick(b"0123456789 \n\r%*#-XZGAVE.\t"),
+    }
+}
+
+fn mutate_bytes(rng: &mut Rng, file: &mut Vec<u8>) {
+    let byte = telling_byte(rng);
+    let at = rng.index(file.len() + 1);
+    match rng.below(8) {
+        0..=3 if at < file.len() => file[at] = byte,
+        4 if at < file.len() => {
+            file.remove(at);
+        }
+        5 => file.truncate(at),
+        6 => file.push(rng.pick(b"\r\n %")),
+        _ => file.insert(at, byte),
+    }
+}
+
+fn mutate_lines(rng: &mut Rng, file: &mut Vec<u8>) {
+    let mut pieces: Vec<Vec<u8>> = file.split(|byte| *byte == b'\n').map(<[u8]>::to_vec).collect();
+    let (i, j) = (rng.index(pieces.len()), rng.index(pieces.len()));
+    match rng.below(5) {
+        0 => {
+            pieces.remove(i);
+        }
+        1 => pieces.insert(j, pieces[i].clone()),
+        2 => pieces.swap(i, j),
+        3 => pieces[i].extend(b"  \r"),
+        _ => pieces[i] = pieces[j].clone(),
+    }
+    *file = pieces.join(&b'\n');
+}
+
+/// The cases of a long run: turn by turn valid, damaged (each refusal 2 to 20 in turn), several damages, mutated.
+pub fn mixed(rng: &mut Rng, turn: u32) -> Case {
+    let size = match rng.below(300) {
+        0 => Size::Large,
+        1..=60 => Size::Medium,
+        _ => Size::Small,
+    };
+    match turn % 5 {
+        0 => valid(rng, size),
+        1 | 2 => damaged(rng, size, 2 + turn / 5 % 19),
+        3 => several(rng, size),
+        _ => mutated(rng, size),
+    }
+}
+
+/// Refusal 1: a file of exactly 16,777,216 bytes, or of some more. These cases are large, so they are rare.
+pub fn oversized(rng: &mut Rng) -> Case {
+    const MOST: usize = 16_777_216;
+    let mut case = valid(rng, Size::Small);
+    let file = rng.index(5);
+    let bytes = &mut case.files[file];
+    if file > 0 && bytes.last() != Some(&b'\n') {
+        bytes.extend_from_slice(b"\n%");
+    } else if file == 0 {
+        while matches!(bytes.last(), Some(b'\n' | b'\r')) {
+            bytes.pop();
+        }
+        bytes.push(b'.');
+    }
+    let size = rng.pick(&[MOST, MOST + 1, MOST + 1_000]);
+    bytes.resize(size, b' ');
+    if size > MOST {
+        case.aim = Some(Aim { number: 1, file: file as u32 + 1, line: 0, column: 0 });
+        case.plan = None;
+    }
+    case
+}

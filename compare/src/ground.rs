@@ -1,0 +1,33 @@
+//! The comparison of the library's ground (lines, columns, fields, forms, calendar, bit fields) with the reader.
+//!
+//! A `Question` is one call of the library and `expected` the reader's answer to it. Each part asks its questions of
+//! a `Tally`, which compares the two answers, and notes what was met.
+
+pub mod bits;
+pub mod dates;
+pub mod expected;
+pub mod fields;
+pub mod files;
+pub mod lines;
+pub mod question;
+pub mod tally;
+
+pub use question::{Answer, Question, What};
+pub use tally::{Library, Tally};
+
+use crate::generate::Rng;
+
+/// Asks every part's questions; about so many random inputs are among them.
+pub fn compare(tally: &mut Tally, seed: u64, rounds: u32) {
+    let parts: [(&'static str, fn(&mut Tally, &mut Rng, u32)); 5] = [
+        ("dates", dates::ask),
+        ("fields", fields::ask),
+        ("lines", lines::ask),
+        ("files", files::ask),
+        ("bits", bits::ask),
+    ];
+    for (name, ask) in parts {
+        tally.begin(name);
+        ask(tally, &mut Rng::new(seed), rounds);
+    }
+}

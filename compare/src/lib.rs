@@ -1,0 +1,13 @@
+//! The independent reader of document 01, the generator of deliveries, and the comparison of a boundary with the reader.
+//! Reader and generator are written from the paper alone; all with the standard library only.
+
+pub mod boundary;
+pub mod columns;
+pub mod differ;
+pub mod generate;
+pub mod ground;
+pub mod reader;
+pub mod standard;
+
+#[cfg(test)]
+mod selftest;

@@ -1,0 +1,15 @@
+//! An independent reader of HAFAS 5.20 deliveries, by the rules of document 01.
+//! Each rule cites the sentence that it follows; "open point" marks a reading from notes/open-points.md.
+
+pub mod ask;
+pub mod bits;
+pub mod calendar;
+pub mod fields;
+pub mod forms;
+pub mod lines;
+pub mod load;
+pub mod service;
+pub mod table;
+
+pub use ask::{day, interchange, is_table, walk, Changed, DayAnswer, Walked};
+pub use load::{load, refused_column, Loaded};

@@ -1,0 +1,337 @@
+//! "Questions" on any words: refusals 21 to 36.
+
+use super::bits::{runs_on, BitWords};
+use super::calendar::{day_number, LAST_DAY, MOST_DAYS};
+use super::service::stretches;
+use super::table::{
+    BITFIELD, CALL, CATEGORY, DAYS, HAS_ARRIVAL, HAS_DEPARTURE, HEADER, INTERCHANGE, NO_ALIGHTING, NO_BOARDING, OTHER,
+    SERVICE, STOP,
+};
+
+/// The answer of a day question.
+#[derive(Clone, Copy, Debug, PartialEq, Eq)]
+pub enum DayAnswer {
+    Runs,
+    Rests,
+    Refused { number: u32 },
+}
+
+/// The answer of an interchange question.
+#[derive(Clone, Copy, Debug, PartialEq, Eq)]
+pub enum Changed {
+    Minutes(u32),
+    Refused { number: u32 },
+}
+
+/// The answer of a walk; `needed` is 0 unless 29.
+#[derive(Clone, Copy, Debug, PartialEq, Eq)]
+pub enum Walked {
+    Rows(u32),
+    NotRunning,
+    Refused { number: u32, needed: u32 },
+}
+
+/// Words of a row.
+pub const ROW: usize = 7;
+
+/// A range of the table: what it gives (category or bit field), over which route indexes.
+#[derive(Clone, Copy, Debug)]
+struct Over {
+    given: u32,
+    from: u32,
+    to: u32,
+}
+
+#[derive(Clone, Copy, Debug)]
+struct Call {
+    stop: u32,
+    arrival: u32,
+    departure: u32,
+    flags: u32,
+}
+
+#[derive(Clone, Debug)]
+struct Service {
+    repeats: u32,
+    offset: u32,
+    calls: Vec<Call>,
+    categories: Vec<Over>,
+    days: Vec<Over>,
+    others: Vec<Over>,
+}
+
+/// The table that words hold.
+struct Table<'a> {
+    words: &'a [u32],
+    bitfields: usize,
+    stops: usize,
+    records: usize,
+    services: Vec<Service>,
+}
+
+/// Whether the words are a table; if not, every question answers 21.
+pub fn is_table(words: &[u32]) -> bool {
+    table(words).is_some()
+}
+
+/// The conditions of 21 in the paper's order, counted exactly.
+fn table(words: &[u32]) -> Option<Table<'_>> {
+    // "fewer than 8, or words used under 8 or over those lent"
+    let used = *words.first()? as usize;
+    if used < HEADER || used > words.len() {
+        return None;
+    }
+    let words = &words[..used];
+    // "n not 1 to 380, or last day after 31.12.2199"
+    let (first_day, n) = (u64::from(words[1]), words[2]);
+    if !(1..=MOST_DAYS).contains(&n) || first_day + u64::from(n) - 1 > u64::from(LAST_DAY) {
+        return None;
+    }
+    // "U is 0; word 7 is not 8 + 13B + 3S + 3U or is beyond words used"
+    let (b, s, u) = (u64::from(words[3]), u64::from(words[4]), u64::from(words[5]));
+    let place = HEADER as u64 + BITFIELD as u64 * b + STOP as u64 * s + INTERCHANGE as u64 * u;
+    if u == 0 || u64::from(words[7]) != place || place > used as u64 {
+        return None;
+    }
+    let services = services(words)?;
+    Some(Table { words, bitfields: b as usize, stops: s as usize, records: u as usize, services })
+}
+
+/// "the V records do not end exactly at words used": the services from word 7 on, or nothing if they do not fit.
+fn services(words: &[u32]) -> Option<Vec<Service>> {
+    let mut rest = &words[words[7] as usize..];
+    let mut found = Vec::new();
+    for _ in 0..words[6] {
+        let service = service(rest)?;
+        rest = &rest[rest[0] as usize..];
+        found.push(service);
+    }
+    if rest.is_empty() {
+        Some(found)
+    } else {
+        None
+    }
+}
+
+/// The service at the start of the words, if it stands there whole and keeps the conditions of 21.
+fn service(words: &[u32]) -> Option<Service> {
+    if words.len() < SERVICE {
+        return None;
+    }
+    let (c, g, v, a) = (words[6] as usize, words[7] as usize, words[8] as usize, words[9] as usize);
+    // "c outside 2 to 200, g, v, a over 50, 50, 100"; "repeats or offset over 999"
+    if !(2..=200).contains(&c) || g > 50 || v > 50 || a > 100 || words[4] > 999 || words[5] > 999 {
+        return None;
+    }
+    // "a count differs from 11 + 4c + 3g + 3v + 4a"
+    let count = SERVICE + CALL * c + CATEGORY * g + DAYS * v + OTHER * a;
+    if words[0] as usize != count || count > words.len() {
+        return None;
+    }
+    let (calls, rest) = words[SERVICE..count].split_at(CALL * c);
+    let (categories, rest) = rest.split_at(CATEGORY * g);
+    let (days, others) = rest.split_at(DAYS * v);
+    let service = Service {
+        repeats: words[4],
+        offset: words[5],
+        calls: calls.chunks_exact(CALL).map(call).collect(),
+        categories: categories.chunks_exact(CATEGORY).map(over).collect(),
+        days: days.chunks_exact(DAYS).map(over).collect(),
+        others: others.chunks_exact(OTHER).map(|other| over(&other[1..])).collect(),
+    };
+    if in_bounds(&service) {
+        Some(service)
+    } else {
+        None
+    }
+}
+
+fn call(words: &[u32]) -> Call {
+    Call { stop: words[0], arrival: words[1], departure: words[2], flags: words[3] }
+}
+
+fn over(words: &[u32]) -> Over {
+    Over { given: words[0], from: words[1], to: words[2] }
+}
+
+/// "a time over 59,999, flags over 15; a range end not below c or in wrong order"
+fn in_bounds(service: &Service) -> bool {
+    let c = service.calls.len() as u32;
+    let call_ok = |call: &Call| call.arrival <= 59_999 && call.departure <= 59_999 && call.flags <= 15;
+    let below = |range: &Over| range.from < c && range.to < c;
+    service.calls.iter().all(call_ok)
+        && service.categories.iter().chain(&service.days).all(|range| below(range) && range.from < range.to)
+        && service.others.iter().all(|range| below(range) && range.from <= range.to)
+}
+
+impl<'a> Table<'a> {
+    /// 22 "no such date", 23 "outside the period"; else the day of the period.
+    fn day_of(&self, d: u32, m: u32, y: u32) -> Result<u32, u32> {
+        let day = day_number(d, m, y).ok_or(22_u32)?;
+        match day.checked_sub(self.words[1]) {
+            Some(in_period) if in_period < self.words[2] => Ok(in_period),
+            _ => Err(23),
+        }
+    }
+
+    fn stop_known(&self, stop: u32) -> bool {
+        let start = HEADER + BITFIELD * self.bitfields;
+        self.words[start..].chunks_exact(STOP).take(self.stops).any(|record| record[0] == stop)
+    }
+
+    /// "the stop's record, else the first record"; "Lookups take the first match."
+    fn interchange_times(&self, stop: u32) -> [u32; 2] {
+        let start = HEADER + BITFIELD * self.bitfields + STOP * self.stops;
+        let mut records = self.words[start..].chunks_exact(INTERCHANGE).take(self.records);
+        match records.find(|record| record[0] == stop) {
+            Some(record) => [record[1], record[2]],
+            None => [self.words[start + 1], self.words[start + 2]],
+        }
+    }
+
+    /// Whether a bit field runs on a day, "0 always runs"; `None` if there is no such bit field.
+    fn bitfield_runs(&self, number: u32, day: u32) -> Option<bool> {
+        if number == 0 {
+            return Some(true);
+        }
+        let mut records = self.words[HEADER..].chunks_exact(BITFIELD).take(self.bitfields);
+        let record = records.find(|record| record[0] == number)?;
+        let mut bits: BitWords = [0; 12];
+        bits.copy_from_slice(&record[1..]);
+        Some(runs_on(&bits, day))
+    }
+
+    /// "Each leg in order: 34 not exactly one *A VE, 31 its bit field unknown."
+    fn operated(&self, service: &Service, day: u32) -> Result<Vec<bool>, u32> {
+        let legs = service.calls.len() - 1;
+        (0..legs)
+            .map(|leg| {
+                let bitfield = only_one(&service.days, leg).ok_or(34_u32)?;
+                self.bitfield_runs(bitfield, day).ok_or(31_u32)
+            })
+            .collect()
+    }
+}
+
+/// What the one range over a leg gives; `None` if there is not exactly one.
+fn only_one(ranges: &[Over], leg: usize) -> Option<u32> {
+    let leg = leg as u32;
+    let mut covering = ranges.iter().filter(|range| range.from <= leg && leg < range.to);
+    match (covering.next(), covering.next()) {
+        (Some(range), None) => Some(range.given),
+        _ => None,
+    }
+}
+
+/// "Order: 21, 22 no such date ..., 23 outside the period, then the question's own. Day: 28 no such bit field (0
+/// always runs)."
+pub fn day(words: &[u32], d: u32, m: u32, y: u32, bitfield: u32) -> DayAnswer {
+    let answer = table(words).ok_or(21_u32).and_then(|table| {
+        let day = table.day_of(d, m, y)?;
+        table.bitfield_runs(bitfield, day).ok_or(28)
+    });
+    match answer {
+        Ok(true) => DayAnswer::Runs,
+        Ok(false) => DayAnswer::Rests,
+        Err(number) => DayAnswer::Refused { number },
+    }
+}
+
+/// "Interchange (no date): 26 class over 13, 27 stop unknown; the stop's record, else the first record; both classes
+/// 0 or 1 take the first time, else the second (5.7)."
+pub fn interchange(words: &[u32], stop: u32, class_a: u32, class_b: u32) -> Changed {
+    let table = match table(words) {
+        Some(table) => table,
+        None => return Changed::Refused { number: 21 },
+    };
+    if class_a > 13 || class_b > 13 {
+        return Changed::Refused { number: 26 };
+    }
+    if !table.stop_known(stop) {
+        return Changed::Refused { number: 27 };
+    }
+    let [first, second] = table.interchange_times(stop);
+    Changed::Minutes(if class_a <= 1 && class_b <= 1 { first } else { second })
+}
+
+/// "Walk of service, repeat, date": the rows go into the slice lent, unless the walk is refused or not running.
+pub fn walk(words: &[u32], service: u32, repeat: u32, d: u32, m: u32, y: u32, rows: &mut [u32]) -> Walked {
+    let listed = match walked_rows(words, service, repeat, d, m, y) {
+        Ok(listed) => listed,
+        Err(number) => return Walked::Refused { number, needed: 0 },
+    };
+    let flat = listed.concat();
+    if listed.is_empty() {
+        return Walked::NotRunning;
+    }
+    // "Then 29 row slice too short."
+    if flat.len() > rows.len() {
+        return Walked::Refused { number: 29, needed: flat.len() as u32 };
+    }
+    rows[..flat.len()].copy_from_slice(&flat);
+    Walked::Rows(listed.len() as u32)
+}
+
+/// The rows of a walk, none if it is "not running"; all of its refusals but 29.
+fn walked_rows(words: &[u32], service: u32, repeat: u32, d: u32, m: u32, y: u32) -> Result<Vec<[u32; ROW]>, u32> {
+    let table = table(words).ok_or(21_u32)?;
+    let day = table.day_of(d, m, y)?;
+    // "24 service index not below V"
+    let service = table.services.get(service as usize).ok_or(24_u32)?;
+    // "25 repeat number over repeats (0 is the run itself)"
+    if repeat > service.repeats {
+        return Err(25);
+    }
+    let operated = table.operated(service, day)?;
+    // "No leg operated: "not running", no rows. 35 two stretches."
+    let first = match operated.iter().position(|runs| *runs) {
+        Some(first) => first,
+        None => return Ok(Vec::new()),
+    };
+    if stretches(&operated) >= 2 {
+        return Err(35);
+    }
+    let last = first + operated[first..].iter().take_while(|runs| **runs).count();
+    let late = repeat * service.offset;
+    let mut before = 0;
+    (first..=last).map(|i| row(&table, service, (first, i, last), late, &mut before)).collect()
+}
+
+/// One call of the stretch: "32 stop unknown, 36 a time needed ... missing or below the needed one before, 33 leaving
+/// leg without exactly one *G", then its row. Open point: first and last are those of the stretch.
+fn row(
+    table: &Table,
+    service: &Service,
+    (first, i, last): (usize, usize, usize),
+    late: u32,
+    before: &mut u32,
+) -> Result<[u32; ROW], u32> {
+    let call = service.calls[i];
+    if !table.stop_known(call.stop) {
+        return Err(32);
+    }
+    // "First row: arrival 0, flags 1 and 4 cleared. Last: departure 0, flags 2 and 8 cleared, category 0."
+    let (mut arrival, mut departure, mut category, mut flags) = (0, 0, 0, call.flags);
+    if i == first {
+        flags &= !(HAS_ARRIVAL | NO_ALIGHTING);
+    } else {
+        arrival = late + needed_time(call.arrival, call.flags & HAS_ARRIVAL, before)?;
+    }
+    if i == last {
+        flags &= !(HAS_DEPARTURE | NO_BOARDING);
+    } else {
+        departure = late + needed_time(call.departure, call.flags & HAS_DEPARTURE, before)?;
+        category = only_one(&service.categories, i).ok_or(33_u32)?;
+    }
+    let [same, other] = table.interchange_times(call.stop);
+    Ok([call.stop, arrival, departure, flags, category, same, other])
+}
+
+/// 36: "a time needed ... missing or below the needed one before". Open point: missing goes by the flags.
+fn needed_time(time: u32, has: u32, before: &mut u32) -> Result<u32, u32> {
+    if has == 0 || time < *before {
+        return Err(36);
+    }
+    *before = time;
+    Ok(time)
+}

@@ -1,0 +1,367 @@
+//! The load of a delivery: "Order of offences", refusals 1 to 20.
+
+use std::collections::{HashMap, HashSet};
+
+use super::bits::{frame_ok, BitWords};
+use super::calendar::period;
+use super::fields::{
+    count, date, detail, digits, digits_or_blank, hex_words, kind, means_days, packed, range_end, repeats_and_offset,
+    time, Date, Detail, LineKind, RangeEnd,
+};
+use super::forms::{
+    form, form_a, form_bitfield, form_date, form_g, form_interchange, form_schedule, form_stop, form_z,
+};
+use super::lines::{lines, skipped, Line};
+use super::service::{checked, Call, Draft, End, Given, Range, Service};
+use super::table;
+
+/// The answer of a load.
+#[derive(Clone, Copy, Debug, PartialEq, Eq)]
+pub enum Loaded {
+    Accepted { words: u32 },
+    Refused { number: u32, file: u32, line: u32, needed: u32 },
+}
+
+/// A refusal 1 to 19.
+#[derive(Clone, Copy, Debug, PartialEq, Eq)]
+pub struct Offence {
+    pub number: u32,
+    pub file: u32,
+    pub line: u32,
+}
+
+/// A BAHNHOF record: its number, where the name starts in the file, and its length.
+#[derive(Clone, Copy, Debug)]
+pub struct Stop {
+    pub number: u32,
+    pub name_at: u32,
+    pub name_length: u32,
+}
+
+/// A UMSTEIGB record.
+#[derive(Clone, Copy, Debug)]
+pub struct Interchange {
+    pub number: u32,
+    pub times: [u32; 2],
+}
+
+/// A delivery that passed 1 to 19.
+#[derive(Clone, Debug, Default)]
+pub struct Delivery {
+    pub first_day: u32,
+    pub days: u32,
+    pub bitfields: Vec<(u32, BitWords)>,
+    pub stops: Vec<Stop>,
+    pub interchange: Vec<Interchange>,
+    pub services: Vec<Service>,
+}
+
+/// 1: "file over 16,777,216 bytes"
+pub const MOST_BYTES: usize = 16_777_216;
+
+/// The number of the first UMSTEIGB record.
+const DEFAULT_RECORD: u32 = 9_999_999;
+
+/// 13: "in one service over 200 calls, 50 *G, 50 *A VE or 100 other *A"
+const MOST_CALLS: usize = 200;
+const MOST_CATEGORIES: usize = 50;
+const MOST_DAY_RANGES: usize = 50;
+const MOST_OTHERS: usize = 100;
+
+/// Loads the five files, ECKDATEN, BITFELD, BAHNHOF, UMSTEIGB, FPLAN. "A refusal returns number, file, line, and the
+/// words needed (0 unless 20); the table stays as lent. Acceptance returns words used; later words stay."
+pub fn load(files: [&[u8]; 5], lent: &mut [u32]) -> Loaded {
+    let delivery = match read(files) {
+        Ok(delivery) => delivery,
+        Err(Offence { number, file, line }) => return Loaded::Refused { number, file, line, needed: 0 },
+    };
+    let words = table::words(&delivery);
+    let used = words.len() as u32;
+    if words.len() > lent.len() {
+        return Loaded::Refused { number: 20, file: 0, line: 0, needed: used };
+    }
+    lent[..words.len()].copy_from_slice(&words);
+    Loaded::Accepted { words: used }
+}
+
+/// Document 02, No. 6: the column of a refusal 4, and 0 for every other answer.
+pub fn refused_column(files: [&[u8]; 5], loaded: Loaded) -> usize {
+    match loaded {
+        Loaded::Refused { number: 4, file, line, .. } => {
+            let broken = lines(files[file as usize - 1]).get(line as usize - 1).and_then(|line| form(file, line));
+            broken.unwrap_or(0)
+        }
+        _ => 0,
+    }
+}
+
+/// "First, lengths in file order; then files 1 to 5, each by line". (The fifth file's services come with it.)
+pub fn read(files: [&[u8]; 5]) -> Result<Delivery, Offence> {
+    for (file, bytes) in (1..).zip(files) {
+        if bytes.len() > MOST_BYTES {
+            return Err(Offence { number: 1, file, line: 0 });
+        }
+    }
+    let mut delivery = Delivery::default();
+    read_dates(files[0], &mut delivery)?;
+    read_bitfields(files[1], &mut delivery)?;
+    read_stops(files[2], &mut delivery)?;
+    read_interchange(files[3], &mut delivery)?;
+    read_services(files[4], &mut delivery)?;
+    Ok(delivery)
+}
+
+fn refuse<T>(number: u32, file: u32, line: u32) -> Result<T, Offence> {
+    Err(Offence { number, file, line })
+}
+
+/// "Except in ECKDATEN, a line that is all blank or starts with "%" is skipped but counted."
+fn records(file: &[u8]) -> impl Iterator<Item = Line<'_>> {
+    lines(file).into_iter().filter(|line| !skipped(line.text))
+}
+
+/// 4 in any file: a `form_..` has found a breaking column.
+fn must_hold(form: Option<usize>, file: u32, line: &Line) -> Result<(), Offence> {
+    match form {
+        None => Ok(()),
+        Some(_) => refuse(4, file, line.no),
+    }
+}
+
+/// The date of an ECKDATEN line: 4 for its form, 5 for "no such date".
+fn read_date(line: &Line) -> Result<u32, Offence> {
+    must_hold(form_date(line.text), 1, line)?;
+    match date(line.text) {
+        Date::Day(day) => Ok(day),
+        _ => refuse(5, 1, line.no),
+    }
+}
+
+/// ECKDATEN: "exactly three lines"; 2 comes "after the own checks of the lines that are there".
+fn read_dates(file: &[u8], delivery: &mut Delivery) -> Result<(), Offence> {
+    let found = lines(file);
+    if let Some(line) = found.first() {
+        delivery.first_day = read_date(line)?;
+    }
+    if let Some(line) = found.get(1) {
+        let last_day = read_date(line)?;
+        // 5: "end before start; over 380 days (line 2 for both last)"
+        delivery.days = match period(delivery.first_day, last_day) {
+            Some(days) => days,
+            None => return refuse(5, 1, line.no),
+        };
+    }
+    match found.len() {
+        0..=2 => refuse(2, 1, found.len() as u32 + 1),
+        3 => Ok(()),
+        _ => refuse(3, 1, 4),
+    }
+}
+
+/// BITFELD: within a line 4, 7, 6, 8.
+fn read_bitfields(file: &[u8], delivery: &mut Delivery) -> Result<(), Offence> {
+    let mut seen = HashSet::new();
+    for line in records(file) {
+        must_hold(form_bitfield(line.text), 2, &line)?;
+        let (number, words) = match (digits(line.text, 1, 6), hex_words(line.text, 8)) {
+            (Some(number), Some(words)) => (number, words),
+            _ => return refuse(4, 2, line.no),
+        };
+        if number == 0 {
+            return refuse(7, 2, line.no);
+        }
+        if !seen.insert(number) {
+            return refuse(6, 2, line.no);
+        }
+        if !frame_ok(&words, delivery.days) {
+            return refuse(8, 2, line.no);
+        }
+        delivery.bitfields.push((number, words));
+    }
+    Ok(())
+}
+
+/// "name length without trailing blanks", of columns 13-62 as far as the line goes.
+fn name_length(line: &[u8]) -> u32 {
+    let name = &line[12..line.len().min(62)];
+    name.iter().rposition(|byte| *byte != b' ').map_or(0, |last| last as u32 + 1)
+}
+
+/// BAHNHOF: within a line 4, 7, 6.
+fn read_stops(file: &[u8], delivery: &mut Delivery) -> Result<(), Offence> {
+    let mut seen = HashSet::new();
+    for line in records(file) {
+        must_hold(form_stop(line.text), 3, &line)?;
+        let number = digits(line.text, 1, 7).unwrap_or(0);
+        // 7: "BAHNHOF stop 9999999 or ending 00000"
+        if number == DEFAULT_RECORD || number % 100_000 == 0 {
+            return refuse(7, 3, line.no);
+        }
+        if !seen.insert(number) {
+            return refuse(6, 3, line.no);
+        }
+        // "byte offset of column 13 in BAHNHOF from 0"
+        let name_at = line.start as u32 + 12;
+        delivery.stops.push(Stop { number, name_at, name_length: name_length(line.text) });
+    }
+    Ok(())
+}
+
+/// UMSTEIGB: within a line 4, 7, 6, 9; 2 "without a record", at "lines + 1".
+fn read_interchange(file: &[u8], delivery: &mut Delivery) -> Result<(), Offence> {
+    let stops: HashSet<u32> = delivery.stops.iter().map(|stop| stop.number).collect();
+    let mut seen = HashSet::new();
+    for line in records(file) {
+        must_hold(form_interchange(line.text), 4, &line)?;
+        let number = digits(line.text, 1, 7).unwrap_or(0);
+        let first = seen.is_empty();
+        // 7: "first UMSTEIGB record not 9999999"
+        if first && number != DEFAULT_RECORD {
+            return refuse(7, 4, line.no);
+        }
+        if !seen.insert(number) {
+            return refuse(6, 4, line.no);
+        }
+        // 9: "UMSTEIGB (after its first record) ... stop not in BAHNHOF"
+        if !first && !stops.contains(&number) {
+            return refuse(9, 4, line.no);
+        }
+        let times = [count(line.text, 9, 10).unwrap_or(0), count(line.text, 12, 13).unwrap_or(0)];
+        delivery.interchange.push(Interchange { number, times });
+    }
+    if delivery.interchange.is_empty() {
+        return refuse(2, 4, lines(file).len() as u32 + 1);
+    }
+    Ok(())
+}
+
+/// FPLAN while it is read: the stops and bit fields of its own delivery, and the service under way.
+struct Fplan {
+    stops: HashSet<u32>,
+    bitfields: HashMap<u32, BitWords>,
+    days: u32,
+    open: Option<Draft>,
+    services: Vec<Service>,
+}
+
+/// FPLAN: "service by service: every line's own checks, then the service's checks".
+fn read_services(file: &[u8], delivery: &mut Delivery) -> Result<(), Offence> {
+    let mut fplan = Fplan {
+        stops: delivery.stops.iter().map(|stop| stop.number).collect(),
+        bitfields: delivery.bitfields.iter().copied().collect(),
+        days: delivery.days,
+        open: None,
+        services: Vec::new(),
+    };
+    for line in records(file) {
+        fplan.take(&line)?;
+    }
+    fplan.close()?;
+    delivery.services = fplan.services;
+    Ok(())
+}
+
+impl Fplan {
+    /// One line: within it 12, 11, 4, 13, 9, 10. A *Z line first closes the service before it.
+    fn take(&mut self, line: &Line) -> Result<(), Offence> {
+        let kind = kind(line.text);
+        if kind == LineKind::Z {
+            self.close()?;
+            self.open = Some(read_z(line)?);
+            return Ok(());
+        }
+        let mut draft = match self.open.take() {
+            Some(draft) => draft,
+            // 12: "not *Z, and no *Z yet"
+            None => return refuse(12, 5, line.no),
+        };
+        match kind {
+            LineKind::Schedule => draft.calls.push(self.read_call(line, draft.calls.len())?),
+            LineKind::G => draft.ranges.push(read_g(line, &draft.ranges)?),
+            LineKind::A => draft.ranges.push(self.read_a(line, &draft.ranges)?),
+            // 11: "other line kind"
+            LineKind::Z | LineKind::Other => return refuse(11, 5, line.no),
+        }
+        self.open = Some(draft);
+        Ok(())
+    }
+
+    /// The checks of the service under way, if there is one.
+    fn close(&mut self) -> Result<(), Offence> {
+        if let Some(draft) = self.open.take() {
+            let service = checked(draft, self.days, &self.bitfields);
+            self.services.push(service.or_else(|(number, line)| refuse(number, 5, line))?);
+        }
+        Ok(())
+    }
+
+    fn read_call(&self, line: &Line, calls_before: usize) -> Result<Call, Offence> {
+        must_hold(form_schedule(line.text), 5, line)?;
+        if calls_before >= MOST_CALLS {
+            return refuse(13, 5, line.no);
+        }
+        let stop = digits(line.text, 1, 7).unwrap_or(0);
+        // 9: "schedule stop not in BAHNHOF"
+        if !self.stops.contains(&stop) {
+            return refuse(9, 5, line.no);
+        }
+        Ok(Call { line: line.no, stop, arrival: time(line.text, 30), departure: time(line.text, 37) })
+    }
+
+    fn read_a(&self, line: &Line, before: &[Range]) -> Result<Range, Offence> {
+        must_hold(form_a(line.text), 5, line)?;
+        let bitfield = digits_or_blank(line.text, 23, 28).unwrap_or(0);
+        let (given, most) = if means_days(line.text) {
+            (Given::Days { bitfield }, MOST_DAY_RANGES)
+        } else {
+            (Given::Other { code: packed(line.text, 4, 5), bitfield }, MOST_OTHERS)
+        };
+        if same_kind(before, given) >= most {
+            return refuse(13, 5, line.no);
+        }
+        // 10: "bit field neither 000000 nor in BITFELD"
+        if bitfield != 0 && !self.bitfields.contains_key(&bitfield) {
+            return refuse(10, 5, line.no);
+        }
+        Ok(Range { line: line.no, given, from: read_end(line.text, 7, 30), to: read_end(line.text, 15, 37) })
+    }
+}
+
+fn same_kind(ranges: &[Range], given: Given) -> usize {
+    let kind = std::mem::discriminant(&given);
+    ranges.iter().filter(|range| std::mem::discriminant(&range.given) == kind).count()
+}
+
+fn read_z(line: &Line) -> Result<Draft, Offence> {
+    must_hold(form_z(line.text), 5, line)?;
+    let (repeats, offset) = repeats_and_offset(line.text).unwrap_or((0, 0));
+    Ok(Draft {
+        line: line.no,
+        number: digits(line.text, 4, 8).unwrap_or(0),
+        // "administration (two words of three bytes, first byte highest)"
+        administration: [packed(line.text, 10, 12), packed(line.text, 13, 15)],
+        repeats,
+        offset,
+        calls: Vec::new(),
+        ranges: Vec::new(),
+    })
+}
+
+fn read_g(line: &Line, before: &[Range]) -> Result<Range, Offence> {
+    must_hold(form_g(line.text), 5, line)?;
+    let given = Given::Category(packed(line.text, 4, 6));
+    if same_kind(before, given) >= MOST_CATEGORIES {
+        return refuse(13, 5, line.no);
+    }
+    Ok(Range { line: line.no, given, from: read_end(line.text, 8, 24), to: read_end(line.text, 16, 31) })
+}
+
+/// "with no stop number it is not read"
+fn read_end(line: &[u8], end: usize, beside: usize) -> End {
+    let place = range_end(line, end);
+    let detail = match place {
+        RangeEnd::Stop(_) => detail(line, beside),
+        _ => Detail::Plain,
+    };
+    End { place, detail }
+}

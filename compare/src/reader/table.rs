@@ -1,0 +1,102 @@
+//! "Table (32-bit words)": the words of a delivery that passed 1 to 19.
+
+use super::fields::Time;
+use super::load::Delivery;
+use super::service::{Call, Given, Service};
+
+/// Words of the header, and of each record.
+pub const HEADER: usize = 8;
+pub const BITFIELD: usize = 13;
+pub const STOP: usize = 3;
+pub const INTERCHANGE: usize = 3;
+pub const SERVICE: usize = 11;
+pub const CALL: usize = 4;
+pub const CATEGORY: usize = 3;
+pub const DAYS: usize = 3;
+pub const OTHER: usize = 4;
+
+/// "flags: 1 arrival, 2 departure, 4 no alighting, 8 no boarding"
+pub const HAS_ARRIVAL: u32 = 1;
+pub const HAS_DEPARTURE: u32 = 2;
+pub const NO_ALIGHTING: u32 = 4;
+pub const NO_BOARDING: u32 = 8;
+
+/// Header, bit fields, stops, interchange records, services, "all in file order".
+pub fn words(delivery: &Delivery) -> Vec<u32> {
+    let mut words = vec![0; HEADER];
+    for (number, bits) in &delivery.bitfields {
+        words.push(*number);
+        words.extend_from_slice(bits);
+    }
+    for stop in &delivery.stops {
+        words.extend_from_slice(&[stop.number, stop.name_at, stop.name_length]);
+    }
+    for record in &delivery.interchange {
+        words.extend_from_slice(&[record.number, record.times[0], record.times[1]]);
+    }
+    let first_service = words.len();
+    for service in &delivery.services {
+        words.extend(service_words(service));
+    }
+    // "words used, first day, n, bit fields B, stops S, interchange records U, services V, place of first service"
+    let header = [
+        words.len() as u32,
+        delivery.first_day,
+        delivery.days,
+        delivery.bitfields.len() as u32,
+        delivery.stops.len() as u32,
+        delivery.interchange.len() as u32,
+        delivery.services.len() as u32,
+        first_service as u32,
+    ];
+    words[..HEADER].copy_from_slice(&header);
+    words
+}
+
+/// "Service: its word count, number, administration ..., repeats, offset, calls c, *G g, *A VE v, other a, *Z line:
+/// 11 words. Then calls of 4 ..., *G of 3 ..., *A VE of 3 ..., other of 4".
+fn service_words(service: &Service) -> Vec<u32> {
+    let draft = &service.draft;
+    let calls: Vec<u32> = draft.calls.iter().flat_map(call_words).collect();
+    let (mut categories, mut days, mut others) = (Vec::new(), Vec::new(), Vec::new());
+    for range in &service.ranges {
+        let (from, to) = (range.from as u32, range.to as u32);
+        match range.given {
+            Given::Category(category) => categories.extend_from_slice(&[category, from, to]),
+            Given::Days { bitfield } => days.extend_from_slice(&[bitfield, from, to]),
+            Given::Other { code, bitfield } => others.extend_from_slice(&[code, bitfield, from, to]),
+        }
+    }
+    let mut words = vec![
+        (SERVICE + calls.len() + categories.len() + days.len() + others.len()) as u32,
+        draft.number,
+        draft.administration[0],
+        draft.administration[1],
+        draft.repeats,
+        draft.offset,
+        draft.calls.len() as u32,
+        (categories.len() / CATEGORY) as u32,
+        (days.len() / DAYS) as u32,
+        (others.len() / OTHER) as u32,
+        draft.line,
+    ];
+    for section in [calls, categories, days, others] {
+        words.extend(section);
+    }
+    words
+}
+
+/// "calls of 4 (stop, arrival, departure, flags ...; absent time 0)"
+fn call_words(call: &Call) -> [u32; CALL] {
+    let (arrival, arrival_flags) = time_words(call.arrival, HAS_ARRIVAL, NO_ALIGHTING);
+    let (departure, departure_flags) = time_words(call.departure, HAS_DEPARTURE, NO_BOARDING);
+    [call.stop, arrival, departure, arrival_flags | departure_flags]
+}
+
+fn time_words(time: Time, has: u32, no: u32) -> (u32, u32) {
+    match time {
+        Time::Stated { minutes, barred: false } => (minutes, has),
+        Time::Stated { minutes, barred: true } => (minutes, has | no),
+        Time::Absent | Time::Broken => (0, 0),
+    }
+}

@@ -1,0 +1,12 @@
+//! The reader held against document 01's checked examples, the standard's printed ones, generated deliveries and
+//! REFUSALS.md; and the comparison against boundaries that slip.
+
+mod differ;
+mod examples;
+mod expected;
+mod ground;
+mod random;
+mod refusals;
+mod standard;
+
+pub use crate::columns::{a, bitfield, call, file, g, text, z};

@@ -1,0 +1,114 @@
+//! The comparison itself: it passes the reader, and finds a boundary that slips in one thing.
+
+use crate::boundary::{Boundary, Reader};
+use crate::differ::{compare, Tally};
+
+/// The reader with one slip.
+#[derive(Clone, Copy, Debug)]
+enum Slip {
+    Nowhere,
+    WordAfterUsed,
+    WordOutside,
+    WordOnRefusal,
+    LastWord,
+    NeededLost,
+    LineOfRefusal,
+    RefusesAll,
+    DayZeroRests,
+    ClassTwo,
+    NoRows,
+    RowsOnShort,
+    WordAfterRows,
+    FirstServiceOnly,
+    AlwaysIdle,
+}
+
+use Slip::*;
+
+const SLIPS: [Slip; 14] = [
+    WordAfterUsed,
+    WordOutside,
+    WordOnRefusal,
+    LastWord,
+    NeededLost,
+    LineOfRefusal,
+    RefusesAll,
+    DayZeroRests,
+    ClassTwo,
+    NoRows,
+    RowsOnShort,
+    WordAfterRows,
+    FirstServiceOnly,
+    AlwaysIdle,
+];
+
+fn bump(words: &mut [u32], at: usize) {
+    if let Some(word) = words.get_mut(at) {
+        *word ^= 1;
+    }
+}
+
+impl Boundary for Slip {
+    fn load(&self, files: [&[u8]; 5], table: &mut [u32]) -> [u32; 4] {
+        if let RefusesAll = self {
+            return [4, 1, 1, 0];
+        }
+        let answer = Reader.load(files, table);
+        let [number, file, line, words] = answer;
+        match self {
+            WordAfterUsed if number == 0 => bump(table, words as usize),
+            // SAFETY: the comparison keeps guard words behind the words lent.
+            WordOutside if number == 0 => unsafe { *table.as_mut_ptr().add(table.len()) ^= 1 },
+            WordOnRefusal if number == 19 => bump(table, 0),
+            LastWord if number == 0 => bump(table, words as usize - 1),
+            NeededLost if number == 20 => return [20, 0, 0, 0],
+            LineOfRefusal if number == 15 => return [number, file, line - 1, words],
+            _ => {}
+        }
+        answer
+    }
+
+    fn day(&self, table: &[u32], date: [u32; 3], field: u32) -> [u32; 2] {
+        match (self, Reader.day(table, date, field)) {
+            (DayZeroRests, [0, _]) if field == 0 => [0, 0],
+            (_, answer) => answer,
+        }
+    }
+
+    fn interchange(&self, table: &[u32], stop: u32, classes: [u32; 2]) -> [u32; 2] {
+        let like_first = |class: u32| if class == 2 { 1 } else { class };
+        let classes = if let ClassTwo = self { classes.map(like_first) } else { classes };
+        Reader.interchange(table, stop, classes)
+    }
+
+    fn walk(&self, table: &[u32], service: u32, repeat: u32, date: [u32; 3], rows: &mut [u32]) -> [u32; 3] {
+        let before = rows.to_vec();
+        let asked = if let FirstServiceOnly = self { 0 } else { service };
+        let answer = Reader.walk(table, asked, repeat, date, rows);
+        match self {
+            NoRows => rows.copy_from_slice(&before),
+            RowsOnShort if answer[0] == 29 => bump(rows, 0),
+            WordAfterRows if answer[0] == 0 => bump(rows, 7 * answer[1] as usize),
+            AlwaysIdle if answer[0] == 0 => return [0, 0, 0],
+            _ => {}
+        }
+        answer
+    }
+}
+
+fn first_difference(slip: Slip, cases: u64) -> Option<u64> {
+    let mut tally = Tally::default();
+    (0..cases).find(|index| compare(9, *index, &[("slip", &slip)], &mut tally).is_err())
+}
+
+#[test]
+fn the_reader_passes() {
+    assert_eq!(first_difference(Nowhere, 3_000), None);
+}
+
+#[test]
+fn slips_are_found() {
+    for slip in SLIPS {
+        assert!(first_difference(slip, 3_000).is_some(), "{:?}", slip);
+    }
+}

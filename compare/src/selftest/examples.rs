@@ -1,0 +1,330 @@
+//! Document 01's "Checked examples".
+
+use super::{a, bitfield, call, file, g, text, z};
+use crate::reader::bits::{frame_ok, runs_on};
+use crate::reader::calendar::{day_number, period, LAST_DAY};
+use crate::reader::fields::{date, detail, hex_words, range_end, time, Date, Time};
+use crate::reader::forms::{form_interchange, form_z};
+use crate::reader::lines::{lines, skipped};
+use crate::reader::service::{from_index, to_index, Call, End};
+use crate::reader::{day, interchange, is_table, load, walk, Changed, DayAnswer, Loaded, Walked};
+
+fn stated(minutes: u32) -> Time {
+    Time::Stated { minutes, barred: false }
+}
+
+/// Route R: 1000011 (dep 00800), 1000022 (00810, 00812), 1000033 (00830, 00835), 1000022 (arr 00855).
+fn route_r() -> Vec<Call> {
+    let call = |stop, arrival, departure| Call { line: 0, stop, arrival, departure };
+    vec![
+        call(1_000_011, Time::Absent, stated(480)),
+        call(1_000_022, stated(490), stated(492)),
+        call(1_000_033, stated(510), stated(515)),
+        call(1_000_022, stated(535), Time::Absent),
+    ]
+}
+
+fn route_r_lines() -> Vec<String> {
+    vec![
+        call("1000011", "", " 00800"),
+        call("1000022", " 00810", " 00812"),
+        call("1000033", " 00830", " 00835"),
+        call("1000022", " 00855", ""),
+    ]
+}
+
+const ALL: (&str, &str) = ("", "");
+
+/// The trial week with other FPLAN ranges, bit fields and dates.
+fn trial(dates: [&str; 2], bitfields: &[String], ranges: &[String]) -> [Vec<u8>; 5] {
+    let mut fplan = vec![z("00042", "FERRY_", "", "")];
+    fplan.extend_from_slice(ranges);
+    fplan.extend(route_r_lines());
+    [
+        text(&[dates[0], dates[1], "Trial week"]),
+        file(bitfields),
+        text(&["1000011     Alpha", "1000022     Beta", "1000033     Gamma"]),
+        text(&["9999999  2  3"]),
+        file(&fplan),
+    ]
+}
+
+const WEEK: [&str; 2] = ["01.12.2025", "07.12.2025"];
+
+fn trial_week() -> [Vec<u8>; 5] {
+    trial(WEEK, &[bitfield("000001", "FE6")], &[g("BAT", ALL, ALL), a("VE", ALL, ALL, "000001")])
+}
+
+fn load_in(files: &[Vec<u8>; 5], room: usize) -> (Loaded, Vec<u32>) {
+    let mut table = vec![7; room];
+    let [a, b, c, d, e] = files;
+    let loaded = load([a, b, c, d, e], &mut table);
+    (loaded, table)
+}
+
+fn refused(number: u32, file: u32, line: u32) -> Loaded {
+    Loaded::Refused { number, file, line, needed: 0 }
+}
+
+#[test]
+fn dates() {
+    assert_eq!(day_number(1, 1, 1900), Some(0));
+    assert_eq!(day_number(30, 9, 1996), Some(35_336));
+    assert_eq!(day_number(31, 12, 2199), Some(LAST_DAY));
+    assert_eq!(period(35_336, day_number(1, 6, 1997).unwrap()), Some(245));
+    assert!(day_number(29, 2, 2000).is_some());
+    assert_eq!(day_number(29, 2, 1900), None);
+    assert_eq!(period(0, 379), Some(380));
+    assert_eq!(period(0, 380), None);
+    assert_eq!(period(1, 0), None);
+    assert_eq!(date(b"30.09.1996 start"), Date::Day(35_336));
+    assert_eq!(date(b"00.00.0000"), Date::NoSuchDate);
+    assert_eq!(date(b"1.09.1996 "), Date::Broken);
+}
+
+#[test]
+fn every_date_once() {
+    let mut next = 0;
+    for year in 1899..=2201 {
+        for month in 0..=13 {
+            for day in 0..=32 {
+                if let Some(number) = day_number(day, month, year) {
+                    assert_eq!(number, next);
+                    assert_eq!(crate::generate::plan::date_of(number), (day, month, year));
+                    next += 1;
+                }
+            }
+        }
+    }
+    assert_eq!(next, LAST_DAY + 1);
+    assert_eq!(day_number(u32::MAX, u32::MAX, u32::MAX), None);
+}
+
+#[test]
+fn frames() {
+    let words = |digits: &str| hex_words(format!("{:0<96}", digits).as_bytes(), 1).unwrap();
+    assert!(frame_ok(&words("FE6"), 7));
+    let runs: Vec<u32> = (0..7).filter(|d| runs_on(&words("FE6"), *d)).collect();
+    assert_eq!(runs, [0, 1, 2, 3, 4]);
+    assert!(!frame_ok(&words("FE4"), 7));
+    assert!(frame_ok(&words("D8"), 1));
+    assert!(!runs_on(&words("D8"), 0));
+    let files = trial(WEEK, &[bitfield("000001", "FE4")], &[]);
+    assert_eq!(load_in(&files, 99).0, refused(8, 2, 1));
+}
+
+#[test]
+fn periods_in_files() {
+    let daily = [g("BAT", ALL, ALL), a("VE", ALL, ALL, "")];
+    let words = 8 + 9 + 3 + 11 + 16 + 3 + 3;
+    assert_eq!(load_in(&trial(["01.01.2025", "15.01.2026"], &[], &daily), 99).0, Loaded::Accepted { words });
+    assert_eq!(load_in(&trial(["01.01.2025", "16.01.2026"], &[], &daily), 99).0, refused(5, 1, 2));
+    assert_eq!(load_in(&trial(["01.01.2025", "31.12.2024"], &[], &daily), 99).0, refused(5, 1, 2));
+}
+
+#[test]
+fn ends_on_r() {
+    let route = route_r();
+    let end = |place: &str, beside: &str| {
+        End { place: range_end(place.as_bytes(), 1), detail: detail(beside.as_bytes(), 1) }
+    };
+    assert_eq!(to_index(&route, end("1000022", "")), Some(3));
+    assert_eq!(from_index(&route, end("1000022", "")), Some(1));
+    assert_eq!(to_index(&route, end("1000022", "#0")), Some(1));
+    assert_eq!(to_index(&route, end("1000022", " 00810")), Some(1));
+    assert_eq!(to_index(&route, end("1000022", "-00810")), Some(1));
+    assert_eq!(from_index(&route, end("1000022", " 00812")), Some(1));
+    assert_eq!(from_index(&route, end("1000022", " 00810")), None);
+    assert_eq!(to_index(&route, end("1000022", "#2")), None);
+    assert_eq!(from_index(&route, end("#4", "")), None);
+    assert_eq!(from_index(&route, end("  #3 ", "")), Some(3));
+    assert_eq!(to_index(&route, end("1000011", " 00000")), None);
+    assert_eq!((from_index(&route, end("", "")), to_index(&route, end("", ""))), (Some(0), Some(3)));
+}
+
+#[test]
+fn ends_in_files() {
+    let with = |from, to| trial(WEEK, &[], &[g("BAT", ALL, ALL), a("VE", ALL, ALL, ""), a("FA", from, to, "")]);
+    assert_eq!(load_in(&with(ALL, ("1000022", "#2")), 99).0, refused(16, 5, 4));
+    assert_eq!(load_in(&with(("#4", ""), ALL), 99).0, refused(16, 5, 4));
+    let (loaded, table) = load_in(&with(("1000022", ""), ("1000022", " 00810")), 99);
+    assert_eq!(loaded, Loaded::Accepted { words: 57 });
+    assert_eq!(table[53..57], [0x4641, 0, 1, 1]);
+}
+
+#[test]
+fn stretches_by_days() {
+    let bitfields = [bitfield("000001", "FE6"), bitfield("000002", "C1E")];
+    let ve = |bitfield, from, to| a("VE", (from, ""), (to, ""), bitfield);
+    let torn = [g("BAT", ALL, ALL), ve("000001", "", "#1"), ve("000002", "#1", "#2"), ve("000001", "#2", "")];
+    assert_eq!(load_in(&trial(WEEK, &bitfields, &torn), 999).0, refused(19, 5, 1));
+    let whole = [g("BAT", ALL, ALL), ve("", "", "#1"), ve("000001", "#1", "#2"), ve("000001", "#2", "")];
+    assert!(matches!(load_in(&trial(WEEK, &bitfields, &whole), 999).0, Loaded::Accepted { .. }));
+}
+
+#[test]
+fn the_trial_week() {
+    let files = trial_week();
+    let (loaded, table) = load_in(&files, 100);
+    assert_eq!(loaded, Loaded::Accepted { words: 66 });
+    assert_eq!(table[66..], [7; 34]);
+    assert!(is_table(&table));
+    let first = day_number(1, 12, 2025).unwrap();
+    assert_eq!(table[..8], [66, first, 7, 1, 3, 1, 1, 33]);
+    assert_eq!(table[8..21], [1, 0xFE60_0000, 0, 0, 0, 0, 0, 0, 0, 0, 0, 0, 0]);
+    assert_eq!(table[21..30], [1_000_011, 12, 5, 1_000_022, 30, 4, 1_000_033, 47, 5]);
+    assert_eq!(table[30..33], [9_999_999, 2, 3]);
+    assert_eq!(table[33..44], [33, 42, 0x46_4552, 0x52_595F, 0, 0, 4, 1, 1, 0, 1]);
+    assert_eq!(table[44..52], [1_000_011, 0, 480, 2, 1_000_022, 490, 492, 3]);
+    assert_eq!(table[52..60], [1_000_033, 510, 515, 3, 1_000_022, 535, 0, 1]);
+    assert_eq!(table[60..66], [4_342_100, 0, 3, 1, 0, 3]);
+    assert_eq!(load_in(&files, 65).0, Loaded::Refused { number: 20, file: 0, line: 0, needed: 66 });
+    assert_eq!(load_in(&files, 65).1, [7; 65]);
+}
+
+#[test]
+fn questions_on_the_trial_week() {
+    let table = load_in(&trial_week(), 66).1;
+    let mut rows = vec![9; 30];
+    assert_eq!(walk(&table, 0, 0, 5, 12, 2025, &mut rows), Walked::Rows(4));
+    assert_eq!(rows[..7], [1_000_011, 0, 480, 2, 4_342_100, 2, 3]);
+    assert_eq!(rows[7..14], [1_000_022, 490, 492, 3, 4_342_100, 2, 3]);
+    assert_eq!(rows[14..21], [1_000_033, 510, 515, 3, 4_342_100, 2, 3]);
+    assert_eq!(rows[21..], [1_000_022, 535, 0, 1, 0, 2, 3, 9, 9]);
+    let mut none = [];
+    assert_eq!(walk(&table, 0, 0, 6, 12, 2025, &mut none), Walked::NotRunning);
+    assert_eq!(walk(&table, 0, 0, 5, 12, 2025, &mut none), Walked::Refused { number: 29, needed: 28 });
+    assert_eq!(walk(&table, 0, 0, 8, 12, 2025, &mut none), Walked::Refused { number: 23, needed: 0 });
+    assert_eq!(walk(&table, 1, 0, 5, 12, 2025, &mut none), Walked::Refused { number: 24, needed: 0 });
+    assert_eq!(walk(&table, 0, 1, 5, 12, 2025, &mut none), Walked::Refused { number: 25, needed: 0 });
+    assert_eq!(interchange(&table, 1_000_011, 1, 1), Changed::Minutes(2));
+    assert_eq!(interchange(&table, 1_000_011, 2, 2), Changed::Minutes(3));
+    assert_eq!(interchange(&table, 1_000_011, 0, 2), Changed::Minutes(3));
+    assert_eq!(interchange(&table, 1_000_011, 14, 0), Changed::Refused { number: 26 });
+    assert_eq!(interchange(&table, 9_999_999, 0, 0), Changed::Refused { number: 27 });
+    assert_eq!(day(&table, 5, 12, 2025, 1), DayAnswer::Runs);
+    assert_eq!(day(&table, 6, 12, 2025, 1), DayAnswer::Rests);
+    assert_eq!(day(&table, 6, 12, 2025, 0), DayAnswer::Runs);
+    assert_eq!(day(&table, 6, 12, 2025, 2), DayAnswer::Refused { number: 28 });
+    assert_eq!(day(&table[..65], 6, 12, 2025, 2), DayAnswer::Refused { number: 21 });
+    assert_eq!(day(&table, 31, 11, 2025, 1), DayAnswer::Refused { number: 22 });
+}
+
+#[test]
+fn repeats() {
+    let mut files = trial_week();
+    let fplan = String::from_utf8(files[4].clone()).unwrap();
+    files[4] = fplan.replace(&z("00042", "FERRY_", "", ""), &z("00042", "FERRY_", "023", "010")).into_bytes();
+    let table = load_in(&files, 66).1;
+    let mut rows = [0; 28];
+    let runs = (0..100).filter(|repeat| walk(&table, 0, *repeat, 5, 12, 2025, &mut rows) == Walked::Rows(4)).count();
+    assert_eq!(runs, 24);
+    assert_eq!(rows[1..3], [0, 480 + 230]);
+    assert_eq!(rows[22..24], [535 + 230, 0]);
+    assert_eq!(form_z(z("00042", "FERRY_", "023", "000").as_bytes()), Some(27));
+    assert_eq!(form_z(z("00042", "FERRY_", "000", "000").as_bytes()), None);
+    assert_eq!(form_z(z("00042", "FERRY_", "000", "").as_bytes()), Some(27));
+}
+
+#[test]
+fn sixty_minutes() {
+    assert_eq!(form_interchange(b"9999999 60 99"), None);
+    assert_eq!(form_interchange(b"9999999 61 99"), Some(9));
+    let mut files = trial_week();
+    files[3] = text(&["9999999 61  3"]);
+    assert_eq!(load_in(&files, 66).0, refused(4, 4, 1));
+}
+
+#[test]
+fn pieces() {
+    let cut = |file: &[u8]| lines(file).iter().map(|line| (line.no, line.start, line.text.to_vec())).collect::<Vec<_>>();
+    assert_eq!(cut(b""), []);
+    assert_eq!(cut(b"\n"), [(1, 0, Vec::new())]);
+    assert_eq!(cut(b"a\r\n\nb\r\r"), [(1, 0, b"a".to_vec()), (2, 3, Vec::new()), (3, 4, b"b\r".to_vec())]);
+    assert_eq!(cut(b"a\n\r"), [(1, 0, b"a".to_vec()), (2, 2, Vec::new())]);
+    assert!(skipped(b"") && skipped(b"   ") && skipped(b"%x") && !skipped(b" %") && !skipped(b"\t"));
+    assert_eq!(time(b"-99959", 1), Time::Stated { minutes: 59_999, barred: true });
+    assert_eq!(time(b"+00810", 1), Time::Broken);
+}
+
+#[test]
+fn orders_of_offence() {
+    let mut files = trial_week();
+    files[0] = b"01.12.2025\n07.12.2025\nTrial week\n\r".to_vec();
+    assert_eq!(load_in(&files, 66).0, refused(3, 1, 4));
+    files[0] = b"01.12.2025\n30.11.2025".to_vec();
+    assert_eq!(load_in(&files, 66).0, refused(5, 1, 2));
+    files[0] = b"01.12.2025\n07.12.2025".to_vec();
+    assert_eq!(load_in(&files, 66).0, refused(2, 1, 3));
+    let mut files = trial_week();
+    files[3] = b"% none\n\n".to_vec();
+    assert_eq!(load_in(&files, 66).0, refused(2, 4, 3));
+    let mut files = trial_week();
+    files[4].splice(0..0, *b"*G\n");
+    assert_eq!(load_in(&files, 66).0, refused(12, 5, 1));
+    files[4].splice(0..3, *b"*Z\n");
+    assert_eq!(load_in(&files, 66).0, refused(4, 5, 1));
+    let mut files = trial_week();
+    files[4].extend_from_slice(b"*G");
+    assert_eq!(load_in(&files, 66).0, refused(4, 5, 8));
+}
+
+/// Lines of a service with so many calls and ranges, and the FPLAN lines after them.
+fn refused_fplan(lines: &[String]) -> (u32, u32) {
+    let mut files = trial_week();
+    files[4] = file(lines);
+    match load_in(&files, 9_999).0 {
+        Loaded::Refused { number, file: 5, line, .. } => (number, line),
+        loaded => panic!("{:?}", loaded),
+    }
+}
+
+#[test]
+fn orders_within_a_line() {
+    let z = z("00042", "FERRY_", "", "");
+    let with = |many: usize, one: String, last: String| {
+        let mut lines = vec![z.clone()];
+        lines.extend(std::iter::repeat(one).take(many));
+        lines.push(last);
+        refused_fplan(&lines)
+    };
+    let one = || call("1000011", " 00800", " 00800");
+    // 4 before 13, 13 before 9 and 10
+    assert_eq!(with(200, one(), one()), (13, 202));
+    assert_eq!(with(200, one(), call("1000044", " 00800", " 00800")), (13, 202));
+    assert_eq!(with(200, one(), call("1000011", " 00860", " 00800")), (4, 202));
+    assert_eq!(with(199, one(), call("1000044", " 00800", " 00800")), (9, 201));
+    let ve = |bitfield| a("VE", ALL, ALL, bitfield);
+    assert_eq!(with(50, ve(""), ve("000009")), (13, 52));
+    assert_eq!(with(49, ve(""), ve("000009")), (10, 51));
+    assert_eq!(with(100, a("V ", ALL, ALL, ""), a("FA", ALL, ALL, "000009")), (13, 102));
+    assert_eq!(with(50, g("BAT", ALL, ALL), g(" AT", ALL, ALL)), (4, 52));
+    // 6 before 8, and before 9
+    let mut files = trial_week();
+    files[1] = file(&[bitfield("000001", "FE6"), bitfield("000001", "FE4")]);
+    assert_eq!(load_in(&files, 99).0, refused(6, 2, 2));
+    files = trial_week();
+    files[3] = text(&["9999999  2  3", "9999999  2  3"]);
+    assert_eq!(load_in(&files, 99).0, refused(6, 4, 2));
+}
+
+#[test]
+fn orders_within_a_service() {
+    let z = z("00042", "FERRY_", "", "");
+    let (late, early) = (call("1000011", "", " 00800"), call("1000022", " 00759", ""));
+    let nowhere = a("VE", ("#7", ""), ALL, "");
+    // 14 of a service before the own checks of the next *Z; a line's own checks before 14
+    assert_eq!(refused_fplan(&[z.clone(), late.clone(), "*Z".to_string()]), (14, 1));
+    assert_eq!(refused_fplan(&[z.clone(), late.clone(), "*G".to_string()]), (4, 3));
+    // 15 before 16, though its line comes later
+    assert_eq!(refused_fplan(&[z.clone(), nowhere.clone(), late.clone(), early.clone()]), (15, 4));
+    let right = call("1000022", " 00800", "");
+    assert_eq!(refused_fplan(&[z.clone(), nowhere, late.clone(), right.clone()]), (16, 2));
+    assert_eq!(refused_fplan(&[z.clone(), late.clone(), right.clone()]), (17, 1));
+    assert_eq!(refused_fplan(&[z.clone(), g("BAT", ALL, ALL), late, right]), (18, 1));
+    // 15 takes the first arrival and the last departure where they are stated
+    let stated_first = call("1000011", " 00801", " 00800");
+    assert_eq!(refused_fplan(&[z.clone(), stated_first, early]), (15, 2));
+    let stated_last = call("1000022", " 00800", " 00759");
+    assert_eq!(refused_fplan(&[z, call("1000011", "", " 00800"), stated_last]), (15, 3));
+}

@@ -1,0 +1,120 @@
+//! What a plan means, as a table and as walks: a second way to the same words.
+
+use crate::generate::plan::{Call, Given, Plan, Range, Service};
+use crate::generate::sheet::{Sheet, Tag};
+use crate::reader::bits::bit;
+
+fn packed(bytes: &[u8]) -> u32 {
+    bytes.iter().fold(0, |word, byte| 256 * word + u32::from(*byte))
+}
+
+/// The table of a plan whose lines are these; BAHNHOF's bytes say where the names stand.
+pub fn expected_table(plan: &Plan, sheet: &Sheet, bahnhof: &[u8]) -> Vec<u32> {
+    let mut words = vec![0, plan.first_day, plan.days];
+    words.extend([plan.bitfields.len(), plan.stops.len(), plan.interchange.len(), plan.services.len(), 0].map(|n| n as u32));
+    for (number, bits) in &plan.bitfields {
+        words.push(*number);
+        words.extend(bits);
+    }
+    words.extend(expected_stops(plan, sheet, bahnhof));
+    for (number, same, other) in &plan.interchange {
+        words.extend([number, same, other]);
+    }
+    words[7] = words.len() as u32;
+    for (s, service) in plan.services.iter().enumerate() {
+        words.extend(expected_service(service, s, sheet));
+    }
+    words[0] = words.len() as u32;
+    words
+}
+
+fn expected_stops(plan: &Plan, sheet: &Sheet, bahnhof: &[u8]) -> Vec<u32> {
+    let mut words = Vec::new();
+    let mut starts = vec![0];
+    starts.extend((0..bahnhof.len()).filter(|i| bahnhof[*i] == b'\n').map(|i| i + 1));
+    for (row, start) in sheet.files[2].iter().zip(starts) {
+        if let Tag::Stop(i) = row.tag {
+            let name: String = row.text[12..].iter().take(50).map(|byte| *byte as char).collect();
+            words.extend([plan.stops[i], start as u32 + 12, name.trim_end_matches(' ').chars().count() as u32]);
+        }
+    }
+    words
+}
+
+fn expected_service(service: &Service, s: usize, sheet: &Sheet) -> Vec<u32> {
+    let (mut line, mut calls, mut g, mut v, mut a) = (0, Vec::new(), Vec::new(), Vec::new(), Vec::new());
+    for (no, row) in (1..).zip(&sheet.files[4]) {
+        let range = |i: usize| &service.ranges[i];
+        match row.tag {
+            Tag::Z(t) if t == s => line = no,
+            Tag::Call(t, i) if t == s => calls.push(call_words(&service.calls[i], &row.text)),
+            Tag::G(t, i) if t == s => g.extend(range_words(range(i))),
+            Tag::Ve(t, i) if t == s => v.extend(range_words(range(i))),
+            Tag::Other(t, i) if t == s => a.extend(range_words(range(i))),
+            _ => {}
+        }
+    }
+    let (repeats, offset) = service.repeats.unwrap_or((0, 0));
+    let (front, back) = service.administration.split_at(3);
+    let counts = [calls.len(), g.len() / 3, v.len() / 3, a.len() / 4].map(|n| n as u32);
+    let mut words = vec![0, service.number, packed(front), packed(back), repeats, offset];
+    words.extend(counts);
+    words.push(line);
+    words.extend(calls.concat());
+    words.extend([g, v, a].concat());
+    words[0] = words.len() as u32;
+    words
+}
+
+fn call_words(call: &Call, line: &[u8]) -> [u32; 4] {
+    let flag = |holds: bool, value: u32| if holds { value } else { 0 };
+    let flags = flag(call.arrival.is_some(), 1)
+        + flag(call.departure.is_some(), 2)
+        + flag(line[29] == b'-', 4)
+        + flag(line[36] == b'-', 8);
+    [call.stop, call.arrival.unwrap_or(0), call.departure.unwrap_or(0), flags]
+}
+
+fn range_words(range: &Range) -> Vec<u32> {
+    let mut words = match range.given {
+        Given::Category(category) => vec![packed(&category)],
+        Given::Days(bitfield) => vec![bitfield],
+        Given::Other(code, bitfield) => vec![packed(&code), bitfield],
+    };
+    words.extend([range.from as u32, range.to as u32]);
+    words
+}
+
+/// The rows of a walk by the plan, with 0 for the flags; none if it is not running.
+pub fn expected_walk(plan: &Plan, s: usize, repeat: u32, day: u32) -> Vec<u32> {
+    let service = &plan.services[s];
+    let runs = |leg: usize| {
+        service.ranges.iter().any(|range| match range.given {
+            Given::Days(0) => range.from <= leg && leg < range.to,
+            Given::Days(number) => {
+                let known = plan.bitfields.iter().find(|(other, _)| *other == number).unwrap();
+                range.from <= leg && leg < range.to && bit(&known.1, day + 2)
+            }
+            _ => false,
+        })
+    };
+    let operated: Vec<usize> = (0..service.calls.len() - 1).filter(|leg| runs(*leg)).collect();
+    if operated.is_empty() {
+        return Vec::new();
+    }
+    let (first, last) = (operated[0], operated[operated.len() - 1] + 1);
+    let late = repeat * service.repeats.map_or(0, |(_, offset)| offset);
+    (first..=last).flat_map(|i| expected_row(plan, service, i, late, i == first, i == last)).collect()
+}
+
+fn expected_row(plan: &Plan, service: &Service, i: usize, late: u32, first: bool, last: bool) -> [u32; 7] {
+    let call = &service.calls[i];
+    let category = service.ranges.iter().find_map(|range| match range.given {
+        Given::Category(category) if range.from <= i && i < range.to => Some(packed(&category)),
+        _ => None,
+    });
+    let record = plan.interchange.iter().find(|record| record.0 == call.stop).unwrap_or(&plan.interchange[0]);
+    let arrival = if first { 0 } else { call.arrival.unwrap() + late };
+    let departure = if last { 0 } else { call.departure.unwrap() + late };
+    [call.stop, arrival, departure, 0, if last { 0 } else { category.unwrap() }, record.1, record.2]
+}

@@ -1,0 +1,225 @@
+//! Generated deliveries, tables and questions: what a plan says, the reader must find; and every answer is reached.
+
+use std::collections::BTreeMap;
+
+use super::expected::{expected_table, expected_walk};
+use crate::generate::bend_table::{BENDS, NO_TABLES, POKES};
+use crate::generate::plan::date_of;
+use crate::generate::raw_table::parts;
+use crate::generate::{damaged_table, mixed, oversized, question, valid, Aim, Case, Question, Rng, Size};
+use crate::reader::{day, interchange, is_table, load, refused_column, walk, Changed, DayAnswer, Loaded, Walked};
+
+const LENT: u32 = 0xAAAA_AAAA;
+
+/// How often each answer came.
+type Histogram = BTreeMap<String, u32>;
+
+fn note(histogram: &mut Histogram, answer: String) {
+    *histogram.entry(answer).or_insert(0) += 1;
+}
+
+fn show(title: &str, histogram: &Histogram) {
+    println!("{}: {} cases", title, histogram.values().sum::<u32>());
+    for (answer, times) in histogram {
+        println!("  {:<24} {:>7}", answer, times);
+    }
+}
+
+/// Loads a case; a refusal leaves the table as lent, an acceptance the words after those used.
+fn run(case: &Case) -> (Loaded, Vec<u32>) {
+    let mut table = vec![LENT; case.room];
+    let loaded = load(case.slices(), &mut table);
+    let used = match loaded {
+        Loaded::Accepted { words } => words as usize,
+        Loaded::Refused { .. } => 0,
+    };
+    assert!(table[used..].iter().all(|word| *word == LENT));
+    if used > 0 {
+        assert!(is_table(&table));
+        assert_eq!(parts(&table).words(), table[..used]);
+    }
+    (loaded, table)
+}
+
+fn check_aim(case: &Case, aim: &Aim, loaded: Loaded) {
+    match loaded {
+        Loaded::Refused { number, file, line, needed } => {
+            assert_eq!((number, file, line), (aim.number, aim.file, aim.line));
+            assert_eq!(needed > case.room as u32, number == 20);
+            assert!(number == 20 || needed == 0);
+        }
+        Loaded::Accepted { .. } => panic!("accepted, but aimed at {:?}", aim),
+    }
+    assert_eq!(refused_column(case.slices(), loaded), aim.column);
+}
+
+fn check_valid(case: &Case, loaded: Loaded, table: &[u32]) {
+    if let Some((plan, sheet)) = &case.plan {
+        let expected = expected_table(plan, sheet, &case.files[2]);
+        assert_eq!(loaded, Loaded::Accepted { words: expected.len() as u32 });
+        assert_eq!(table[..expected.len()], expected);
+    }
+}
+
+fn key(loaded: Loaded) -> String {
+    match loaded {
+        Loaded::Accepted { .. } => "accepted".to_string(),
+        Loaded::Refused { number, file, .. } => format!("refused {:02} file {}", number, file),
+    }
+}
+
+#[test]
+fn loads() {
+    let mut rng = Rng::new(1);
+    let mut histogram = Histogram::new();
+    for turn in 0..200_000 {
+        let case = mixed(&mut rng, turn);
+        let (loaded, table) = run(&case);
+        note(&mut histogram, key(loaded));
+        match case.aim {
+            Some(aim) => check_aim(&case, &aim, loaded),
+            None => check_valid(&case, loaded, &table),
+        }
+    }
+    show("loads", &histogram);
+    for number in 2..=20 {
+        let prefix = format!("refused {:02}", number);
+        let times: u32 = histogram.iter().filter(|(answer, _)| answer.starts_with(&prefix)).map(|(_, times)| *times).sum();
+        assert!(times > 100, "{} only {} times", prefix, times);
+    }
+}
+
+#[test]
+fn lengths() {
+    let mut rng = Rng::new(2);
+    for _ in 0..12 {
+        let case = oversized(&mut rng);
+        let (loaded, _) = run(&case);
+        match case.aim {
+            Some(aim) => check_aim(&case, &aim, loaded),
+            None => assert!(matches!(loaded, Loaded::Accepted { .. })),
+        }
+    }
+}
+
+/// Every day with every repeat; where there are many repeats, every day with the run itself, and each repeat on a day.
+fn days_and_repeats(rng: &mut Rng, days: u32, repeats: u32) -> Vec<(u32, u32)> {
+    if repeats <= 5 {
+        return (0..days).flat_map(|day| (0..=repeats).map(move |repeat| (day, repeat))).collect();
+    }
+    let runs = (0..days).map(|day| (day, 0));
+    runs.chain((1..=repeats).map(|repeat| (rng.below(days), repeat))).collect()
+}
+
+/// A walk on the table of a delivery without damage is refused for no service, repeat and date of its own.
+#[test]
+fn walks() {
+    let mut rng = Rng::new(3);
+    let mut histogram = Histogram::new();
+    for turn in 0..1_500 {
+        let case = valid(&mut rng, if turn % 100 == 0 { Size::Large } else { Size::Medium });
+        let (_, table) = run(&case);
+        let (plan, _) = case.plan.as_ref().unwrap();
+        for (s, service) in plan.services.iter().enumerate() {
+            let repeats = service.repeats.map_or(0, |(repeats, _)| repeats);
+            for (day, repeat) in days_and_repeats(&mut rng, plan.days, repeats) {
+                let (d, m, y) = date_of(plan.first_day + day);
+                let expected = expected_walk(plan, s, repeat, day);
+                let mut rows = vec![LENT; expected.len() + 3];
+                let walked = walk(&table, s as u32, repeat, d, m, y, &mut rows);
+                note(&mut histogram, format!("{:?}", walked).split('(').next().unwrap().to_string());
+                let listed = (expected.len() / 7) as u32;
+                assert_eq!(walked, if listed == 0 { Walked::NotRunning } else { Walked::Rows(listed) });
+                rows.chunks_mut(7).take(listed as usize).for_each(|row| row[3] = 0);
+                assert_eq!(rows[..expected.len()], expected);
+                assert_eq!(rows[expected.len()..], [LENT; 3]);
+            }
+        }
+    }
+    show("walks of planned services", &histogram);
+}
+
+fn answer(words: &[u32], question: Question) -> String {
+    match question {
+        Question::Day { date: [d, m, y], bitfield } => match day(words, d, m, y, bitfield) {
+            DayAnswer::Refused { number } => format!("day refused {}", number),
+            answer => format!("day {:?}", answer),
+        },
+        Question::Interchange { stop, classes: [a, b] } => match interchange(words, stop, a, b) {
+            Changed::Refused { number } => format!("interchange refused {}", number),
+            Changed::Minutes(_) => "interchange minutes".to_string(),
+        },
+        Question::Walk { service, repeat, date: [d, m, y], room } => {
+            let mut rows = vec![LENT; room];
+            let walked = walk(words, service, repeat, d, m, y, &mut rows);
+            let written = if let Walked::Rows(listed) = walked { 7 * listed as usize } else { 0 };
+            assert!(rows[written..].iter().all(|word| *word == LENT));
+            match walked {
+                Walked::Rows(_) => "walk rows".to_string(),
+                Walked::NotRunning => "walk not running".to_string(),
+                Walked::Refused { number, needed } => {
+                    assert_eq!(needed as usize > room, number == 29);
+                    format!("walk refused {}", number)
+                }
+            }
+        }
+    }
+}
+
+#[test]
+fn questions() {
+    let mut rng = Rng::new(4);
+    let mut histogram = Histogram::new();
+    for turn in 0..40_000 {
+        let case = valid(&mut rng, if turn % 4 == 0 { Size::Medium } else { Size::Small });
+        let (_, table) = run(&case);
+        let words = if turn % 4 == 1 { table } else { damaged_table(&mut rng, &table) };
+        for _ in 0..5 {
+            let question = question(&mut rng, &words);
+            note(&mut histogram, answer(&words, question));
+        }
+    }
+    show("questions", &histogram);
+    for number in (21..=36).filter(|number| *number != 30) {
+        let suffix = format!("refused {}", number);
+        let times: u32 = histogram.iter().filter(|(answer, _)| answer.ends_with(&suffix)).map(|(_, times)| *times).sum();
+        assert!(times > 100, "{} only {} times", suffix, times);
+    }
+}
+
+/// Each condition of 21 in turn, and each damage that keeps a table.
+#[test]
+fn tables_or_not() {
+    let mut rng = Rng::new(5);
+    for _ in 0..2_000 {
+        let case = valid(&mut rng, Size::Small);
+        let (_, table) = run(&case);
+        for bend in BENDS {
+            let mut raw = parts(&table);
+            bend(&mut rng, &mut raw);
+            assert!(is_table(&raw.words()));
+        }
+        for (i, bend) in NO_TABLES.iter().enumerate() {
+            let mut raw = parts(&table);
+            let done = bend(&mut rng, &mut raw).is_some();
+            assert_eq!(is_table(&raw.words()), !done, "no table {}", i);
+        }
+        for (i, poke) in POKES.iter().enumerate() {
+            let mut words = table.clone();
+            let done = poke(&mut rng, &mut words).is_some();
+            assert_eq!(is_table(&words), !done, "poke {}", i);
+        }
+    }
+}
+
+/// Words of no sense at all bring 21 and no panic.
+#[test]
+fn any_words() {
+    let mut rng = Rng::new(6);
+    for _ in 0..20_000 {
+        let length = rng.index(40);
+        let words: Vec<u32> = (0..length).map(|_| rng.draw() as u32 >> rng.pick(&[0, 16, 28])).collect();
+        let question = question(&mut rng, &words);
+        answer(&words, question);
+    }
+}

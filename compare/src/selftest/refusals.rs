@@ -1,0 +1,167 @@
+//! docs/REFUSALS.md: its examples bring what they say, and its marks stand at the columns that they name.
+
+use std::collections::BTreeSet;
+
+use super::file;
+use crate::boundary::{Boundary, Reader};
+use crate::reader::{load, refused_column};
+
+const DOCUMENT: &str = include_str!("../../../docs/REFUSALS.md");
+
+/// A block of the document's indented lines.
+type Block = Vec<&'static str>;
+
+type Files = [Vec<u8>; 5];
+
+fn blocks() -> Vec<Block> {
+    let mut blocks = vec![Block::new()];
+    for line in DOCUMENT.lines() {
+        match line.strip_prefix("    ") {
+            Some(text) => blocks.last_mut().unwrap().push(text),
+            None => blocks.push(Block::new()),
+        }
+    }
+    blocks.retain(|block| !block.is_empty());
+    blocks
+}
+
+/// A row of ^, with what it says behind.
+fn is_mark(line: &str) -> bool {
+    line.trim_start().starts_with('^')
+}
+
+/// The columns that a mark's ^ stand at, from 1.
+fn marked(mark: &str) -> Vec<(usize, usize)> {
+    let mut runs: Vec<(usize, usize)> = Vec::new();
+    for (column, _) in (1..).zip(mark.chars()).filter(|(_, character)| *character == '^') {
+        match runs.last_mut() {
+            Some(run) if run.1 + 1 == column => run.1 = column,
+            _ => runs.push((column, column)),
+        }
+    }
+    runs
+}
+
+/// The columns that a mark's text names: "1-7 stop, 59 ..".
+fn named(mark: &str) -> Vec<(usize, usize)> {
+    let text = mark.trim_start_matches(['^', ' ']);
+    let columns = text.split(", ").map(|part| part.split(' ').next().unwrap());
+    let pair = |columns: &str| {
+        let (first, last) = columns.split_once('-').unwrap_or((columns, columns));
+        (first.parse().unwrap(), last.parse().unwrap())
+    };
+    columns.map(pair).collect()
+}
+
+/// The lines of a file: marks left out, "(N more such lines)" written out.
+fn written(lines: &[&str]) -> Vec<String> {
+    let mut all: Vec<String> = Vec::new();
+    for line in lines.iter().filter(|line| !is_mark(line)) {
+        match line.strip_prefix('(').and_then(|rest| rest.strip_suffix(" more such lines)")) {
+            Some(times) => {
+                let last = all.last().unwrap().clone();
+                all.extend(std::iter::repeat(last).take(times.parse().unwrap()));
+            }
+            None => all.push(line.to_string()),
+        }
+    }
+    all
+}
+
+fn numbers(head: &str, words: [&str; 3]) -> Option<[u32; 3]> {
+    let parts: Vec<&str> = head.split(' ').collect();
+    match parts[..] {
+        [a, x, b, y, c, z] if [a, b, c] == words => Some([x.parse().ok()?, y.parse().ok()?, z.parse().ok()?]),
+        _ => None,
+    }
+}
+
+/// The blocks "file N NAME" together.
+fn trial_week() -> Files {
+    let mut files = Files::default();
+    for block in blocks() {
+        if let Some(rest) = block[0].strip_prefix("file ") {
+            let number: usize = rest.split(' ').next().unwrap().parse().unwrap();
+            files[number - 1] = file(&written(&block[1..]));
+        }
+    }
+    files
+}
+
+/// One line stands in the place of the line named, or after the last; more are the whole file.
+fn with(mut files: Files, number: u32, line: u32, lines: Vec<String>) -> Files {
+    let place = &mut files[number as usize - 1];
+    if lines.len() == 1 {
+        let mut all: Vec<String> = String::from_utf8(place.clone()).unwrap().lines().map(str::to_string).collect();
+        let at = line as usize - 1;
+        all.splice(at..all.len().min(at + 1), lines);
+        *place = file(&all);
+    } else {
+        *place = file(&lines);
+    }
+    files
+}
+
+fn answer(files: &Files, room: usize) -> [u32; 4] {
+    let [a, b, c, d, e] = files;
+    Reader.load([a, b, c, d, e], &mut vec![0; room])
+}
+
+/// Document 02's column of a refusal 4 is where the first mark starts.
+fn check_column(files: &Files, wrong: &[&str]) {
+    let [a, b, c, d, e] = files;
+    let files: [&[u8]; 5] = [a, b, c, d, e];
+    let column = refused_column(files, load(files, &mut []));
+    let mark = wrong.iter().find(|line| is_mark(line)).unwrap();
+    assert_eq!(column, marked(mark)[0].0, "{:?}", wrong);
+}
+
+fn check_example([number, of, line]: [u32; 3], lines: &[&str]) {
+    if number == 1 {
+        let mut files = trial_week();
+        files[of as usize - 1].resize(16_777_217, b' ');
+        assert_eq!(answer(&files, 66), [number, of, line, 0]);
+        return;
+    }
+    if number == 20 {
+        assert_eq!(answer(&trial_week(), 65), [number, of, line, 66]);
+        return;
+    }
+    let cut = lines.iter().position(|line| *line == "mended").unwrap();
+    let (wrong, mended) = (&lines[..cut], &lines[cut + 1..]);
+    let files = with(trial_week(), of, line, written(wrong));
+    assert_eq!(answer(&files, 500), [number, of, line, 0], "{:?}", wrong);
+    if number == 4 {
+        check_column(&files, wrong);
+    }
+    let files = with(trial_week(), of, line, written(mended));
+    assert_eq!(answer(&files, 500)[0], 0, "{:?}", mended);
+}
+
+#[test]
+fn the_trial_week() {
+    assert_eq!(answer(&trial_week(), 66), [0, 0, 0, 66]);
+}
+
+#[test]
+fn examples() {
+    let mut shown = BTreeSet::new();
+    for block in blocks() {
+        if block[0].starts_with("refused ") && block[0] != "refused N file F line L" {
+            let refusal = numbers(block[0], ["refused", "file", "line"]).unwrap_or_else(|| panic!("{}", block[0]));
+            check_example(refusal, &block[1..]);
+            shown.insert(refusal[0]);
+        }
+    }
+    assert!(shown.into_iter().eq(1..=20));
+}
+
+#[test]
+fn marks() {
+    let marks: Vec<&str> =
+        DOCUMENT.lines().filter_map(|line| line.strip_prefix("    ")).filter(|line| is_mark(line)).collect();
+    assert!(marks.len() > 40);
+    for mark in marks {
+        assert_eq!(marked(mark), named(mark), "{}", mark);
+    }
+}

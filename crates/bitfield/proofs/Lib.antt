@@ -1,0 +1,6 @@
+pub mod Fill
+pub mod Frame
+pub mod Sets
+pub mod Hex
+pub mod Meaning
+pub mod Examples

@@ -1,0 +1,121 @@
+// Gregorian dates from 01.01.1900, day 0, to 31.12.2199, and periods of 1 to 380 days.
+ghost use mathlib.Core.Path.{_≡_};
+ghost use Prim.Native.Nat.{_≤_, _-_};
+ghost use Rattle.calendar.specs.Calendar.{isLeap, yearDays, monthDays, yearsBefore, monthsBefore, dayOf, dateIn, periodOf};
+
+// What day, month and year say: a day number, or that there is no such date.
+pub enum Date {
+    Day(u32),
+    NoSuchDate,
+}
+
+// The number of days of a period, or that it is none.
+pub enum Period {
+    Days(u32),
+    NoPeriod,
+}
+
+// The day number of a date.
+pub fn day_of(d: u32, m: u32, y: u32) -> Date
+    ensures { λ r. ⌜ r ≡ dayOf d m y ⌝ }
+{
+    if y < 1900 {
+        return Date::NoSuchDate;
+    }
+    if 2199 < y {
+        return Date::NoSuchDate;
+    }
+    if m < 1 {
+        return Date::NoSuchDate;
+    }
+    if 12 < m {
+        return Date::NoSuchDate;
+    }
+    if d < 1 {
+        return Date::NoSuchDate;
+    }
+    if month_days(y, m) < d {
+        return Date::NoSuchDate;
+    }
+    Date::Day(years_before(y) + months_before(y, m) + (d - 1))
+}
+
+// The date in columns 1 to 10 of a line, DD.MM.YYYY.
+pub fn date_in(line: &[u8]) -> Date
+    ensures { λ r. ⌜ r ≡ dateIn (now (line .entry)) ⌝ }
+{
+    day_of(
+        columns::number_in(line, 1, 2),
+        columns::number_in(line, 4, 5),
+        columns::number_in(line, 7, 10),
+    )
+}
+
+// The period from one day number to another.
+pub fn period_of(start: u32, end: u32) -> Period
+    ensures { λ r. ⌜ r ≡ periodOf start end ⌝ }
+{
+    if end < start {
+        return Period::NoPeriod;
+    }
+    if end - start < 380 {
+        return Period::Days(end - start + 1);
+    }
+    Period::NoPeriod
+}
+
+// The days of the years from 1900 up to y.
+fn years_before(y: u32) -> u32
+    requires { ⌜ (1900 ≤ y) × (y ≤ 2199) ⌝ }
+    ensures { λ r. ⌜ r ≡ yearsBefore (y - 1900) ⌝ }
+{
+    let mut total: u32 = 0;
+    let mut x: u32 = 1900;
+    while x < y {
+        total += year_days(x);
+        x += 1;
+    }
+    total
+}
+
+// The days of the months of year y before month m.
+fn months_before(y: u32, m: u32) -> u32
+    requires { ⌜ (1 ≤ m) × (m ≤ 12) ⌝ }
+    ensures { λ r. ⌜ r ≡ monthsBefore y (m - 1) ⌝ }
+{
+    let mut total: u32 = 0;
+    let mut x: u32 = 1;
+    while x < m {
+        total += month_days(y, x);
+        x += 1;
+    }
+    total
+}
+
+fn year_days(y: u32) -> u32
+    ensures { λ r. ⌜ r ≡ yearDays y ⌝ }
+{
+    if leap(y) { 366 } else { 365 }
+}
+
+fn month_days(y: u32, m: u32) -> u32
+    ensures { λ r. ⌜ r ≡ monthDays y m ⌝ }
+{
+    match m {
+        2 => if leap(y) { 29 } else { 28 },
+        4 | 6 | 9 | 11 => 30,
+        _ => 31,
+    }
+}
+
+fn leap(y: u32) -> bool
+    ensures { λ r. ⌜ r ≡ isLeap y ⌝ }
+{
+    if y % 4 != 0 {
+        return false;
+    }
+    if y % 100 != 0 {
+        return true;
+    }
+    y % 400 == 0
+}

@@ -1,0 +1,5 @@
+pub mod Ranges
+pub mod Days
+pub mod Stretches
+pub mod Rows
+pub mod Examples

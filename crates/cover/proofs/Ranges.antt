@@ -1,0 +1,105 @@
+-- The loops over the ranges of a service, for `search ranges`: `left` ranges stand at place `at` and after it. Assumes nothing.
+use mathlib.Core.Path.{_≡_, refl, sym, ap, _∙_}
+use mathlib.Core.List.{List, _∷_}
+use mathlib.Core.Bool.{Bool, true, false, cond}
+use Prim.Native.Nat.{ℕ, zero, suc, _+_, _-_, _*_, _^_, _≤_, _<_}
+use native.Mathlib.Nat.{suc-mul, zero-add, add-zero, add-assoc}
+use native.Mathlib.Omega.{arith}
+use lib.ListN.{getD, drop}
+use lib.Seq.{drop-drop, getD-drop}
+use Rattle.base.specs.Lists.{countIf}
+use Rattle.base.proofs.Laws.{tests}
+use Rattle.timetable.specs.Delivery.{Legs}
+use Rattle.timetable.specs.Checks.{covers}
+use Rattle.timetable.specs.Table.{rowsIn, legsAt}
+use Rattle.cover.specs.declared.FirstRange.{FirstRange}
+use Rattle.cover.specs.declared.FirstRange.the-variants.{At, Nowhere}
+use Rattle.cover.specs.Cover.{rangesIn, placeFrom}
+
+-- ---- the words are there
+
+pub room-start : (n width l : ℕ) → n * width ≤ l → 0 + n * width ≤ l
+room-start n width l h = rw (zero-add (n * width)) h
+
+one-more : (left width : ℕ) → 0 < left → left * width ≡ (left - 1) * width + width
+one-more zero width h = absurd (omega arith)
+one-more (suc m) width h =
+    let e : suc m - 1 ≡ m = omega arith in
+    rw e (suc-mul m width)
+
+module _ (at left width l : ℕ) (h : 0 < left) (r : at + left * width ≤ l) where
+  pub room-now : at + width ≤ l
+  room-now = omega (arith, one-more left width h)
+
+  pub room-fits : l < 2 ^ 64 → at + width < 2 ^ 64
+  room-fits k = omega (arith, one-more left width h)
+
+  pub room-next : at + width + (left - 1) * width ≤ l
+  room-next = omega (arith, one-more left width h)
+
+-- ---- a range is read where it stands
+
+pub covers-read : (w : List ℕ) (at k leg : ℕ) (t : Bool) → t ≡ covers leg (record { from = getD w (at + k) 0; to = getD w (at + k + 1) 0 }) → t ≡ covers leg (legsAt k (drop at w))
+covers-read w at k leg t e =
+    let a : getD (drop at w) k 0 ≡ getD w (at + k) 0 = getD-drop at w k 0 in
+    let b : getD (drop at w) (k + 1) 0 ≡ getD w (at + k + 1) 0 = getD-drop at w (k + 1) 0 ∙ ap (λ (i : ℕ). getD w i 0) (omega arith) in
+    rw (a, b) e
+
+-- ---- how many cover a leg
+
+rows-next : {X : Type 0} (f : List ℕ → X) (width left at : ℕ) (w : List ℕ) → 0 < left → rowsIn f width left (drop at w) ≡ f (drop at w) ∷ rowsIn f width (left - 1) (drop (at + width) w)
+unfolding rowsIn
+rows-next f width zero at w h = absurd (omega arith)
+rows-next f width (suc m) at w h =
+    let e : suc m - 1 ≡ m = omega arith in
+    rw (e, ← (drop-drop width at w)) refl
+
+-- t says whether the range at `at` covers the leg
+module _ (leg width left at count r : ℕ) (w : List ℕ) (t : Bool) (h : 0 < left) (e : t ≡ covers leg (legsAt (width - 2) (drop at w))) (v : count + countIf (covers leg) (rangesIn width left (drop at w)) ≡ r) where
+  count-next : count + (cond t 1 0 + countIf (covers leg) (rangesIn width (left - 1) (drop (at + width) w))) ≡ r
+  unfolding countIf
+  count-next =
+      ap (λ (x : Bool). count + (cond x 1 0 + countIf (covers leg) (rangesIn width (left - 1) (drop (at + width) w)))) e
+      ∙ ap (λ (rs : List Legs). count + countIf (covers leg) rs) (sym (rows-next (legsAt (width - 2)) width left at w h)) ∙ v
+
+  pub count-on : t ≡ true → count + 1 + countIf (covers leg) (rangesIn width (left - 1) (drop (at + width) w)) ≡ r
+  count-on k =
+      add-assoc count 1 (countIf (covers leg) (rangesIn width (left - 1) (drop (at + width) w)))
+      ∙ ap (λ (x : Bool). count + (cond x 1 0 + countIf (covers leg) (rangesIn width (left - 1) (drop (at + width) w)))) (sym k) ∙ count-next
+
+  pub count-past : t ≡ false → count + countIf (covers leg) (rangesIn width (left - 1) (drop (at + width) w)) ≡ r
+  count-past k = omega (arith, ap (λ (x : Bool). count + (cond x 1 0 + countIf (covers leg) (rangesIn width (left - 1) (drop (at + width) w)))) (sym k) ∙ count-next)
+
+pub count-start : (leg width n : ℕ) (w : List ℕ) → 0 + countIf (covers leg) (rangesIn width n (drop 0 w)) ≡ countIf (covers leg) (rangesIn width n w)
+count-start leg width n w = zero-add (countIf (covers leg) (rangesIn width n w))
+
+pub count-done : (leg width left at count r : ℕ) (w : List ℕ) → left ≤ 0 → count + countIf (covers leg) (rangesIn width left (drop at w)) ≡ r → count ≡ r
+unfolding countIf rowsIn
+count-done leg width zero at count r w h v = sym (add-zero count) ∙ v
+count-done leg width (suc left) at count r w h v = absurd (omega arith)
+
+-- ---- where the first stands that covers a leg
+
+place-next : (leg width left at : ℕ) (w : List ℕ) → 0 < left → placeFrom leg width at left (drop at w) ≡ cond (covers leg (legsAt (width - 2) (drop at w))) (At at) (placeFrom leg width (at + width) (left - 1) (drop (at + width) w))
+unfolding placeFrom
+place-next leg width zero at w h = absurd (omega arith)
+place-next leg width (suc m) at w h =
+    let e : suc m - 1 ≡ m = omega arith in
+    rw (e, ← (drop-drop width at w)) refl
+
+module _ (leg width left at : ℕ) (r : FirstRange) (w : List ℕ) (t : Bool) (h : 0 < left) (e : t ≡ covers leg (legsAt (width - 2) (drop at w))) (v : placeFrom leg width at left (drop at w) ≡ r) where
+  place-by-test : cond t (At at) (placeFrom leg width (at + width) (left - 1) (drop (at + width) w)) ≡ r
+  place-by-test = ap (λ (x : Bool). cond x (At at) (placeFrom leg width (at + width) (left - 1) (drop (at + width) w))) e ∙ sym (place-next leg width left at w h) ∙ v
+
+  pub place-again : t ≡ false → placeFrom leg width (at + width) (left - 1) (drop (at + width) w) ≡ r
+  place-again k = ap (λ (x : Bool). cond x (At at) (placeFrom leg width (at + width) (left - 1) (drop (at + width) w))) (sym k) ∙ place-by-test
+
+  pub place-out : t ≡ true → At at ≡ r
+  place-out k = ap (λ (x : Bool). cond x (At at) (placeFrom leg width (at + width) (left - 1) (drop (at + width) w))) (sym k) ∙ place-by-test
+
+pub place-done : (leg width left at : ℕ) (r : FirstRange) (w : List ℕ) → left ≤ 0 → placeFrom leg width at left (drop at w) ≡ r → Nowhere ≡ r
+unfolding placeFrom
+place-done leg width zero at r w h v = v
+place-done leg width (suc left) at r w h v = absurd (omega arith)
+
+pub ruleset ranges = (tests, room-start, room-now, room-fits, room-next, covers-read, count-start, count-on, count-past, count-done, place-again, place-out, place-done)

@@ -1,0 +1,25 @@
+use Rattle.base.proofs.Laws.{tests}
+use Rattle.estelunya.proofs.day_result.Statement.{statement}
+use Rattle.estelunya.proofs.day_result.Tie as tie
+
+enum-told : tie.Need-enum-told
+enum-told c = search tests
+
+enum-told-2 : tie.Need-enum-told-2
+enum-told-2 c = search tests
+
+enum-known-a : tie.Need-enum-known-a
+enum-known-a c = search tests
+
+returns : tie.Need-returns
+returns c = cc
+
+returns-2 : tie.Need-returns-2
+returns-2 c = cc
+
+returns-3 : tie.Need-returns-3
+returns-3 c = cc
+
+pub day-result-spec : {M : Type 1} → statement M
+day-result-spec =
+    tie.close (tie.spec enum-told enum-told-2 enum-known-a returns returns-2 returns-3)

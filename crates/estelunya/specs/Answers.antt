@@ -1,0 +1,36 @@
+-- "For an answer that is an enum, a definition provides this paper's number and values for each of the enum's cases."
+-- A number of 0 says that nothing was refused. Assumes nothing.
+use Prim.Native.Nat.{ℕ}
+use Rattle.timetable.specs.declared.Loaded.{Loaded}
+use Rattle.timetable.specs.declared.Loaded.the-variants.{Accepted, Refused}
+use Rattle.timetable.specs.declared.DayAnswer.{DayAnswer}
+use Rattle.timetable.specs.declared.DayAnswer.the-variants.{Runs, Idle, Refused as DayRefused}
+use Rattle.timetable.specs.declared.InterchangeAnswer.{InterchangeAnswer}
+use Rattle.timetable.specs.declared.InterchangeAnswer.the-variants.{Minutes, Refused as InterchangeRefused}
+use Rattle.timetable.specs.declared.Walked.{Walked}
+use Rattle.timetable.specs.declared.Walked.the-variants.{Listed, NotRunning, Refused as WalkRefused}
+use Rattle.estelunya.specs.declared.LoadResult.{LoadResult}
+use Rattle.estelunya.specs.declared.DayResult.{DayResult}
+use Rattle.estelunya.specs.declared.InterchangeResult.{InterchangeResult}
+use Rattle.estelunya.specs.declared.WalkResult.{WalkResult}
+
+-- "A refusal returns number, file, line, and the words needed (0 unless 20) .. Acceptance returns words used"
+abbrev pub loadResult : Loaded → LoadResult
+loadResult (Accepted used) = record { number = 0; file = 0; line = 0; words = used }
+loadResult (Refused number file line needed) = record { number = number; file = file; line = line; words = needed }
+
+-- 1 where the bit field runs on the day
+abbrev pub dayResult : DayAnswer → DayResult
+dayResult Runs = record { number = 0; runs = 1 }
+dayResult Idle = record { number = 0; runs = 0 }
+dayResult (DayRefused number) = record { number = number; runs = 0 }
+
+abbrev pub interchangeResult : InterchangeAnswer → InterchangeResult
+interchangeResult (Minutes minutes) = record { number = 0; minutes = minutes }
+interchangeResult (InterchangeRefused number) = record { number = number; minutes = 0 }
+
+-- "A walk that lists rows returns how many"; 0 rows where it is not running; "29 also the words needed"
+abbrev pub walkResult : Walked → WalkResult
+walkResult (Listed rows) = record { number = 0; rows = rows; needed = 0 }
+walkResult NotRunning = record { number = 0; rows = 0; needed = 0 }
+walkResult (WalkRefused number needed) = record { number = number; rows = 0; needed = needed }

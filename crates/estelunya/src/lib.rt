@@ -1,0 +1,164 @@
+// The C boundary: load, walk, day and interchange, with numbers and slices. Nothing is asked of the caller: bad input gets its numbered refusal,
+// and the lent words then hold what they held.
+use timetable::DayAnswer;
+use timetable::InterchangeAnswer;
+use timetable::Loaded;
+use timetable::Walked;
+ghost use mathlib.Core.Path.{_≡_};
+ghost use lib.ListN.{length};
+ghost use Rattle.timetable.specs.Delivery.{filesOf};
+ghost use Rattle.timetable.specs.Load.{loaded, written};
+ghost use Rattle.timetable.specs.Questions.{dayAsked, interchangeAsked, walked, walkRows};
+ghost use Rattle.estelunya.specs.Answers.{loadResult, dayResult, interchangeResult, walkResult};
+
+// number 0: accepted, and words is the words used; else the refusal's number, file and line, and words is the words needed (0 unless 20).
+#[repr(C)]
+pub struct LoadResult {
+    pub number: u32,
+    pub file: u32,
+    pub line: u32,
+    pub words: u32,
+}
+
+// number 0: runs is 1 where the bit field runs on the day, else 0; other numbers are refusals.
+#[repr(C)]
+pub struct DayResult {
+    pub number: u32,
+    pub runs: u32,
+}
+
+// number 0: the interchange time in minutes; other numbers are refusals.
+#[repr(C)]
+pub struct InterchangeResult {
+    pub number: u32,
+    pub minutes: u32,
+}
+
+// number 0: how many rows of 7 words are listed, 0 where the service is not running; other numbers are refusals, 29 with the words needed.
+#[repr(C)]
+pub struct WalkResult {
+    pub number: u32,
+    pub rows: u32,
+    pub needed: u32,
+}
+
+#[no_mangle]
+pub extern "C" fn estelunya_load(
+    eckdaten: &[u8],
+    bitfeld: &[u8],
+    bahnhof: &[u8],
+    umsteigb: &[u8],
+    fplan: &[u8],
+    table: &mut [u32],
+) -> LoadResult
+    ensures answer { λ r. ⌜ r ≡ loadResult (loaded (filesOf (now (eckdaten .entry)) (now (bitfeld .entry)) (now (bahnhof .entry)) (now (umsteigb .entry)) (now (fplan .entry))) (length (now (table .entry)))) ⌝ }
+    ensures words { λ r. ⌜ now (table .exit) ≡ written (filesOf (now (eckdaten .entry)) (now (bitfeld .entry)) (now (bahnhof .entry)) (now (umsteigb .entry)) (now (fplan .entry))) (now (table .entry)) ⌝ }
+{
+    load_result(load::load(eckdaten, bitfeld, bahnhof, umsteigb, fplan, table))
+}
+
+#[no_mangle]
+pub extern "C" fn estelunya_day(
+    table: &[u32],
+    day: u32,
+    month: u32,
+    year: u32,
+    field: u32,
+) -> DayResult
+    ensures { λ r. ⌜ r ≡ dayResult (dayAsked (now (table .entry)) day month year field) ⌝ }
+{
+    day_result(questions::day(table, day, month, year, field))
+}
+
+#[no_mangle]
+pub extern "C" fn estelunya_interchange(
+    table: &[u32],
+    stop: u32,
+    arriving: u32,
+    departing: u32,
+) -> InterchangeResult
+    ensures { λ r. ⌜ r ≡ interchangeResult (interchangeAsked (now (table .entry)) stop arriving departing) ⌝ }
+{
+    interchange_result(questions::interchange(table, stop, arriving, departing))
+}
+
+#[no_mangle]
+pub extern "C" fn estelunya_walk(
+    table: &[u32],
+    service: u32,
+    repeat: u32,
+    day: u32,
+    month: u32,
+    year: u32,
+    rows: &mut [u32],
+) -> WalkResult
+    ensures answer { λ r. ⌜ r ≡ walkResult (walked (now (table .entry)) service repeat day month year (length (now (rows .entry)))) ⌝ }
+    ensures words { λ r. ⌜ now (rows .exit) ≡ walkRows (now (table .entry)) service repeat day month year (now (rows .entry)) ⌝ }
+{
+    walk_result(walk::walk(table, service, repeat, day, month, year, rows))
+}
+
+fn load_result(a: Loaded) -> LoadResult
+    ensures { λ r. ⌜ r ≡ loadResult a ⌝ }
+{
+    match a {
+        Loaded::Accepted(used) => LoadResult {
+            number: 0,
+            file: 0,
+            line: 0,
+            words: used,
+        },
+        Loaded::Refused {
+            number,
+            file,
+            line,
+            needed,
+        } => LoadResult {
+            number,
+            file,
+            line,
+            words: needed,
+        },
+    }
+}
+
+fn day_result(a: DayAnswer) -> DayResult
+    ensures { λ r. ⌜ r ≡ dayResult a ⌝ }
+{
+    match a {
+        DayAnswer::Runs => DayResult { number: 0, runs: 1 },
+        DayAnswer::Idle => DayResult { number: 0, runs: 0 },
+        DayAnswer::Refused(number) => DayResult { number, runs: 0 },
+    }
+}
+
+fn interchange_result(a: InterchangeAnswer) -> InterchangeResult
+    ensures { λ r. ⌜ r ≡ interchangeResult a ⌝ }
+{
+    match a {
+        InterchangeAnswer::Minutes(minutes) => InterchangeResult { number: 0, minutes },
+        InterchangeAnswer::Refused(number) => InterchangeResult { number, minutes: 0 },
+    }
+}
+
+fn walk_result(a: Walked) -> WalkResult
+    ensures { λ r. ⌜ r ≡ walkResult a ⌝ }
+{
+    match a {
+        Walked::Listed(rows) => WalkResult {
+            number: 0,
+            rows,
+            needed: 0,
+        },
+        Walked::NotRunning => WalkResult {
+            number: 0,
+            rows: 0,
+            needed: 0,
+        },
+        Walked::Refused { number, needed } => WalkResult {
+            number,
+            rows: 0,
+            needed,
+        },
+    }
+}

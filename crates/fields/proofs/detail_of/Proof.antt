@@ -1,0 +1,23 @@
+use Rattle.fields.proofs.Laws.{readers}
+use Rattle.fields.proofs.detail_of.Statement.{statement}
+use Rattle.fields.proofs.detail_of.Tie as tie
+
+hash-of-requires : tie.Need-hash-of-requires
+hash-of-requires c κs = search readers
+
+time-of-requires : tie.Need-time-of-requires
+time-of-requires c κs = search readers
+
+timed-of-requires : tie.Need-timed-of-requires
+timed-of-requires c κs = search readers
+
+nth-of-requires : tie.Need-nth-of-requires
+nth-of-requires c κs = search readers
+
+returns : tie.Need-returns
+returns c = search readers
+
+pub detail-of-spec : {M : Type 1} → statement M
+detail-of-spec =
+    tie.close
+    (tie.spec hash-of-requires time-of-requires timed-of-requires nth-of-requires returns)

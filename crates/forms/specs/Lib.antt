@@ -1,0 +1,4 @@
+pub mod Form
+pub mod Columns
+pub mod Rows
+pub mod Kinds

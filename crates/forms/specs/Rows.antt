@@ -1,0 +1,46 @@
+-- The code's tables: a row is one number, from * 2 ^ 48 + to * 2 ^ 16 + the rule's number * 2 ^ 8 + what goes with the rule.
+-- Nobody has to believe this file: `forms::form_of` is promised over it, and the form of each line kind over `Columns`.
+-- Assumes nothing.
+use Prim.Native.Nat.{ℕ, _/_, _%_}
+use mathlib.Core.List.{List, [], _∷_}
+use mathlib.Core.Bool.{cond}
+use lib.Dec.{eqb}
+use Rattle.forms.specs.Form.{Rule, Row, columns, free, digits, hexDigits, nonBlank, byte, orBlank, notAllBlank, firstNotBlank, count, date, time, rangeEnd, detailOf, offsetOf}
+
+unfoldable pub ruleOf : ℕ → ℕ → Rule
+ruleOf k m line p =
+    cond (eqb k 0) (free line p)
+    (cond (eqb k 1) (digits line p)
+    (cond (eqb k 2) (orBlank digits line p)
+    (cond (eqb k 3) (hexDigits line p)
+    (cond (eqb k 4) (notAllBlank line p)
+    (cond (eqb k 5) (firstNotBlank line p)
+    (cond (eqb k 6) (nonBlank line p)
+    (cond (eqb k 7) (orBlank nonBlank line p)
+    (cond (eqb k 8) (count m line p)
+    (cond (eqb k 9) (date line p)
+    (cond (eqb k 10) (time line p)
+    (cond (eqb k 11) (rangeEnd line p)
+    (cond (eqb k 12) (detailOf m line p)
+    (cond (eqb k 13) (offsetOf m line p)
+    (cond (eqb k 14) (orBlank (byte m) line p)
+    (byte m line p)))))))))))))))
+
+abbrev pub fromOf : ℕ → ℕ
+fromOf x = x / 281474976710656
+
+abbrev pub toOf : ℕ → ℕ
+toOf x = x / 65536 % 4294967296
+
+abbrev pub ruleNumber : ℕ → ℕ
+ruleNumber x = x / 256 % 256
+
+abbrev pub withRule : ℕ → ℕ
+withRule x = x % 256
+
+abbrev pub rowOf : ℕ → Row
+rowOf x = columns (fromOf x) (toOf x) (ruleOf (ruleNumber x) (withRule x))
+
+unfoldable pub rowsOf : List ℕ → List Row
+rowsOf [] = []
+rowsOf (x ∷ t) = rowOf x ∷ rowsOf t

@@ -1,0 +1,441 @@
+// The kinds of lines and their forms. A form is data: a table of rows (columns from, to, and what is asked of them) in the paper's
+// order, read by one loop. Columns that no row names are blank.
+use columns::Class;
+use fields::Detail;
+use fields::RangeEnd;
+use fields::Time;
+ghost use mathlib.Core.Path.{_≡_};
+ghost use mathlib.Core.Bool.{not, _||_};
+ghost use Prim.Native.Nat.{_-_, _<_};
+ghost use lib.ListN.{getD};
+ghost use Rattle.base.specs.Lists.{every};
+ghost use Rattle.columns.specs.Columns as C;
+ghost use Rattle.columns.specs.Columns.{isOf, blank};
+ghost use Rattle.forms.specs.Form.{date, isTime, isEnd, isStop, isDetail, detailOf, offsetOf, unnamed, rowForm, formOf};
+ghost use Rattle.forms.specs.Rows.{ruleOf, toOf, rowOf, rowsOf};
+ghost use Rattle.forms.specs.Columns.{dateColumns, bitFieldColumns, stopColumns, interchangeColumns, serviceColumns, categoryColumns, attributeColumns, callColumns};
+ghost use Rattle.forms.specs.Kinds.{starred, kindOf};
+
+// Which kind a line of FPLAN is.
+pub enum Kind {
+    Opening,
+    Category,
+    Attribute,
+    Schedule,
+    Other,
+}
+
+// A line has the form, or breaks it: the column, from 1, where the leftmost field or unnamed column that does so starts.
+pub enum Form {
+    Fits,
+    Broken(usize),
+}
+
+// ---- the tables. A row is one number: from * FROM + to * TO + the rule + what goes with it.
+
+const FROM: u64 = 281474976710656;
+
+const TO: u64 = 65536;
+
+const RULE: u64 = 256;
+
+// To the line's end: no file is longer.
+const END: u64 = 16777216 * TO;
+
+const FREE: u64 = 0 * RULE;
+
+const DIGITS: u64 = 1 * RULE;
+
+const DIGITS_OR_BLANK: u64 = 2 * RULE;
+
+const HEX_DIGITS: u64 = 3 * RULE;
+
+const NOT_ALL_BLANK: u64 = 4 * RULE;
+
+const FIRST_NOT_BLANK: u64 = 5 * RULE;
+
+const NON_BLANK: u64 = 6 * RULE;
+
+const NON_BLANK_OR_BLANK: u64 = 7 * RULE;
+
+// with: the highest count
+const COUNT: u64 = 8 * RULE;
+
+const DATE: u64 = 9 * RULE;
+
+const TIME: u64 = 10 * RULE;
+
+const RANGE_END: u64 = 11 * RULE;
+
+// with: the range end's first column
+const DETAIL_OF: u64 = 12 * RULE;
+
+// with: the repeats' first column
+const OFFSET_OF: u64 = 13 * RULE;
+
+// with: the byte
+const BYTE_OR_BLANK: u64 = 14 * RULE;
+
+// with: the byte
+const BYTE: u64 = 15 * RULE;
+
+const DATE_LINE: [u64; 2] = [1 * FROM + 10 * TO + DATE, 11 * FROM + END + FREE];
+
+const BIT_FIELD: [u64; 2] = [1 * FROM + 6 * TO + DIGITS, 8 * FROM + 103 * TO + HEX_DIGITS];
+
+const STOP: [u64; 4] = [
+    1 * FROM + 7 * TO + DIGITS,
+    9 * FROM + 11 * TO + FREE,
+    13 * FROM + 62 * TO + NOT_ALL_BLANK,
+    63 * FROM + END + FREE,
+];
+
+const INTERCHANGE: [u64; 4] = [
+    1 * FROM + 7 * TO + DIGITS,
+    9 * FROM + 10 * TO + COUNT + 60,
+    12 * FROM + 13 * TO + COUNT + 99,
+    15 * FROM + END + FREE,
+];
+
+const SERVICE: [u64; 7] = [
+    1 * FROM + 3 * TO + FREE,
+    4 * FROM + 8 * TO + DIGITS,
+    10 * FROM + 15 * TO + NON_BLANK,
+    23 * FROM + 25 * TO + DIGITS_OR_BLANK,
+    27 * FROM + 29 * TO + OFFSET_OF + 23,
+    59 * FROM + 59 * TO + BYTE + 37,
+    60 * FROM + END + FREE,
+];
+
+const CATEGORY: [u64; 8] = [
+    1 * FROM + 3 * TO + FREE,
+    4 * FROM + 6 * TO + FIRST_NOT_BLANK,
+    8 * FROM + 14 * TO + RANGE_END,
+    16 * FROM + 22 * TO + RANGE_END,
+    24 * FROM + 29 * TO + DETAIL_OF + 8,
+    31 * FROM + 36 * TO + DETAIL_OF + 16,
+    59 * FROM + 59 * TO + BYTE + 37,
+    60 * FROM + END + FREE,
+];
+
+const ATTRIBUTE: [u64; 9] = [
+    1 * FROM + 3 * TO + FREE,
+    4 * FROM + 5 * TO + FIRST_NOT_BLANK,
+    7 * FROM + 13 * TO + RANGE_END,
+    15 * FROM + 21 * TO + RANGE_END,
+    23 * FROM + 28 * TO + DIGITS_OR_BLANK,
+    30 * FROM + 35 * TO + DETAIL_OF + 7,
+    37 * FROM + 42 * TO + DETAIL_OF + 15,
+    59 * FROM + 59 * TO + BYTE + 37,
+    60 * FROM + END + FREE,
+];
+
+const CALL: [u64; 9] = [
+    1 * FROM + 7 * TO + DIGITS,
+    9 * FROM + 29 * TO + FREE,
+    30 * FROM + 35 * TO + TIME,
+    37 * FROM + 42 * TO + TIME,
+    44 * FROM + 48 * TO + DIGITS_OR_BLANK,
+    50 * FROM + 55 * TO + NON_BLANK_OR_BLANK,
+    57 * FROM + 57 * TO + BYTE_OR_BLANK + 88,
+    59 * FROM + 59 * TO + BYTE + 37,
+    60 * FROM + END + FREE,
+];
+
+// ---- the kind of a line, by its first bytes
+
+pub fn kind_of(line: &[u8]) -> Kind
+    ensures { λ r. ⌜ r ≡ kindOf (now (line .entry)) ⌝ }
+{
+    let a = columns::column_at(line, 1);
+    let b = columns::column_at(line, 2);
+    let c = columns::column_at(line, 3);
+    match a {
+        42 => starred_kind(b, c),
+        48..=57 => Kind::Schedule,
+        _ => Kind::Other,
+    }
+}
+
+// The kind of a line that starts with a star.
+fn starred_kind(b: u8, c: u8) -> Kind
+    ensures { λ r. ⌜ r ≡ starred b c ⌝ }
+{
+    if c != 32 {
+        return Kind::Other;
+    }
+    match b {
+        90 => Kind::Opening,
+        71 => Kind::Category,
+        65 => Kind::Attribute,
+        _ => Kind::Other,
+    }
+}
+
+// ---- the form of each kind of line
+
+// A date of ECKDATEN.
+pub fn date_form(line: &[u8]) -> Form
+    ensures { λ r. ⌜ r ≡ formOf dateColumns (now (line .entry)) ⌝ }
+{
+    form_of(line, &DATE_LINE)
+}
+
+pub fn bit_field_form(line: &[u8]) -> Form
+    ensures { λ r. ⌜ r ≡ formOf bitFieldColumns (now (line .entry)) ⌝ }
+{
+    form_of(line, &BIT_FIELD)
+}
+
+pub fn stop_form(line: &[u8]) -> Form
+    ensures { λ r. ⌜ r ≡ formOf stopColumns (now (line .entry)) ⌝ }
+{
+    form_of(line, &STOP)
+}
+
+pub fn interchange_form(line: &[u8]) -> Form
+    ensures { λ r. ⌜ r ≡ formOf interchangeColumns (now (line .entry)) ⌝ }
+{
+    form_of(line, &INTERCHANGE)
+}
+
+pub fn service_form(line: &[u8]) -> Form
+    ensures { λ r. ⌜ r ≡ formOf serviceColumns (now (line .entry)) ⌝ }
+{
+    form_of(line, &SERVICE)
+}
+
+pub fn category_form(line: &[u8]) -> Form
+    ensures { λ r. ⌜ r ≡ formOf categoryColumns (now (line .entry)) ⌝ }
+{
+    form_of(line, &CATEGORY)
+}
+
+pub fn attribute_form(line: &[u8]) -> Form
+    ensures { λ r. ⌜ r ≡ formOf attributeColumns (now (line .entry)) ⌝ }
+{
+    form_of(line, &ATTRIBUTE)
+}
+
+pub fn call_form(line: &[u8]) -> Form
+    ensures { λ r. ⌜ r ≡ formOf callColumns (now (line .entry)) ⌝ }
+{
+    form_of(line, &CALL)
+}
+
+// ---- the form that a table says, row by row
+
+fn form_of(line: &[u8], table: &[u64]) -> Form
+    ensures { λ r. ⌜ r ≡ formOf (rowsOf (now (table .entry))) (now (line .entry)) ⌝ }
+{
+    let mut done: usize = 0;
+    let mut i = 0;
+    while i < table.len() {
+        let x = table[i];
+        let r = packed_row(line, done, x);
+        let Form::Fits = r else {
+            return r;
+        };
+        done = row_end(x);
+        i += 1;
+    }
+    unnamed_form(line, done, line.len())
+}
+
+// One row of a table, where the columns up to `done` are done.
+fn packed_row(line: &[u8], done: usize, x: u64) -> Form
+    ensures { λ r. ⌜ r ≡ rowForm done (rowOf x) (now (line .entry)) ⌝ }
+{
+    row_form(
+        line,
+        done,
+        (x / FROM) as usize,
+        row_end(x),
+        (x / RULE % 256) as u32,
+        (x % RULE) as u32,
+    )
+}
+
+// The last column of a row.
+fn row_end(x: u64) -> usize
+    ensures { λ r. ⌜ r ≡ toOf x ⌝ }
+{
+    (x / TO % 4294967296) as usize
+}
+
+// The same with the row taken apart: columns `from` to `to`, rule k with m.
+fn row_form(line: &[u8], done: usize, from: usize, to: usize, k: u32, m: u32) -> Form
+    requires { ⌜ m < 256 ⌝ }
+    ensures { λ r. ⌜ r ≡ rowForm done (record { from = from; to = to; rule = ruleOf k m }) (now (line .entry)) ⌝ }
+{
+    let u = unnamed_form(line, done, less_one(from));
+    let Form::Fits = u else {
+        return u;
+    };
+    if fits_rule(line, from, to, k, m) {
+        return Form::Fits;
+    }
+    Form::Broken(from)
+}
+
+// The columns past column `done` up to column `to` are blank.
+fn unnamed_form(line: &[u8], done: usize, to: usize) -> Form
+    ensures { λ r. ⌜ r ≡ unnamed done to (now (line .entry)) ⌝ }
+{
+    let mut i = done;
+    while i < to {
+        if line.len() <= i {
+            return Form::Fits;
+        }
+        if line[i] != 32 {
+            return Form::Broken(i + 1);
+        }
+        i += 1;
+    }
+    Form::Fits
+}
+
+fn less_one(c: usize) -> usize
+    ensures { λ r. ⌜ r ≡ c - 1 ⌝ }
+{
+    if c < 1 { 0 } else { c - 1 }
+}
+
+// ---- the rules
+
+// Whether columns a to b fit rule k with m.
+fn fits_rule(line: &[u8], a: usize, b: usize, k: u32, m: u32) -> bool
+    requires { ⌜ m < 256 ⌝ }
+    ensures { λ r. ⌜ r ≡ ruleOf k m (now (line .entry)) (C.columns a b (now (line .entry))) ⌝ }
+{
+    match k {
+        0 => true,
+        1 => columns::every_in(line, a, b, Class::Digit),
+        2 => blank_or(line, a, b, Class::Digit),
+        3 => columns::every_in(line, a, b, Class::Hex),
+        4 => !columns::every_in(line, a, b, Class::Byte(32)),
+        5 => first_filled(line, a, b),
+        6 => columns::every_in(line, a, b, Class::Filled),
+        7 => blank_or(line, a, b, Class::Filled),
+        8 => columns::count_in(line, a, b, m),
+        9 => fits_date(line, a, b),
+        10 => is_time(fields::time_in(line, a, b)),
+        11 => is_end(fields::range_end_in(line, a, b)),
+        12 => fits_detail(line, a, b, m),
+        13 => fits_offset(line, a, b, m),
+        14 => blank_or(line, a, b, Class::Byte(m as u8)),
+        _ => columns::every_in(line, a, b, Class::Byte(m as u8)),
+    }
+}
+
+// Whether columns a to b are blank, or every one is of the class.
+fn blank_or(line: &[u8], a: usize, b: usize, class: Class) -> bool
+    ensures { λ r. ⌜ r ≡ (blank (C.columns a b (now (line .entry))) || every (isOf class) (C.columns a b (now (line .entry)))) ⌝ }
+{
+    if columns::every_in(line, a, b, Class::Byte(32)) {
+        return true;
+    }
+    columns::every_in(line, a, b, class)
+}
+
+// Whether the first of the columns is not blank.
+fn first_filled(line: &[u8], a: usize, b: usize) -> bool
+    ensures { λ r. ⌜ r ≡ not (C.isBlank (getD (C.columns a b (now (line .entry))) 0 32)) ⌝ }
+{
+    columns::byte_at(columns::part(line, a, b), 0) != 32
+}
+
+fn fits_date(line: &[u8], a: usize, b: usize) -> bool
+    ensures { λ r. ⌜ r ≡ date (now (line .entry)) (C.columns a b (now (line .entry))) ⌝ }
+{
+    is_date(columns::part(line, a, b))
+}
+
+// DD.MM.YYYY
+fn is_date(p: &[u8]) -> bool
+    ensures { λ r. ⌜ r ≡ date (now (p .entry)) (now (p .entry)) ⌝ }
+{
+    if columns::every_in(p, 1, 2, Class::Digit) {
+        if columns::column_at(p, 3) == 46 {
+            if columns::every_in(p, 4, 5, Class::Digit) {
+                if columns::column_at(p, 6) == 46 {
+                    return columns::every_in(p, 7, 10, Class::Digit);
+                }
+            }
+        }
+    }
+    false
+}
+
+// The detail of the range end in the seven columns from column c.
+fn fits_detail(line: &[u8], a: usize, b: usize, c: u32) -> bool
+    requires { ⌜ c < 256 ⌝ }
+    ensures { λ r. ⌜ r ≡ detailOf c (now (line .entry)) (C.columns a b (now (line .entry))) ⌝ }
+{
+    if is_stop(fields::range_end_in(line, c as usize, (c + 6) as usize)) {
+        return is_detail(fields::detail_in(line, a, b));
+    }
+    true
+}
+
+// The offset beside the repeats in the three columns from column c.
+fn fits_offset(line: &[u8], a: usize, b: usize, c: u32) -> bool
+    requires { ⌜ c < 256 ⌝ }
+    ensures { λ r. ⌜ r ≡ offsetOf c (now (line .entry)) (C.columns a b (now (line .entry))) ⌝ }
+{
+    let from = c as usize;
+    let to = (c + 2) as usize;
+    if columns::every_in(line, from, to, Class::Byte(32)) {
+        return columns::every_in(line, a, b, Class::Byte(32));
+    }
+    if columns::every_in(line, a, b, Class::Digit) {
+        if columns::every_in(line, from, to, Class::Byte(48)) {
+            return true;
+        }
+        return !columns::every_in(line, a, b, Class::Byte(48));
+    }
+    false
+}
+
+fn is_time(t: Time) -> bool
+    ensures { λ r. ⌜ r ≡ isTime t ⌝ }
+{
+    match t {
+        Time::Absent => true,
+        Time::Stated { minutes, barred } => true,
+        Time::NoTime => false,
+    }
+}
+
+fn is_end(e: RangeEnd) -> bool
+    ensures { λ r. ⌜ r ≡ isEnd e ⌝ }
+{
+    match e {
+        RangeEnd::Outer => true,
+        RangeEnd::Index(i) => true,
+        RangeEnd::Stop(n) => true,
+        RangeEnd::NoEnd => false,
+    }
+}
+
+fn is_stop(e: RangeEnd) -> bool
+    ensures { λ r. ⌜ r ≡ isStop e ⌝ }
+{
+    match e {
+        RangeEnd::Outer => false,
+        RangeEnd::Index(i) => false,
+        RangeEnd::Stop(n) => true,
+        RangeEnd::NoEnd => false,
+    }
+}
+
+fn is_detail(d: Detail) -> bool
+    ensures { λ r. ⌜ r ≡ isDetail d ⌝ }
+{
+    match d {
+        Detail::Plain => true,
+        Detail::Nth(k) => true,
+        Detail::Timed(minutes) => true,
+        Detail::NoDetail => false,
+    }
+}

@@ -1,0 +1,30 @@
+use Rattle.base.proofs.Laws.{tests}
+use Rattle.gather.proofs.Whole.{head-written}
+use Rattle.gather.proofs.head_into.Statement.{statement}
+use Rattle.gather.proofs.head_into.Tie as tie
+
+put4-requires : tie.Need-put4-requires
+put4-requires c κs = search tests
+
+add-put4 : tie.Need-add-put4
+add-put4 c = search tests
+
+put4-requires-2 : tie.Need-put4-requires-2
+put4-requires-2 c κs = search tests
+
+add-put3 : tie.Need-add-put3
+add-put3 c = search tests
+
+put3-requires : tie.Need-put3-requires
+put3-requires c κs = search tests
+
+same-length : tie.Need-same-length
+same-length c = search tests
+
+returns : tie.Need-returns
+returns c = search (tests, head-written)
+
+pub head-into-spec : {M : Type 1} → statement M
+head-into-spec =
+    tie.close
+    (tie.spec put4-requires add-put4 put4-requires-2 add-put3 put3-requires same-length returns)

@@ -1,0 +1,175 @@
+-- Laws for those who walk a file by `line_at`: what a cut says of the lines from a place on, how many lines there are, and their numbers.
+-- What holds of a part of a file is in Parts.antt (`lines-parts`, `part-lines`, `LineStart`). Assumes nothing.
+use mathlib.Core.Path.{_≡_, refl, ap, sym, _∙_}
+use mathlib.Core.List.{List, [], _∷_, map}
+use Prim.Native.Nat.{ℕ, zero, suc, _+_, _-_, _≤_, _<_}
+use native.Mathlib.Nat.{add-sub-cancel-left, add-zero}
+use native.Mathlib.Omega.{arith}
+use native.Mathlib.Decide.{decLt}
+use lib.ListN.{length, getD, take, drop, drop-of-length-le, length-drop}
+use lib.Seq.{drop-drop, length-take-le, take-take}
+use borrow.Author.Tests.{lt-ltb, le-ltb}
+use Rattle.lines.specs.Lines.{toLF, pieces, noCR, Line, numbered, linesFrom, linesOf, cutAt}
+use Rattle.lines.specs.declared.Cut.{Cut}
+use Rattle.lines.proofs.Pieces.{toLF-le, pieces-step, pieces-le, noCR-take}
+
+-- ---- the lines of a text, one after the other
+
+pub lines-nil : (n at : ℕ) → linesFrom n at [] ≡ []
+unfolding linesFrom numbered pieces
+lines-nil n at = refl
+
+lines-step : (n at : ℕ) (s : List ℕ) → 0 < length s
+    → linesFrom n at s ≡ record { no = n; start = at; text = noCR (take (toLF s) s) } ∷ linesFrom (n + 1) (at + toLF s + 1) (drop (suc (toLF s)) s)
+unfolding linesFrom numbered
+lines-step n at s h = rw (pieces-step s h, length-take-le (toLF s) s (toLF-le s))
+
+-- ---- what `line_at` answers at a place inside the file: a line that is a part of the file, and the lines after it
+
+pub record Cutting (f : List ℕ) (at n : ℕ) (r : Cut) : Type 0 where
+  pub low : at ≤ r .stop
+  pub high : r .stop ≤ length f
+  pub past : at < r .next
+  pub inside : r .next ≤ length f
+  pub count : r .no ≡ n + 1
+  pub step : linesFrom n at (drop at f) ≡ record { no = n; start = at; text = take (r .stop - at) (drop at f) } ∷ linesFrom (r .no) (r .next) (drop (r .next) f)
+
+module _ (f : List ℕ) (at n : ℕ) (h : at < length f) where
+  abbrev rest : List ℕ
+  rest = drop at f
+
+  abbrev end : ℕ
+  end = at + toLF rest
+
+  abbrev text : List ℕ
+  text = noCR (take (toLF rest) rest)
+
+  end-inside : end ≤ length f
+  end-inside = omega (arith, toLF-le rest, length-drop at f)
+
+  text-le : length text ≤ toLF rest
+  text-le = rw (length-take-le (toLF rest) rest (toLF-le rest)) at (noCR-take (take (toLF rest) rest) .1)
+
+  -- the text is a part of the file
+  text-is : text ≡ take (at + length text - at) rest
+  text-is = noCR-take (take (toLF rest) rest) .0 ∙ take-take (length text) (toLF rest) rest text-le ∙ rw add-sub-cancel-left refl
+
+  first : linesFrom n at rest ≡ record { no = n; start = at; text = take (at + length text - at) rest } ∷ linesFrom (n + 1) (end + 1) (drop (suc (toLF rest)) rest)
+  first = lines-step n at rest (simp length-drop (omega arith)) ∙ rw (← text-is) refl
+
+  with-LF : end < length f → Cutting f at n (cutAt f at n)
+  unfolding cutAt
+  with-LF k =
+      let e : at + suc (toLF rest) ≡ end + 1 = omega arith in
+      rw (lt-ltb end (length f) k) (record {
+        low = omega arith;
+        high = omega (arith, text-le, end-inside);
+        past = omega arith;
+        inside = omega arith;
+        count = refl;
+        step = first ∙ rw (drop-drop (suc (toLF rest)) at f, e) refl;
+      })
+
+  without-LF : length f ≤ end → Cutting f at n (cutAt f at n)
+  unfolding cutAt
+  without-LF k = rw (le-ltb end (length f) k) (record {
+    low = omega arith;
+    high = omega (arith, text-le, end-inside);
+    past = omega arith;
+    inside = end-inside;
+    count = refl;
+    step = first ∙ rw (drop-drop (suc (toLF rest)) at f, drop-of-length-le f k, drop-of-length-le f {i = at + suc (toLF rest)} (omega arith), lines-nil (n + 1) (end + 1), lines-nil (n + 1) end) refl;
+  })
+
+  cut-here : Cutting f at n (cutAt f at n)
+  cut-here = elim (decLt end (length f)) [ yes k ↦ with-LF k | no k ↦ without-LF (omega arith) ]
+
+pub cutting : (f : List ℕ) (at n : ℕ) (r : Cut) → at < length f → r ≡ cutAt f at n → Cutting f at n r
+cutting f at n r h e = rw e (cut-here f at n h)
+
+-- each fact by itself, for `search`
+module _ (f : List ℕ) (at n : ℕ) (r : Cut) (h : at < length f) (e : r ≡ cutAt f at n) where
+  pub cut-low : at ≤ r .stop
+  cut-low = cutting f at n r h e .low
+
+  pub cut-high : r .stop ≤ length f
+  cut-high = cutting f at n r h e .high
+
+  pub cut-past : at < r .next
+  cut-past = cutting f at n r h e .past
+
+  pub cut-inside : r .next ≤ length f
+  cut-inside = cutting f at n r h e .inside
+
+  pub cut-count : r .no ≡ n + 1
+  cut-count = cutting f at n r h e .count
+
+  pub cut-step : linesFrom n at (drop at f) ≡ record { no = n; start = at; text = take (r .stop - at) (drop at f) } ∷ linesFrom (r .no) (r .next) (drop (r .next) f)
+  cut-step = cutting f at n r h e .step
+
+  -- the measure of a walk falls
+  pub cut-less : length f - r .next < length f - at
+  cut-less = omega (arith, cutting f at n r h e)
+
+  -- a line takes at least one byte: the number never runs ahead of the place
+  pub cut-number : n ≤ at + 1 → r .no ≤ r .next + 1
+  cut-number v = omega (arith, cutting f at n r h e)
+
+  -- so with a count of lines, with this one or without it
+  pub cut-grows : (k : ℕ) → k ≤ at → k + 1 ≤ r .next
+  cut-grows k v = omega (arith, cutting f at n r h e)
+
+  pub cut-keeps : (k : ℕ) → k ≤ at → k ≤ r .next
+  cut-keeps k v = omega (arith, cutting f at n r h e)
+
+-- for a loop's `search`, beside `tests` and the laws of its own, which cite `cutting`
+pub ruleset walk = (cut-low, cut-high, cut-past, cut-inside, cut-less, cut-number, cut-grows, cut-keeps)
+
+-- past the end there are no lines
+pub lines-none : (f : List ℕ) (at n : ℕ) → length f ≤ at → linesFrom n at (drop at f) ≡ []
+lines-none f at n h = rw (drop-of-length-le f h) (lines-nil n at)
+
+-- ---- how many lines, and their numbers
+
+length-numbered : (n at : ℕ) (ps : List (List ℕ)) → length (numbered n at ps) ≡ length ps
+unfolding numbered
+length-numbered n at [] = refl
+length-numbered n at (p ∷ ps) = ap suc (length-numbered (n + 1) (at + length p + 1) ps)
+
+-- the count of lines depends on the text alone
+pub length-lines : (n at : ℕ) (s : List ℕ) → length (linesFrom n at s) ≡ length (pieces s)
+unfolding linesFrom
+length-lines n at s = length-numbered n at (pieces s)
+
+-- no more lines than bytes
+pub lines-le : (n at : ℕ) (s : List ℕ) → length (linesFrom n at s) ≤ length s
+lines-le n at s = rw (length-lines n at s) (pieces-le s)
+
+number-of : (n at : ℕ) (ps : List (List ℕ)) (k : ℕ) (d : Line) → k < length (numbered n at ps) → getD (numbered n at ps) k d .no ≡ n + k
+unfolding numbered
+number-of n at [] k d h = absurd (omega arith)
+number-of n at (p ∷ ps) zero d h = sym (add-zero n)
+number-of n at (p ∷ ps) (suc k) d h = number-of (n + 1) (at + length p + 1) ps k d (omega arith) ∙ omega arith
+
+pub line-number-from : (n at : ℕ) (s : List ℕ) (k : ℕ) (d : Line) → k < length (linesFrom n at s) → getD (linesFrom n at s) k d .no ≡ n + k
+unfolding linesFrom
+line-number-from n at s k d h = number-of n at (pieces s) k d h
+
+-- "Lines count from 1."
+pub line-number : (f : List ℕ) (k : ℕ) (d : Line) → k < length (linesOf f) → getD (linesOf f) k d .no ≡ k + 1
+line-number f k d h = line-number-from 1 0 f k d h ∙ omega arith
+
+-- ---- numbers and texts do not depend on the place where the text starts
+
+-- the line with its place forgotten
+abbrev pub unplaced : Line → Line
+unplaced l = record { no = l .no; start = 0; text = l .text }
+
+unplaced-pieces : (n at bt : ℕ) (ps : List (List ℕ)) → map unplaced (numbered n at ps) ≡ map unplaced (numbered n bt ps)
+unfolding numbered
+unplaced-pieces n at bt [] = refl
+unplaced-pieces n at bt (p ∷ ps) = ap (λ (ls : List Line). record { no = n; start = 0; text = noCR p } ∷ ls) (unplaced-pieces (n + 1) (at + length p + 1) (bt + length p + 1) ps)
+
+pub text-start : (n at bt : ℕ) (s : List ℕ) → map unplaced (linesFrom n at s) ≡ map unplaced (linesFrom n bt s)
+unfolding linesFrom
+text-start n at bt s = unplaced-pieces n at bt (pieces s)

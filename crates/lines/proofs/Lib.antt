@@ -1,0 +1,4 @@
+pub mod Pieces
+pub mod Laws
+pub mod Parts
+pub mod Examples

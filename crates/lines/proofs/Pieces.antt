@@ -1,0 +1,160 @@
+-- The first LF of a text, the piece before it and the pieces after it, and the needs of the functions of src. Assumes nothing.
+use mathlib.Core.Path.{_≡_, refl, ap, sym, _∙_}
+use mathlib.Core.List.{List, [], _∷_}
+use mathlib.Core.Bool.{Bool, true, false, cond}
+use Prim.Native.Nat.{ℕ, suc, _+_, _-_, _≤_, _<_}
+use native.Mathlib.Numerals.{add-one}
+use native.Mathlib.Omega.{arith}
+use lib.ListN.{length, getD, take, drop, drop-of-length-le, length-drop}
+use lib.Seq.{drop-cons, getD-drop, getD-take, length-take-le, take-all}
+use lib.Dec.{eqb, lit≤}
+use borrow.Author.Tests.{eq-eqb, ne-eqb, eqb-true}
+use Rattle.base.proofs.Laws.{tests}
+use Rattle.base.specs.Lists.{every}
+use Rattle.columns.specs.Columns.{column, padTo, isOf}
+use Rattle.columns.specs.declared.Class.the-variants.{Byte}
+use Rattle.columns.proofs.Laws.{pad-length}
+use Rattle.lines.specs.Lines.{toLF, startWith, pieces, noCR, pastLF, cutAt, skipped}
+use Rattle.lines.specs.declared.Cut.{Cut}
+
+-- ---- the first LF
+
+toLF-here : (f : List ℕ) (i : ℕ) → i < length f → getD f i 0 ≡ 10 → toLF (drop i f) ≡ 0
+unfolding toLF
+toLF-here f i h e = rw (drop-cons f i 0, eq-eqb _ _ e)
+
+toLF-next : (f : List ℕ) (i : ℕ) → i < length f → (getD f i 0 ≡ 10 → ⊥) → toLF (drop i f) ≡ suc (toLF (drop (i + 1) f))
+unfolding toLF
+toLF-next f i h n = rw (drop-cons f i 0, ne-eqb _ _ n, add-one)
+
+toLF-end : (f : List ℕ) (i : ℕ) → length f ≤ i → toLF (drop i f) ≡ 0
+unfolding toLF
+toLF-end f i h = rw (drop-of-length-le f h)
+
+pub toLF-le : (s : List ℕ) → toLF s ≤ length s
+unfolding toLF
+toLF-le [] = lit≤ tt
+toLF-le (b ∷ s) = go (eqb b 10) (toLF s) (toLF-le s)
+  where
+    go : (t : Bool) (n : ℕ) → n ≤ length s → cond t 0 (suc n) ≤ suc (length s)
+    go true n h = omega arith
+    go false n h = omega arith
+
+-- the byte there is an LF
+pub toLF-is : (s : List ℕ) → toLF s < length s → getD s (toLF s) 0 ≡ 10
+unfolding toLF
+toLF-is [] h = absurd (omega arith)
+toLF-is (b ∷ s) h = go (eqb b 10) refl h (toLF-is s)
+  where
+    go : (t : Bool) → eqb b 10 ≡ t → cond t 0 (suc (toLF s)) < suc (length s) → (toLF s < length s → getD s (toLF s) 0 ≡ 10) → getD (b ∷ s) (cond t 0 (suc (toLF s))) 0 ≡ 10
+    go true e l ih = eqb-true b 10 e
+    go false e l ih = ih (omega arith)
+
+-- ---- the first piece, and the rest
+
+pub pieces-step : (s : List ℕ) → 0 < length s → pieces s ≡ take (toLF s) s ∷ pieces (drop (suc (toLF s)) s)
+unfolding toLF pieces startWith
+pieces-step [] h = absurd (omega arith)
+pieces-step (b ∷ []) h = go (eqb b 10)
+  where
+    go : (t : Bool) → cond t ([] ∷ pieces []) (startWith b (pieces [])) ≡ take (cond t 0 1) (b ∷ []) ∷ pieces (drop (suc (cond t 0 1)) (b ∷ []))
+    go true = refl
+    go false = refl
+pieces-step (b ∷ c ∷ s) h = go (eqb b 10) (pieces-step (c ∷ s) (omega arith))
+  where
+    go : (t : Bool) → pieces (c ∷ s) ≡ take (toLF (c ∷ s)) (c ∷ s) ∷ pieces (drop (suc (toLF (c ∷ s))) (c ∷ s))
+        → cond t ([] ∷ pieces (c ∷ s)) (startWith b (pieces (c ∷ s)))
+        ≡ take (cond t 0 (suc (toLF (c ∷ s)))) (b ∷ c ∷ s) ∷ pieces (drop (suc (cond t 0 (suc (toLF (c ∷ s))))) (b ∷ c ∷ s))
+    go true e = refl
+    go false e = ap (startWith b) e
+
+-- no more pieces than bytes
+start-le : (b : ℕ) (ps : List (List ℕ)) (n : ℕ) → length ps ≤ n → length (startWith b ps) ≤ suc n
+unfolding startWith
+start-le b [] n h = omega arith
+start-le b (p ∷ ps) n h = omega arith
+
+pub pieces-le : (s : List ℕ) → length (pieces s) ≤ length s
+unfolding pieces
+pieces-le [] = omega arith
+pieces-le (b ∷ s) = go (eqb b 10) (pieces-le s)
+  where
+    go : (t : Bool) → length (pieces s) ≤ length s → length (cond t ([] ∷ pieces s) (startWith b (pieces s))) ≤ suc (length s)
+    go true h = omega arith
+    go false h = start-le b (pieces s) (length s) h
+
+-- ---- the CR
+
+-- a piece without its CR is a beginning of it
+pub noCR-take : (p : List ℕ) → (noCR p ≡ take (length (noCR p)) p) × (length (noCR p) ≤ length p)
+unfolding noCR
+noCR-take p = go (eqb (getD p (length p - 1) 0) 13)
+  where
+    go : (t : Bool) → (cond t (take (length p - 1) p) p ≡ take (length (cond t (take (length p - 1) p) p)) p) × (length (cond t (take (length p - 1) p) p) ≤ length p)
+    go true = let e : length (take (length p - 1) p) ≡ length p - 1 = length-take-le (length p - 1) p (omega arith) in (rw e refl, omega arith)
+    go false = (sym (take-all (length p) p (omega arith)), omega arith)
+
+-- ---- the needs of `piece_end`, `before_cr` and `line_at`, for `search cuts`
+
+module _ (f : List ℕ) (i n : ℕ) where
+  pub end-again : i < length f → (getD f i 0 ≡ 10 → ⊥) → i + toLF (drop i f) ≡ n → i + 1 + toLF (drop (i + 1) f) ≡ n
+  end-again h t v = omega (arith, toLF-next f i h t)
+
+  pub end-out : i < length f → getD f i 0 ≡ 10 → i + toLF (drop i f) ≡ n → i ≡ n
+  end-out h t v = omega (arith, toLF-here f i h t)
+
+  pub end-done : length f ≤ i → i + toLF (drop i f) ≡ n → i ≡ n
+  end-done h v = omega (arith, toLF-end f i h)
+
+module _ (f : List ℕ) (at end : ℕ) where
+  -- the piece from `at` to `end`, and its last byte
+  piece-length : end ≤ length f → length (take (end - at) (drop at f)) ≡ end - at
+  piece-length h = length-take-le (end - at) (drop at f) (simp length-drop (omega arith))
+
+  piece-last : at < end → end ≤ length f → getD (take (end - at) (drop at f)) (length (take (end - at) (drop at f)) - 1) 0 ≡ getD f (end - 1) 0
+  piece-last l h =
+      let e : at + (end - at - 1) ≡ end - 1 = omega arith in
+      rw (piece-length h, getD-take (end - at) (drop at f) (end - at - 1) 0 (omega arith), getD-drop at f (end - at - 1) 0, e)
+
+  pub cr-dropped : at < end → end ≤ length f → getD f (end - 1) 0 ≡ 13 → end - 1 ≡ at + length (noCR (take (end - at) (drop at f)))
+  unfolding noCR
+  cr-dropped l h e =
+      let p : List ℕ = take (end - at) (drop at f) in
+      rw (eq-eqb _ 13 (piece-last l h ∙ e), length-take-le (length p - 1) p (omega arith), piece-length h) (omega arith)
+
+  pub cr-none : at < end → end ≤ length f → (getD f (end - 1) 0 ≡ 13 → ⊥) → end ≡ at + length (noCR (take (end - at) (drop at f)))
+  unfolding noCR
+  cr-none l h n = rw (piece-last l h, ne-eqb _ 13 n, piece-length h) (omega arith)
+
+  pub cr-empty : at ≤ end → end ≤ at → end ≡ at + length (noCR (take (end - at) (drop at f)))
+  unfolding noCR
+  cr-empty l h = let e : end - at ≡ 0 = omega arith in rw e (omega arith)
+
+module _ (f : List ℕ) (at end : ℕ) (e : end ≡ at + toLF (drop at f)) where
+  pub end-low : at ≤ end
+  end-low = omega arith
+
+  pub end-high : at ≤ length f → end ≤ length f
+  end-high h = omega (arith, toLF-le (drop at f), length-drop at f)
+
+  pub cut-is : (stop next n : ℕ) → stop ≡ at + length (noCR (take (end - at) (drop at f))) → next ≡ pastLF f end
+      → _≡_ {A = Cut} (record { stop = stop; next = next; no = n + 1 }) (cutAt f at n)
+  unfolding cutAt
+  cut-is stop next n s x =
+      let d : end - at ≡ toLF (drop at f) = omega arith in
+      rw (s, x, d, e)
+
+pub ruleset cuts = (tests, end-again, end-out, end-done, cr-dropped, cr-none, cr-empty, end-low, end-high, cut-is)
+
+-- ---- the needs of `skips`, for `search skipping`: b is column 1
+
+module _ (line : List ℕ) (b : ℕ) (e : b ≡ column 1 line) where
+  pub skip-percent : b ≡ 37 → true ≡ skipped line
+  unfolding skipped
+  skip-percent t = rw (← e, eq-eqb b 37 t)
+
+  pub skip-blank : (r : Bool) → (b ≡ 37 → ⊥) → r ≡ every (isOf (Byte 32)) (padTo (length line) line) → r ≡ skipped line
+  unfolding skipped
+  skip-blank r t d = rw (← e, ne-eqb b 37 t) (d ∙ ap (every (isOf (Byte 32))) (pad-length line))
+
+pub ruleset skipping = (tests, skip-percent, skip-blank)

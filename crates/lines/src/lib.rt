@@ -1,0 +1,75 @@
+// Walks a file line by line, by place and line number, without copying: a line is the part of its file from a place to a stop.
+ghost use mathlib.Core.Path.{_≡_};
+ghost use Prim.Native.Nat.{_+_, _-_, _≤_, _<_};
+ghost use lib.ListN.{length, take, drop};
+ghost use Rattle.lines.specs.Lines.{noCR, toLF, pastLF, cutAt, skipped};
+use columns::Class;
+
+// The line that starts at a known place: where its text stops, where the next line starts, and the next line's number.
+pub struct Cut {
+    pub stop: usize,
+    pub next: usize,
+    pub no: u32,
+}
+
+// The line with number `no` that starts at `at`.
+pub fn line_at(file: &[u8], at: usize, no: u32) -> Cut
+    requires { ⌜ at ≤ length (now file) ⌝ }
+    requires { ⌜ no < 4294967295 ⌝ }
+    ensures { λ r. ⌜ r ≡ cutAt (now (file .entry)) at no ⌝ }
+{
+    let end = piece_end(file, at);
+    let stop = before_cr(file, at, end);
+    let next = past_lf(file, end);
+    Cut {
+        stop,
+        next,
+        no: no + 1,
+    }
+}
+
+// Whether a line is skipped: all blank, or "%" in column 1.
+pub fn skips(line: &[u8]) -> bool
+    ensures { λ r. ⌜ r ≡ skipped (now (line .entry)) ⌝ }
+{
+    if columns::column_at(line, 1) == 37 {
+        return true;
+    }
+    columns::every_of(line, line.len(), Class::Byte(32))
+}
+
+// The place of the first LF at or after `at`, or the file's length.
+fn piece_end(file: &[u8], at: usize) -> usize
+    requires { ⌜ at ≤ length (now file) ⌝ }
+    ensures { λ r. ⌜ r ≡ at + toLF (drop at (now (file .entry))) ⌝ }
+{
+    let mut i = at;
+    while i < file.len() {
+        if file[i] == 10 {
+            return i;
+        }
+        i += 1;
+    }
+    i
+}
+
+// The end of the line whose piece is `at` to `end`: before one CR.
+fn before_cr(file: &[u8], at: usize, end: usize) -> usize
+    requires { ⌜ at ≤ end ⌝ }
+    requires { ⌜ end ≤ length (now file) ⌝ }
+    ensures { λ r. ⌜ r ≡ at + length (noCR (take (end - at) (drop at (now (file .entry))))) ⌝ }
+{
+    if at < end {
+        if file[end - 1] == 13 {
+            return end - 1;
+        }
+    }
+    end
+}
+
+// The place after the LF at `end`, if there is one.
+fn past_lf(file: &[u8], end: usize) -> usize
+    ensures { λ r. ⌜ r ≡ pastLF (now (file .entry)) end ⌝ }
+{
+    if end < file.len() { end + 1 } else { end }
+}

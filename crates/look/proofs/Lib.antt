@@ -1,0 +1,4 @@
+pub mod Search
+pub mod Sections
+pub mod Services
+pub mod Dates

@@ -1,0 +1,76 @@
+-- `plan_words::put_services` meets its contract: at every service, what is left to be written ends as what was to be written. Assumes nothing.
+use mathlib.Core.Path.{_≡_}
+use mathlib.Core.Bool.{true}
+use Prim.Native.Nat.{_+_, _-_}
+use lib.ListN.{length}
+use Rattle.words.specs.Words.{write}
+use Rattle.timetable.specs.Service.{blocks}
+use Rattle.blocks.specs.Blocks.{linesAt, Boundary}
+use Rattle.plan_words.specs.Services.{blockWords, fewCalls}
+use Rattle.plan_words.proofs.Laws.{putting}
+use Rattle.plan_words.proofs.put_services.Statement.{statement}
+use Rattle.plan_words.proofs.put_services.Tie as tie
+
+abbrev Inv-loop : tie.InvT-loop
+Inv-loop f start first t₀ q at₀ no₀ to₀ t at no' to =
+    (length t ≡ length t₀) × Boundary f at no' × (fewCalls (blocks (linesAt f at no')) ≡ true)
+    × (to + length (blockWords (blocks (linesAt f at no'))) ≡ q + length (blockWords (blocks (linesAt f start first))))
+    × (write t to (blockWords (blocks (linesAt f at no'))) ≡ write t₀ q (blockWords (blocks (linesAt f start first))))
+
+abbrev μ-loop : tie.MeasureT-loop
+μ-loop f start first t₀ q at₀ no₀ to₀ t at no' to = length f - at
+
+loop-holds : tie.Need-loop-holds Inv-loop μ-loop
+loop-holds c = search putting
+
+block-end-requires : tie.Need-block-end-requires Inv-loop μ-loop
+block-end-requires c κs = search putting
+
+sub-service-into : tie.Need-sub-service-into Inv-loop μ-loop
+sub-service-into c = search putting
+
+part-service-into-start : tie.Need-part-service-into-start Inv-loop μ-loop
+part-service-into-start c = search putting
+
+part-service-into-end : tie.Need-part-service-into-end Inv-loop μ-loop
+part-service-into-end c = search putting
+
+service-into-requires : tie.Need-service-into-requires Inv-loop μ-loop
+service-into-requires c κs = ((search putting, search putting, search putting), (search putting, (search putting, search putting)))
+
+cast-to : tie.Need-cast-to Inv-loop μ-loop
+cast-to c = search putting
+
+add-to : tie.Need-add-to Inv-loop μ-loop
+add-to c = search putting
+
+loop-less : tie.Need-loop-less Inv-loop μ-loop
+loop-less c = search putting
+
+loop-again : tie.Need-loop-again Inv-loop μ-loop
+loop-again c = search putting
+
+same-length : tie.Need-same-length Inv-loop μ-loop
+same-length c = search putting
+
+returns : tie.Need-returns Inv-loop μ-loop
+returns c = search putting
+
+pub put-services-spec : {M : Type 1} → statement M
+put-services-spec =
+    tie.close
+    (tie.spec
+    Inv-loop
+    μ-loop
+    loop-holds
+    block-end-requires
+    sub-service-into
+    part-service-into-start
+    part-service-into-end
+    service-into-requires
+    cast-to
+    add-to
+    loop-less
+    loop-again
+    same-length
+    returns)

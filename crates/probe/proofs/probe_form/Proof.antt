@@ -1,0 +1,15 @@
+use Rattle.base.proofs.Laws.{tests}
+use Rattle.probe.proofs.probe_form.Statement.{statement}
+use Rattle.probe.proofs.probe_form.Tie as tie
+
+form-of-kind-requires : tie.Need-form-of-kind-requires
+form-of-kind-requires c κs = search tests
+
+flat-form-requires : tie.Need-flat-form-requires
+flat-form-requires c κs = search tests
+
+returns : tie.Need-returns
+returns c = cc
+
+pub probe-form-spec : {M : Type 1} → statement M
+probe-form-spec = tie.close (tie.spec form-of-kind-requires flat-form-requires returns)

@@ -1,0 +1,113 @@
+-- The needs of the questions, a ruleset for each: `days`, `interchanges`. Assumes nothing.
+use mathlib.Core.Path.{_≡_, _∙_, sym}
+use mathlib.Core.List.{List}
+use mathlib.Core.Bool.{Bool, true, false, cond, not, _&&_}
+use Prim.Native.Nat.{ℕ, _≤_, _<_}
+use native.Mathlib.Omega.{arith}
+use lib.ListN.{getD}
+use lib.Dec.{leb}
+use borrow.Author.Tests.{not-true, not-false, le-leb, lt-leb}
+use Rattle.base.proofs.Laws.{tests}
+use Rattle.bitfield.specs.BitField.{runsOn}
+use Rattle.timetable.specs.Files.{hasStop}
+use Rattle.timetable.specs.Checks.{fieldKnown, fieldRuns}
+use Rattle.timetable.specs.Table.{used, tableOf, isTable}
+use Rattle.timetable.specs.Questions.{dated, dayBy, dayAsked, interchangeAtStop, interchangeAsked}
+use Rattle.timetable.specs.declared.DayAnswer.{DayAnswer}
+use Rattle.timetable.specs.declared.DayAnswer.the-variants.{Runs, Idle, Refused as DayRefused}
+use Rattle.timetable.specs.declared.InterchangeAnswer.the-variants.{Minutes, Refused as InterchangeRefused}
+use Rattle.table.specs.Whole.{Whole}
+use Rattle.table.proofs.Whole.{used-whole, used-word, used-same, whole-says}
+use Rattle.look.specs.Look.{timesOf, datedAsked}
+use Rattle.look.specs.declared.PeriodDay.{PeriodDay}
+use Rattle.look.specs.declared.PeriodDay.the-variants.{On, Refused}
+use Rattle.look.specs.declared.Times.{Times}
+use Rattle.look.proofs.Dates.{asDated, by-dated, dated-table, dated-day}
+
+-- ---- day k of a whole table; known and ws are what the look-up of bit field b gave
+
+pub day-below : (w : List ℕ) (k : ℕ) → Whole w → k < getD w 2 0 → k < 380
+day-below w k h l = omega (arith, whole-says w h .days-high)
+
+module _ (w : List ℕ) (b k : ℕ) (known : Bool) (e : known ≡ fieldKnown b (tableOf w .fields)) where
+  pub day-unknown : not known ≡ true → DayRefused 28 ≡ dayBy (tableOf w) b (dated k)
+  day-unknown n = rw (sym e ∙ not-true known n)
+
+  module _ (n : not known ≡ false) (h : Whole w) (l : k < getD w 2 0) (ws : List ℕ) (f : (d : ℕ) → d < 380 → runsOn ws d ≡ fieldRuns (tableOf w .fields) b d) (x : Bool) (g : x ≡ runsOn ws k) where
+    runs-is : fieldRuns (tableOf w .fields) b k ≡ x
+    runs-is = sym (g ∙ f k (day-below w k h l))
+
+    pub day-runs : x ≡ true → Runs ≡ dayBy (tableOf w) b (dated k)
+    day-runs t = rw (sym e ∙ not-false known n, runs-is, t)
+
+    pub day-idle : x ≡ false → Idle ≡ dayBy (tableOf w) b (dated k)
+    day-idle t = rw (sym e ∙ not-false known n, runs-is, t)
+
+-- ---- a date; x is the day that it is
+
+module _ (w : List ℕ) (day month year : ℕ) (x : PeriodDay) (e : x ≡ datedAsked w day month year) where
+  asked : (b : ℕ) → dayAsked w day month year b ≡ dayBy (tableOf w) b (asDated x)
+  unfolding dayAsked
+  asked b = by-dated (dayBy (tableOf w) b) w day month year ∙ rw e
+
+  pub day-refused : (b number : ℕ) → x ≡ Refused number → DayRefused number ≡ dayAsked w day month year b
+  day-refused b number g = sym (asked b ∙ rw g)
+
+  module _ (k : ℕ) (g : x ≡ On k) where
+    pub day-table : isTable w ≡ true
+    day-table = dated-table w day month year k x e g
+
+    module _ (u : List ℕ) (p : u ≡ used w) where
+      pub day-whole : Whole u
+      day-whole = rw p (used-whole w day-table)
+
+      pub day-within : k < getD u 2 0
+      day-within = rw (p, used-word w day-table 2 (omega arith)) (dated-day w day month year k x e g)
+
+      pub day-on : (b : ℕ) (r : DayAnswer) → r ≡ dayBy (tableOf u) b (dated k) → r ≡ dayAsked w day month year b
+      day-on b r f = f ∙ sym (asked b ∙ rw (g, p, used-same w day-table))
+
+pub ruleset days = (tests, day-below, day-unknown, day-runs, day-idle, day-refused, day-table, day-whole, day-within, day-on)
+
+-- ---- an interchange; x says whether the words are a table, y whether the classes are known, z whether the stop is
+
+module _ (a b : ℕ) (times : Times) where
+  pub second-first : 1 < a → times .second ≡ cond (leb a 1 && leb b 1) (times .first) (times .second)
+  second-first h = rw (lt-leb a 1 h)
+
+  pub second-second : a ≤ 1 → 1 < b → times .second ≡ cond (leb a 1 && leb b 1) (times .first) (times .second)
+  second-second g h = rw (le-leb a 1 g, lt-leb b 1 h)
+
+  pub both-first : a ≤ 1 → b ≤ 1 → times .first ≡ cond (leb a 1 && leb b 1) (times .first) (times .second)
+  both-first g h = rw (le-leb a 1 g, le-leb b 1 h)
+
+module _ (w : List ℕ) (stop a b : ℕ) (x : Bool) (e : x ≡ isTable w) where
+  pub interchange-no-table : not x ≡ true → InterchangeRefused 21 ≡ interchangeAsked w stop a b
+  unfolding interchangeAsked
+  interchange-no-table n = rw (sym e ∙ not-true x n)
+
+  module _ (n : not x ≡ false) (y : Bool) (f : y ≡ (leb a 13 && leb b 13)) where
+    pub interchange-class : not y ≡ true → InterchangeRefused 26 ≡ interchangeAsked w stop a b
+    unfolding interchangeAsked
+    interchange-class m = rw (sym e ∙ not-false x n, sym f ∙ not-true y m)
+
+    module _ (m : not y ≡ false) (u : List ℕ) (p : u ≡ used w) (z : Bool) (g : z ≡ hasStop stop (tableOf u .stops)) where
+      stop-is : hasStop stop (tableOf w .stops) ≡ z
+      stop-is = sym (g ∙ rw (p, used-same w (sym e ∙ not-false x n)))
+
+      pub interchange-unknown : not z ≡ true → InterchangeRefused 27 ≡ interchangeAsked w stop a b
+      unfolding interchangeAsked
+      interchange-unknown o = rw (sym e ∙ not-false x n, sym f ∙ not-false y m, stop-is, not-true z o)
+
+      pub interchange-minutes : not z ≡ false → (t : Times) → t ≡ timesOf (interchangeAtStop (tableOf u) stop) → (r : ℕ) → r ≡ cond (leb a 1 && leb b 1) (t .first) (t .second) → Minutes r ≡ interchangeAsked w stop a b
+      unfolding interchangeAsked
+      interchange-minutes o t i r j = rw (sym e ∙ not-false x n, sym f ∙ not-false y m, stop-is, not-false z o, j, i, p, used-same w (sym e ∙ not-false x n))
+
+module _ (w : List ℕ) (x : Bool) (e : x ≡ isTable w) (n : not x ≡ false) where
+  pub interchange-table : isTable w ≡ true
+  interchange-table = sym e ∙ not-false x n
+
+  pub interchange-whole : (u : List ℕ) → u ≡ used w → Whole u
+  interchange-whole u p = rw p (used-whole w interchange-table)
+
+pub ruleset interchanges = (tests, second-first, second-second, both-first, interchange-no-table, interchange-class, interchange-unknown, interchange-minutes, interchange-table, interchange-whole)

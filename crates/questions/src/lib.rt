@@ -1,0 +1,83 @@
+// The questions on any words that go by no service: whether a bit field runs on a date, and how long an interchange takes.
+use look::PeriodDay;
+use look::Times;
+use timetable::DayAnswer;
+use timetable::InterchangeAnswer;
+ghost use mathlib.Core.Path.{_≡_};
+ghost use mathlib.Core.Bool.{cond, _&&_};
+ghost use Prim.Native.Nat.{_<_};
+ghost use lib.Dec.{leb};
+ghost use Rattle.timetable.specs.Table.{word, tableOf};
+ghost use Rattle.timetable.specs.Questions.{dated, dayBy, dayAsked, interchangeAsked};
+ghost use Rattle.table.specs.Whole.{Whole};
+
+// The highest class of a service.
+const LAST_CLASS: u32 = 13;
+
+// Two services of classes up to this one take the first time.
+const FIRST_TIME_CLASS: u32 = 1;
+
+// Whether a bit field runs on a date: 21 to 23, 28 no such bit field.
+pub fn day(w: &[u32], day: u32, month: u32, year: u32, field: u32) -> DayAnswer
+    ensures { λ r. ⌜ r ≡ dayAsked (now (w .entry)) day month year field ⌝ }
+{
+    let on = look::dated(w, day, month, year);
+    match on {
+        PeriodDay::Refused(number) => DayAnswer::Refused(number),
+        PeriodDay::On(k) => field_day(table::used_words(w), field, k),
+    }
+}
+
+// Whether a bit field runs on day k of the period.
+fn field_day(w: &[u32], field: u32, k: u32) -> DayAnswer
+    requires { ⌜ Whole (now w) × (k < word (now w) 2) ⌝ }
+    ensures { λ r. ⌜ r ≡ dayBy (tableOf (now (w .entry))) field (dated k) ⌝ }
+{
+    let f = look::field_words(w, field);
+    if !f.known {
+        return DayAnswer::Refused(28);
+    }
+    if look::field_runs(f, k) {
+        return DayAnswer::Runs;
+    }
+    DayAnswer::Idle
+}
+
+// The minutes of an interchange between services of two classes: 21, 26 class over 13, 27 stop unknown.
+pub fn interchange(w: &[u32], stop: u32, a: u32, b: u32) -> InterchangeAnswer
+    ensures { λ r. ⌜ r ≡ interchangeAsked (now (w .entry)) stop a b ⌝ }
+{
+    if !table::is_table(w) {
+        return InterchangeAnswer::Refused(21);
+    }
+    let u = table::used_words(w);
+    if !classes_known(a, b) {
+        return InterchangeAnswer::Refused(26);
+    }
+    if !look::stop_known(u, stop) {
+        return InterchangeAnswer::Refused(27);
+    }
+    InterchangeAnswer::Minutes(minutes(look::interchange_at(u, stop), a, b))
+}
+
+fn classes_known(a: u32, b: u32) -> bool
+    ensures { λ r. ⌜ r ≡ (leb a 13 && leb b 13) ⌝ }
+{
+    if LAST_CLASS < a {
+        return false;
+    }
+    b <= LAST_CLASS
+}
+
+// The time for two classes.
+fn minutes(times: Times, a: u32, b: u32) -> u32
+    ensures { λ r. ⌜ r ≡ cond (leb a 1 && leb b 1) (times .first) (times .second) ⌝ }
+{
+    if FIRST_TIME_CLASS < a {
+        return times.second;
+    }
+    if FIRST_TIME_CLASS < b {
+        return times.second;
+    }
+    times.first
+}

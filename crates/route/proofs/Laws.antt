@@ -1,0 +1,160 @@
+-- Places of calls on a route: what a turn of each search does, and what a range's end comes to. Assumes nothing.
+use mathlib.Core.Path.{_≡_, refl, sym, ap, _∙_}
+use mathlib.Core.List.{List, [], _∷_, _++_, append-nil}
+use mathlib.Core.Bool.{Bool, true, false, cond}
+use mathlib.Core.Option.{Option, some}
+use Prim.Native.Nat.{ℕ, zero, suc, _+_, _-_, _*_, _<_, _≤_}
+use native.Mathlib.Nat.{add-zero, sub-zero, zero-add}
+use native.Mathlib.Omega.{arith}
+use lib.ListN.{length, getD, getElem?, drop}
+use lib.Seq.{getD-drop}
+use lib.Dec.{eqb}
+use Rattle.base.proofs.Laws.{tests}
+use Rattle.timetable.specs.Ranges.{places, firstPlace, lastPlace, callsAt}
+use Rattle.timetable.specs.Table.{rowsIn, callAt}
+use Rattle.timetable.specs.declared.Call.{Call}
+use Rattle.route.specs.Route.{callsIn, meets, placeOf}
+use Rattle.route.specs.declared.Sought.{Sought}
+use Rattle.route.specs.declared.Place.the-variants.{At, Nowhere}
+use Rattle.route.proofs.Rows.{rows-turn, rows-none, rows-last, length-rows}
+
+-- ---- places
+
+pub places-append : (t : Call → Bool) (k : ℕ) (a b : List Call) → places t k (a ++ b) ≡ places t k a ++ places t (k + length a) b
+unfolding places
+places-append t k [] b = rw add-zero refl
+places-append t k (c ∷ a) b =
+    let e : k + 1 + length a ≡ k + suc (length a) = omega arith in
+    let r : places t (k + 1) (a ++ b) ≡ places t (k + 1) a ++ places t (k + suc (length a)) b = places-append t (k + 1) a b ∙ ap (λ (i : ℕ). places t (k + 1) a ++ places t i b) e in
+    go (t c) (places t (k + 1) (a ++ b)) (places t (k + 1) a) (places t (k + suc (length a)) b) r
+  where
+    go : (x : Bool) (p q s : List ℕ) → p ≡ q ++ s → cond x (k ∷ p) p ≡ cond x (k ∷ q) q ++ s
+    go true p q s r = ap (λ (l : List ℕ). k ∷ l) r
+    go false p q s r = r
+
+pub last-append : (ks : List ℕ) (k : ℕ) → lastPlace (ks ++ (k ∷ [])) ≡ some k
+unfolding lastPlace
+last-append [] k = refl
+last-append (j ∷ []) k = refl
+last-append (j ∷ i ∷ ks) k = last-append (i ∷ ks) k
+
+-- the elements before the one sought are counted down: x stands at the front where b says so
+module _ (b : Bool) (x : ℕ) (xs : List ℕ) (here : ℕ) (e : here ≡ cond b 1 0) where
+  pub nth-front : (before : ℕ) → before < here → getElem? (cond b (x ∷ xs) xs) before ≡ some x
+  nth-front before l = go b before e l
+    where
+      go : (b : Bool) (before : ℕ) → here ≡ cond b 1 0 → before < here → getElem? (cond b (x ∷ xs) xs) before ≡ some x
+      go true zero e l = refl
+      go true (suc k) e l = absurd (omega (arith, e))
+      go false k e l = absurd (omega (arith, e))
+
+  pub nth-behind : (before : ℕ) → here ≤ before → getElem? (cond b (x ∷ xs) xs) before ≡ getElem? xs (before - here)
+  nth-behind before l = go b before e l
+    where
+      go : (b : Bool) (before : ℕ) → here ≡ cond b 1 0 → here ≤ before → getElem? (cond b (x ∷ xs) xs) before ≡ getElem? xs (before - here)
+      go true zero e l = absurd (omega (arith, e))
+      go true (suc k) e l =
+          let d : suc k - here ≡ k = omega (arith, e) in
+          rw d refl
+      go false k e l =
+          let d : k - here ≡ k = omega (arith, e) in
+          rw d refl
+
+-- ---- the call whose words start at a place
+
+pub call-at : (w : List ℕ) (at : ℕ) → callAt (drop at w) ≡ record { stop = getD w at 0; arrival = getD w (at + 1) 0; departure = getD w (at + 2) 0; flags = getD w (at + 3) 0 }
+call-at w at = rw (getD-drop at w 0 0, add-zero at, getD-drop at w 1 0, getD-drop at w 2 0, getD-drop at w 3 0) refl
+
+-- the need of `sought_at`
+pub sought-at : (s : Sought) (w : List ℕ) (at : ℕ) (b : Bool)
+    → b ≡ meets s (record { stop = getD w at 0; arrival = getD w (at + 1) 0; departure = getD w (at + 2) 0; flags = getD w (at + 3) 0 })
+    → b ≡ meets s (callAt (drop at w))
+sought-at s w at b e = e ∙ ap (meets s) (sym (call-at w at))
+
+-- the places from call i on, whose words start at `at`
+abbrev pub placesFrom : (Call → Bool) → List ℕ → ℕ → ℕ → ℕ → List ℕ
+placesFrom t w c i at = places t i (rowsIn callAt 4 (c - i) (drop at w))
+
+module _ (t : Call → Bool) (w : List ℕ) (c i at : ℕ) where
+  pub places-turn : (b : Bool) → i < c → b ≡ t (callAt (drop at w)) → placesFrom t w c i at ≡ cond b (i ∷ placesFrom t w c (i + 1) (at + 4)) (placesFrom t w c (i + 1) (at + 4))
+  unfolding places
+  places-turn b h e = rw (rows-turn callAt 4 c i at w h, ← e) refl
+
+  pub places-none : c ≤ i → placesFrom t w c i at ≡ []
+  unfolding places
+  places-none h = rw (rows-none callAt 4 c i (drop at w) h) refl
+
+pub places-all : (t : Call → Bool) (w : List ℕ) (c : ℕ) → placesFrom t w c 0 0 ≡ places t 0 (callsIn c w)
+places-all t w c = rw (sub-zero c) refl
+
+-- of n + 1 calls the last one
+pub places-last : (t : Call → Bool) (w : List ℕ) (n at : ℕ) (b : Bool) → at ≡ n * 4 → b ≡ t (callAt (drop at w))
+    → lastPlace (places t 0 (callsIn (n + 1) w)) ≡ cond b (some n) (lastPlace (places t 0 (callsIn n w)))
+unfolding places
+places-last t w n at b p e =
+    let last : t (callAt (drop (n * 4) w)) ≡ b = ap (λ (k : ℕ). t (callAt (drop k w))) (sym p) ∙ sym e in
+    rw (rows-last callAt 4 n w, places-append t 0 (callsIn n w), length-rows callAt 4 n w, zero-add n, last) (go b)
+  where
+    go : (b : Bool) → lastPlace (places t 0 (callsIn n w) ++ cond b (n ∷ []) []) ≡ cond b (some n) (lastPlace (places t 0 (callsIn n w)))
+    go true = last-append (places t 0 (callsIn n w)) n
+    go false = ap lastPlace (append-nil (places t 0 (callsIn n w)))
+
+-- ---- the needs of the searches; b says whether the call at hand is sought
+
+-- no call passed is sought: the places from the call at hand on are all places, ks
+module _ (t : Call → Bool) (w : List ℕ) (c i at : ℕ) (ks : List ℕ) (v : placesFrom t w c i at ≡ ks) where
+  pub first-again : (b : Bool) → i < c → b ≡ t (callAt (drop at w)) → b ≡ false → placesFrom t w c (i + 1) (at + 4) ≡ ks
+  first-again b h e f = sym (places-turn t w c i at false h (sym f ∙ e)) ∙ v
+
+  pub first-out : (b : Bool) → i < c → b ≡ t (callAt (drop at w)) → b ≡ true → At (record { 0 = i }) ≡ placeOf (firstPlace ks)
+  first-out b h e f = ap (λ (l : List ℕ). placeOf (firstPlace l)) (sym (places-turn t w c i at true h (sym f ∙ e)) ∙ v)
+
+  pub first-done : c ≤ i → Nowhere ≡ placeOf (firstPlace ks)
+  first-done h = ap (λ (l : List ℕ). placeOf (firstPlace l)) (sym (places-none t w c i at h) ∙ v)
+
+pub ruleset firsts = (tests, places-all, first-again, first-out, first-done)
+
+-- the last place among the calls that are left is o, the last of all
+module _ (t : Call → Bool) (w : List ℕ) (left at : ℕ) (o : Option ℕ) (v : lastPlace (places t 0 (callsIn left w)) ≡ o) where
+  back : (b : Bool) → 0 < left → at ≡ left * 4 → b ≡ t (callAt (drop (at - 4) w)) → cond b (some (left - 1)) (lastPlace (places t 0 (callsIn (left - 1) w))) ≡ o
+  back b h p e =
+      let n : left - 1 + 1 ≡ left = omega arith in
+      let q : at - 4 ≡ (left - 1) * 4 = omega arith in
+      sym (places-last t w (left - 1) (at - 4) b q e) ∙ ap (λ (k : ℕ). lastPlace (places t 0 (callsIn k w))) n ∙ v
+
+  pub last-again : (b : Bool) → 0 < left → at ≡ left * 4 → b ≡ t (callAt (drop (at - 4) w)) → b ≡ false → lastPlace (places t 0 (callsIn (left - 1) w)) ≡ o
+  last-again b h p e f = back false h p (sym f ∙ e)
+
+  pub last-out : (b : Bool) → 0 < left → at ≡ left * 4 → b ≡ t (callAt (drop (at - 4) w)) → b ≡ true → At (record { 0 = left - 1 }) ≡ placeOf o
+  last-out b h p e f = ap placeOf (back true h p (sym f ∙ e))
+
+  pub last-done : left ≤ 0 → Nowhere ≡ placeOf o
+  unfolding rowsIn places lastPlace
+  last-done h =
+      let z : 0 ≡ left = omega arith in
+      ap placeOf (ap (λ (k : ℕ). lastPlace (places t 0 (callsIn k w))) z ∙ v)
+
+pub ruleset lasts = (tests, last-again, last-out, last-done)
+
+-- of the places from the call at hand on the one behind `before` others is o
+module _ (n : ℕ) (w : List ℕ) (c i at before : ℕ) (o : Option ℕ) (v : getElem? (placesFrom (callsAt n) w c i at) before ≡ o) where
+  abbrev rest : List ℕ
+  rest = placesFrom (callsAt n) w c (i + 1) (at + 4)
+
+  turn : i < c → getElem? (cond (eqb (getD w at 0) n) (i ∷ rest) rest) before ≡ o
+  turn h =
+      ap (λ (l : List ℕ). getElem? l before) (sym (places-turn (callsAt n) w c i at (eqb (getD w at 0) n) h (ap (callsAt n) (sym (call-at w at))))) ∙ v
+
+  pub nth-again : (here : ℕ) → i < c → here ≡ cond (eqb (getD w at 0) n) 1 0 → here ≤ before → getElem? (placesFrom (callsAt n) w c (i + 1) (at + 4)) (before - here) ≡ o
+  nth-again here h e l = sym (nth-behind (eqb (getD w at 0) n) i rest here e before l) ∙ turn h
+
+  pub nth-out : (here : ℕ) → i < c → here ≡ cond (eqb (getD w at 0) n) 1 0 → before < here → At (record { 0 = i }) ≡ placeOf o
+  nth-out here h e l = ap placeOf (sym (nth-front (eqb (getD w at 0) n) i rest here e before l) ∙ turn h)
+
+  pub nth-done : c ≤ i → Nowhere ≡ placeOf o
+  nth-done h = ap placeOf (ap (λ (l : List ℕ). getElem? l before) (sym (places-none (callsAt n) w c i at h)) ∙ v)
+
+pub nth-start : (n k : ℕ) (w : List ℕ) (c : ℕ) → getElem? (placesFrom (callsAt n) w c 0 0) k ≡ getElem? (places (callsAt n) 0 (callsIn c w)) k
+nth-start n k w c = ap (λ (l : List ℕ). getElem? l k) (places-all (callsAt n) w c)
+
+pub ruleset nths = (tests, nth-start, nth-again, nth-out, nth-done)

@@ -1,0 +1,36 @@
+-- Range ends on the words of calls: what the code answers, and what it seeks. Nobody has to believe more here than that each case says the
+-- test of its name in the definitions of the crate timetable. Assumes nothing.
+use Prim.Native.Nat.{ℕ}
+use mathlib.Core.List.{List}
+use mathlib.Core.Bool.{Bool}
+use mathlib.Core.Option.{Option, none, some}
+use Rattle.fields.specs.declared.RouteIndex.{RouteIndex}
+use Rattle.fields.specs.declared.StopNumber.{StopNumber}
+use Rattle.timetable.specs.Delivery.{Legs}
+use Rattle.timetable.specs.Load.{callSize}
+use Rattle.timetable.specs.Table.{rowsIn, callAt}
+use Rattle.timetable.specs.Ranges.{callsAt, departsAt, arrivesAt}
+use Rattle.timetable.specs.declared.Call.{Call}
+use Rattle.route.specs.declared.Sought.{Sought}
+use Rattle.route.specs.declared.Sought.the-variants.{Calling, Departing, Arriving}
+use Rattle.route.specs.declared.Place.{Place}
+use Rattle.route.specs.declared.Place.the-variants.{At, Nowhere}
+use Rattle.route.specs.declared.Found.{Found}
+use Rattle.route.specs.declared.Found.the-variants.{Between, Missing}
+
+-- the calls that c * 4 words hold
+abbrev pub callsIn : ℕ → List ℕ → List Call
+callsIn c w = rowsIn callAt callSize c w
+
+abbrev pub meets : Sought → Call → Bool
+meets (Calling n) c = callsAt (n .0) c
+meets (Departing n m) c = departsAt (n .0) m c
+meets (Arriving n m) c = arrivesAt (n .0) m c
+
+abbrev pub placeOf : Option ℕ → Place
+placeOf none = Nowhere
+placeOf (some k) = At (record { 0 = k })
+
+abbrev pub foundOf : Option Legs → Found
+foundOf none = Missing
+foundOf (some g) = Between (record { 0 = g .from }) (record { 0 = g .to })

@@ -1,0 +1,78 @@
+-- The rows of a stretch, for `search rows`. Assumes nothing.
+use mathlib.Core.Path.{_≡_, refl, sym, ap, _∙_}
+use mathlib.Core.List.{List, [], _∷_, _++_}
+use mathlib.Core.Bool.{Bool, true, false, cond}
+use Prim.Native.Nat.{ℕ, _+_, _*_, _-_, _/_, _%_, _^_, _≤_, _<_}
+use native.Mathlib.Nat.{add-zero, sub-zero}
+use native.Mathlib.Omega.{arith}
+use lib.ListN.{length, drop}
+use lib.Dec.{eqb}
+use Rattle.base.proofs.Laws.{tests}
+use Rattle.timetable.specs.Delivery.{Delivery, Service}
+use Rattle.timetable.specs.Table.{rowsIn, callAt}
+use Rattle.timetable.specs.Questions.{interchangeAtStop, categoryOn, rowFlags, rowsOf}
+use Rattle.timetable.specs.declared.Call.{Call}
+use Rattle.words.specs.Words.{write}
+use Rattle.words.proofs.Laws.{write-none, write-write, write-turn, length-write}
+use Rattle.look.specs.Look.{timesOf}
+use Rattle.look.specs.declared.Times.{Times}
+use Rattle.rows.specs.declared.Row.{Row}
+use Rattle.rows.specs.Rows.{rowFor, rowWords, callsFrom}
+use Rattle.rows.proofs.Record.{leg-fits, next-fits, leg-within}
+use Rattle.rows.proofs.Calls.{calls-next}
+
+-- ---- the flags
+
+low : (f : ℕ) (t : Bool) → f ≤ 15 → cond t 0 (f % 2 + f / 4 % 2 * 4) ≤ 5
+low f true h = omega arith
+low f false h = omega arith
+
+high : (f : ℕ) (t : Bool) → f ≤ 15 → cond t 0 (f / 2 % 2 * 2 + f / 8 * 8) ≤ 10
+high f true h = omega arith
+high f false h = omega arith
+
+pub flags-fit : (n i f x y : ℕ) → f ≤ 15 → x ≡ cond (eqb i 0) 0 (f % 2 + f / 4 % 2 * 4) → y ≡ cond (eqb i n) 0 (f / 2 % 2 * 2 + f / 8 * 8) → x + y < 2 ^ 32
+flags-fit n i f x y h p q = omega (arith, p, q, low f (eqb i 0) h, high f (eqb i n) h)
+
+-- ---- a row
+
+module _ (d : Delivery) (s : Service) (a n delay i : ℕ) (c : Call) where
+  pub row-is : (t : Times) → t ≡ timesOf (interchangeAtStop d (c .stop)) → (p q f g : ℕ) → p ≡ cond (eqb i 0) 0 (c .arrival + delay) → q ≡ cond (eqb i n) 0 (c .departure + delay) → f ≡ rowFlags n i (c .flags) → g ≡ cond (eqb i n) 0 (categoryOn s (a + i)) → c .stop ∷ p ∷ q ∷ f ∷ g ∷ t .first ∷ t .second ∷ [] ≡ rowFor d s a n delay i c
+  unfolding rowFor
+  row-is t e p q f g ep eq ef eg = rw (ep, eq, ef, eg, e)
+
+pub row-written : (t u v : List ℕ) (at : ℕ) (r : Row) → at + 7 ≤ length t → u ≡ write t at (r .stop ∷ r .arrival ∷ r .departure ∷ r .flags ∷ []) → v ≡ write u (at + 4) (r .category ∷ r .first ∷ r .second ∷ []) → v ≡ write t at (rowWords r)
+row-written t u v at r h e f = f ∙ rw e (write-write t at (r .stop ∷ r .arrival ∷ r .departure ∷ r .flags ∷ []) (r .category ∷ r .first ∷ r .second ∷ []) (omega arith))
+
+pub row-room : (t u : List ℕ) (at b0 b1 b2 b3 : ℕ) → at + 7 ≤ length t → u ≡ write t at (b0 ∷ b1 ∷ b2 ∷ b3 ∷ []) → at + 4 + 3 ≤ length u
+row-room t u at b0 b1 b2 b3 h e = rw (e, length-write t at (b0 ∷ b1 ∷ b2 ∷ b3 ∷ []) (omega arith)) (omega arith)
+
+pub leaving-last : (last : Bool) (y : ℕ) → last ≡ true → 0 ≡ cond last 0 y
+leaving-last last y e = rw e
+
+pub leaving-on : (last : Bool) (x y : ℕ) → last ≡ false → x ≡ y → x ≡ cond last 0 y
+leaving-on last x y e f = rw e f
+
+pub ruleset row = (tests, leg-fits, leaving-last, leaving-on, flags-fit, row-is, row-written, row-room)
+
+-- ---- the rows: t before, u after the row of the i-th call, c
+
+module _ (t u : List ℕ) (at : ℕ) (row : Row) (g : at + 7 ≤ length t) (q : u ≡ write t at (rowWords row)) where
+  pub rows-length : length u ≡ length t
+  rows-length = rw q (length-write t at (rowWords row) (omega arith))
+
+module _ (d : Delivery) (z : Service) (s t u r : List ℕ) (a n delay i at : ℕ) (c : Call) (row : Row) (h : i ≤ n) (l : ℕ) (g : 7 * (n + 1) ≤ l) (k : length t ≡ l) (w : at ≡ 7 * i) (e : c ≡ callAt (drop (11 + 4 * (a + i)) s)) (f : rowWords row ≡ rowFor d z a n delay i c) (q : u ≡ write t at (rowWords row)) where
+  pub rows-again : write t at (rowsOf d z a n delay i (callsFrom s (a + i) (n + 1 - i))) ≡ r → write u (at + 7) (rowsOf d z a n delay (i + 1) (callsFrom s (a + (i + 1)) (n + 1 - (i + 1)))) ≡ r
+  unfolding rowsOf rowFor
+  rows-again v = write-turn t u r at 7 (rowWords row) (rowsOf d z a n delay (i + 1) (callsFrom s (a + (i + 1)) (n + 1 - (i + 1)))) q refl (omega arith) (ap (λ (vs : List ℕ). write t at (vs ++ rowsOf d z a n delay (i + 1) (callsFrom s (a + (i + 1)) (n + 1 - (i + 1))))) f ∙ (rw (calls-next s a n i c h e) at v))
+
+pub rows-start : (d : Delivery) (z : Service) (s t : List ℕ) (a n delay : ℕ) → write t 0 (rowsOf d z a n delay 0 (callsFrom s (a + 0) (n + 1 - 0))) ≡ write t 0 (rowsOf d z a n delay 0 (callsFrom s a (n + 1)))
+rows-start d z s t a n delay = rw (add-zero a, sub-zero (n + 1))
+
+pub rows-done : (d : Delivery) (z : Service) (s t r : List ℕ) (a n delay i at : ℕ) → n < i → write t at (rowsOf d z a n delay i (callsFrom s (a + i) (n + 1 - i))) ≡ r → t ≡ r
+unfolding rowsOf callsFrom rowsIn
+rows-done d z s t r a n delay i at h v =
+    let k : n + 1 - i ≡ 0 = omega arith in
+    sym (write-none t at) ∙ (rw k at v)
+
+pub ruleset rows = (tests, leg-fits, next-fits, leg-within, rows-length, rows-start, rows-again, rows-done)

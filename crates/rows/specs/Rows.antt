@@ -1,0 +1,33 @@
+-- What the functions on the calls of a stretch answer. Assumes nothing.
+use Prim.Native.Nat.{ℕ, _+_, _*_}
+use mathlib.Core.List.{List, [], _∷_}
+use mathlib.Core.Bool.{Bool, _&&_, _||_}
+use mathlib.Core.Option.{Option}
+use lib.ListN.{drop}
+use lib.Dec.{leb}
+use Rattle.timetable.specs.Delivery.{Delivery, Service}
+use Rattle.timetable.specs.Table.{rowsIn, callAt}
+use Rattle.timetable.specs.Questions.{timesNeeded, callRefusal, rowOf}
+use Rattle.timetable.specs.declared.Call.{Call}
+use Rattle.rows.specs.declared.Row.{Row}
+
+-- the i-th call of a stretch that begins at call a and has n legs: what it is refused for, its needed times, its row
+unfoldable pub callFault : Delivery → Service → ℕ → ℕ → ℕ → ℕ → Call → Option ℕ
+callFault d s a n i before c = callRefusal d s a n i before c
+
+unfoldable pub timesFine : ℕ → ℕ → ℕ → Call → Bool
+timesFine n i before c = timesNeeded n i before c
+
+unfoldable pub rowFor : Delivery → Service → ℕ → ℕ → ℕ → ℕ → Call → List ℕ
+rowFor d s a n delay i c = rowOf d s a n delay i c
+
+-- a time that is not needed, or is stated and not below the one before
+abbrev pub timeFine : Bool → Bool → ℕ → ℕ → Bool
+timeFine free stated before time = free || (stated && leb before time)
+
+abbrev pub rowWords : Row → List ℕ
+rowWords r = r .stop ∷ r .arrival ∷ r .departure ∷ r .flags ∷ r .category ∷ r .first ∷ r .second ∷ []
+
+-- m calls from the k-th on, of the words from a service's record on
+unfoldable pub callsFrom : List ℕ → ℕ → ℕ → List Call
+callsFrom s k m = rowsIn callAt 4 m (drop (11 + 4 * k) s)

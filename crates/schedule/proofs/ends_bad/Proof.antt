@@ -1,0 +1,21 @@
+use Rattle.schedule.proofs.Ends.{ending}
+use Rattle.schedule.proofs.ends_bad.Statement.{statement}
+use Rattle.schedule.proofs.ends_bad.Tie as tie
+
+legs-of-requires : tie.Need-legs-of-requires
+legs-of-requires c κs = search ending
+
+enum-known-found : tie.Need-enum-known-found
+enum-known-found c = search ending
+
+enum-told : tie.Need-enum-told
+enum-told c = search ending
+
+returns : tie.Need-returns
+returns c = search ending
+
+returns-2 : tie.Need-returns-2
+returns-2 c = search ending
+
+pub ends-bad-spec : {M : Type 1} → statement M
+ends-bad-spec = tie.close (tie.spec legs-of-requires enum-known-found enum-told returns returns-2)

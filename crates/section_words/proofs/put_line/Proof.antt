@@ -1,0 +1,84 @@
+use Rattle.section_words.proofs.Puts.{line-puts}
+use Rattle.section_words.proofs.put_line.Statement.{statement}
+use Rattle.section_words.proofs.put_line.Tie as tie
+
+number-on-requires : tie.Need-number-on-requires
+number-on-requires c κs = search line-puts
+
+enum-told : tie.Need-enum-told
+enum-told c = search line-puts
+
+enum-told-2 : tie.Need-enum-told-2
+enum-told-2 c = search line-puts
+
+enum-known-n : tie.Need-enum-known-n
+enum-known-n c = search line-puts
+
+enum-told-3 : tie.Need-enum-told-3
+enum-told-3 c = search line-puts
+
+bits-in-requires : tie.Need-bits-in-requires
+bits-in-requires c κs = search line-puts
+
+put-bit-field-requires : tie.Need-put-bit-field-requires
+put-bit-field-requires c κs = search line-puts
+
+enum-told-4 : tie.Need-enum-told-4
+enum-told-4 c = search line-puts
+
+put-stop-requires : tie.Need-put-stop-requires
+put-stop-requires c κs = search line-puts
+
+enum-told-5 : tie.Need-enum-told-5
+enum-told-5 c = search line-puts
+
+put-interchange-requires : tie.Need-put-interchange-requires
+put-interchange-requires c κs = search line-puts
+
+returns : tie.Need-returns
+returns c = search line-puts
+
+returns-2 : tie.Need-returns-2
+returns-2 c = search line-puts
+
+same-length : tie.Need-same-length
+same-length c = search line-puts
+
+returns-3 : tie.Need-returns-3
+returns-3 c = search line-puts
+
+same-length-2 : tie.Need-same-length-2
+same-length-2 c = search line-puts
+
+returns-4 : tie.Need-returns-4
+returns-4 c = search line-puts
+
+same-length-3 : tie.Need-same-length-3
+same-length-3 c = search line-puts
+
+returns-5 : tie.Need-returns-5
+returns-5 c = search line-puts
+
+pub put-line-spec : {M : Type 1} → statement M
+put-line-spec =
+    tie.close
+    (tie.spec
+    number-on-requires
+    enum-told
+    enum-told-2
+    enum-known-n
+    enum-told-3
+    bits-in-requires
+    put-bit-field-requires
+    enum-told-4
+    put-stop-requires
+    enum-told-5
+    put-interchange-requires
+    returns
+    returns-2
+    same-length
+    returns-3
+    same-length-2
+    returns-4
+    same-length-3
+    returns-5)

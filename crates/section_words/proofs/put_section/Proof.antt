@@ -1,0 +1,67 @@
+-- `section_words::put_section` meets its contract: to write the words of the lines from the loop's place on gives what is to be written in all.
+-- Assumes nothing.
+use mathlib.Core.Path.{_≡_}
+use Prim.Native.Nat.{_+_, _-_, _≤_}
+use lib.ListN.{length, drop}
+use Rattle.lines.specs.Lines.{linesFrom, linesOf}
+use Rattle.words.specs.Words.{write}
+use Rattle.section_words.specs.Words.{sectionWords}
+use Rattle.section_words.proofs.Puts.{section-puts}
+use Rattle.section_words.proofs.put_section.Statement.{statement}
+use Rattle.section_words.proofs.put_section.Tie as tie
+
+abbrev Inv-loop : tie.InvT-loop
+Inv-loop section f t₀ p at₀ no₀ q₀ t at no' q =
+    (no' ≤ at + 1) × (length t ≡ length t₀)
+    × (q + length (sectionWords section (linesFrom no' at (drop at f))) ≡ p + length (sectionWords section (linesOf f)))
+    × (write t q (sectionWords section (linesFrom no' at (drop at f))) ≡ write t₀ p (sectionWords section (linesOf f)))
+
+abbrev μ-loop : tie.MeasureT-loop
+μ-loop section f t₀ p at₀ no₀ q₀ t at no' q = length f - at
+
+loop-holds : tie.Need-loop-holds Inv-loop μ-loop
+loop-holds c = search section-puts
+
+line-from-requires : tie.Need-line-from-requires Inv-loop μ-loop
+line-from-requires c κs = search section-puts
+
+sub-put-line : tie.Need-sub-put-line Inv-loop μ-loop
+sub-put-line c = search section-puts
+
+part-put-line-start : tie.Need-part-put-line-start Inv-loop μ-loop
+part-put-line-start c = search section-puts
+
+part-put-line-end : tie.Need-part-put-line-end Inv-loop μ-loop
+part-put-line-end c = search section-puts
+
+put-line-requires : tie.Need-put-line-requires Inv-loop μ-loop
+put-line-requires c κs = search section-puts
+
+loop-less : tie.Need-loop-less Inv-loop μ-loop
+loop-less c = search section-puts
+
+loop-again : tie.Need-loop-again Inv-loop μ-loop
+loop-again c = search section-puts
+
+same-length : tie.Need-same-length Inv-loop μ-loop
+same-length c = search section-puts
+
+returns : tie.Need-returns Inv-loop μ-loop
+returns c = search section-puts
+
+pub put-section-spec : {M : Type 1} → statement M
+put-section-spec =
+    tie.close
+    (tie.spec
+    Inv-loop
+    μ-loop
+    loop-holds
+    line-from-requires
+    sub-put-line
+    part-put-line-start
+    part-put-line-end
+    put-line-requires
+    loop-less
+    loop-again
+    same-length
+    returns)

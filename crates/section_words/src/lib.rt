@@ -1,0 +1,97 @@
+// The words that BITFELD, BAHNHOF and UMSTEIGB give to the table.
+use sections::Numbered;
+use sections::Section;
+ghost use mathlib.Core.Path.{_≡_};
+ghost use mathlib.Core.List.{[], _∷_};
+ghost use Prim.Native.Nat.{_+_, _≤_};
+ghost use lib.ListN.{length};
+ghost use Rattle.columns.specs.Columns.{columns, number as numberIn};
+ghost use Rattle.lines.specs.Lines.{linesOf};
+ghost use Rattle.words.specs.Words.{write};
+ghost use Rattle.timetable.specs.Files.{nameLength};
+ghost use Rattle.sections.specs.Sections.{lineAt};
+ghost use Rattle.section_words.specs.Words.{lineWords, sectionWords};
+
+// Writes the words of a section from place p on; the place after them.
+pub fn put_section(section: Section, f: &[u8], t: &mut [u32], p: usize) -> usize
+    requires { ⌜ length (now f) ≤ 16777216 ⌝ }
+    requires { ⌜ p + length (sectionWords section (linesOf (now f))) ≤ length (now t) ⌝ }
+    ensures { λ r. ⌜ (r ≡ p + length (sectionWords section (linesOf (now (f .entry))))) × (now (t .exit) ≡ write (now (t .entry)) p (sectionWords section (linesOf (now (f .entry))))) ⌝ }
+{
+    let mut at: usize = 0;
+    let mut no: u32 = 1;
+    let mut q = p;
+    while at < f.len() {
+        let cut = reader::line_from(f, at, no);
+        let stop = cut.stop;
+        q = put_line(section, &f[at..stop], at, t, q);
+        at = cut.next;
+        no = cut.no;
+    }
+    q
+}
+
+// Writes the words of a line that starts at `start`, if it holds a record; the place after them.
+fn put_line(section: Section, text: &[u8], start: usize, t: &mut [u32], q: usize) -> usize
+    requires { ⌜ start ≤ 16777216 ⌝ }
+    requires { ⌜ q + length (lineWords section (lineAt start (now text))) ≤ length (now t) ⌝ }
+    ensures { λ r. ⌜ (r ≡ q + length (lineWords section (lineAt start (now (text .entry))))) × (now (t .exit) ≡ write (now (t .entry)) q (lineWords section (lineAt start (now (text .entry))))) ⌝ }
+{
+    let n = sections::number_on(section, text);
+    match n {
+        Numbered::Skipped => q,
+        Numbered::Broken => q,
+        Numbered::Number(x) => match section {
+            Section::BitFields => put_bit_field(t, q, x, bitfield::bits_in(text)),
+            Section::Stops => put_stop(t, q, x, start, text),
+            Section::Interchanges => put_interchange(t, q, x, text),
+        },
+    }
+}
+
+fn put_bit_field(t: &mut [u32], q: usize, number: u32, bits: [u32; 12]) -> usize
+    requires { ⌜ q + 13 ≤ length (now t) ⌝ }
+    ensures { λ r. ⌜ (r ≡ q + 13) × (now (t .exit) ≡ write (now (t .entry)) q (number ∷ bits)) ⌝ }
+{
+    t[q] = number;
+    words::put12(t, q + 1, bits);
+    q + 13
+}
+
+fn put_stop(t: &mut [u32], q: usize, number: u32, start: usize, text: &[u8]) -> usize
+    requires { ⌜ start ≤ 16777216 ⌝ }
+    requires { ⌜ q + 3 ≤ length (now t) ⌝ }
+    ensures { λ r. ⌜ (r ≡ q + 3) × (now (t .exit) ≡ write (now (t .entry)) q (number ∷ (start + 12) ∷ nameLength (columns 13 62 (now (text .entry))) ∷ [])) ⌝ }
+{
+    words::put3(t, q, number, (start + 12) as u32, name_length(text));
+    q + 3
+}
+
+fn put_interchange(t: &mut [u32], q: usize, number: u32, text: &[u8]) -> usize
+    requires { ⌜ q + 3 ≤ length (now t) ⌝ }
+    ensures { λ r. ⌜ (r ≡ q + 3) × (now (t .exit) ≡ write (now (t .entry)) q (number ∷ numberIn (columns 9 10 (now (text .entry))) ∷ numberIn (columns 12 13 (now (text .entry))) ∷ [])) ⌝ }
+{
+    words::put3(
+        t,
+        q,
+        number,
+        columns::number_in(text, 9, 10),
+        columns::number_in(text, 12, 13),
+    );
+    q + 3
+}
+
+// The length of the name in columns 13 to 62 without trailing blanks.
+fn name_length(text: &[u8]) -> u32
+    ensures { λ r. ⌜ r ≡ nameLength (columns 13 62 (now (text .entry))) ⌝ }
+{
+    let name = columns::part(text, 13, 62);
+    let mut k: u32 = 50;
+    while 0 < k {
+        if columns::byte_at(name, k as usize - 1) != 32 {
+            return k;
+        }
+        k -= 1;
+    }
+    0
+}

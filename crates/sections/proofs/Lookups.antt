@@ -1,0 +1,194 @@
+-- The needs of the look-ups by number. Assumes nothing.
+use mathlib.Core.Path.{_≡_, refl, ap, sym, _∙_}
+use mathlib.Core.List.{List, [], _∷_, _++_, map}
+use mathlib.Core.Bool.{Bool, true, false, cond, _||_}
+use mathlib.Core.Option.{some}
+use Prim.Native.Nat.{ℕ, _-_, _≤_, _<_}
+use native.Mathlib.Omega.{arith}
+use lib.ListN.{length, take, drop, replicate}
+use lib.Dec.{eqb}
+use borrow.Author.Tests.{ne-eqb}
+use Rattle.base.specs.Lists.{some-of, find, gathered}
+use Rattle.base.proofs.Laws.{tests}
+use Rattle.columns.specs.Columns.{columns, number}
+use Rattle.lines.specs.Lines.{Line, skipped, linesFrom, cutAt}
+use Rattle.lines.specs.declared.Cut.{Cut}
+use Rattle.lines.proofs.Laws.{cutting, lines-none, walk}
+use Rattle.bitfield.specs.BitField.{bitsIn}
+use Rattle.forms.specs.Form.{formOf, fits}
+use Rattle.forms.specs.Columns.{bitFieldColumns, stopColumns, interchangeColumns}
+use Rattle.forms.specs.declared.Form.{Form}
+use Rattle.forms.specs.declared.Form.the-variants.{Fits, Broken as BrokenAt}
+use Rattle.timetable.specs.Delivery.{BitField}
+use Rattle.timetable.specs.Files.{skip, broken, held, listed, held-in, bitFieldOf, stopOf, interchangeOf, hasField, hasStop, hasInterchange}
+use Rattle.sections.specs.Sections.{sectionColumns, numberEnd, numberOn, asNumber, numbers, hasNumber, wordsBy, wordsOf}
+use Rattle.sections.specs.declared.Section.{Section}
+use Rattle.sections.specs.declared.Section.the-variants.{BitFields, Stops, Interchanges}
+use Rattle.sections.specs.declared.Numbered.{Numbered}
+use Rattle.sections.specs.declared.Numbered.the-variants.{Number, Skipped, Broken}
+use Rattle.sections.proofs.Held.{gathered-any, held-gathered, field-numbers, stop-numbers, record-numbers}
+
+-- ---- the number on a line, for `search numbering`
+
+-- a section's form, and that its number is short enough to be read
+module _ (s : Section) (text : List ℕ) (g : Form) where
+  pub form-field : s ≡ BitFields → g ≡ formOf bitFieldColumns text → g ≡ formOf (sectionColumns s) text
+  form-field k e = rw k e
+
+  pub form-stop : s ≡ Stops → g ≡ formOf stopColumns text → g ≡ formOf (sectionColumns s) text
+  form-stop k e = rw k e
+
+  pub form-record : s ≡ Interchanges → g ≡ formOf interchangeColumns text → g ≡ formOf (sectionColumns s) text
+  form-record k e = rw k e
+
+pub end-small : (s : Section) (to : ℕ) → to ≡ numberEnd s → to - (1 - 1) ≤ 9
+end-small s to e = rw e (go s)
+  where
+    go : (s : Section) → numberEnd s - (1 - 1) ≤ 9
+    go BitFields = omega arith
+    go Stops = omega arith
+    go Interchanges = omega arith
+
+-- t is whether the line is skipped, g its form
+module _ (s : Section) (text : List ℕ) (t : Bool) (e : t ≡ skipped text) where
+  pub number-skipped : t ≡ true → Skipped ≡ numberOn s text
+  unfolding numberOn
+  number-skipped y = rw (sym e ∙ y) refl
+
+  module _ (y : t ≡ false) (g : Form) (d : g ≡ formOf (sectionColumns s) text) where
+    pub number-broken : (c : ℕ) → g ≡ BrokenAt c → Broken ≡ numberOn s text
+    unfolding numberOn
+    number-broken c z = rw (sym e ∙ y, sym d ∙ z) refl
+
+    pub number-fits : (to k : ℕ) → g ≡ Fits → to ≡ numberEnd s → k ≡ number (columns 1 to text) → Number k ≡ numberOn s text
+    unfolding numberOn
+    number-fits to k z x v = rw (sym e ∙ y, sym d ∙ z, ← x) (ap Number v)
+
+pub ruleset numbering = (tests, form-field, form-stop, form-record, end-small, number-skipped, number-broken, number-fits)
+
+-- ---- what is asked of the number on a line, for `search asked`: n is what the line has for a number
+
+module _ (n m : Numbered) (e : n ≡ m) (k : ℕ) where
+  pub is-skipped : n ≡ Skipped → false ≡ hasNumber k (asNumber m)
+  unfolding some-of
+  is-skipped y = rw (sym e ∙ y) refl
+
+  pub is-broken : n ≡ Broken → false ≡ hasNumber k (asNumber m)
+  unfolding some-of
+  is-broken y = rw (sym e ∙ y) refl
+
+  pub is-held : (x : ℕ) → n ≡ Number x → eqb x k ≡ hasNumber k (asNumber m)
+  unfolding some-of
+  is-held x y = rw (sym e ∙ y) (go (eqb x k))
+    where
+      go : (t : Bool) → t ≡ (t || false)
+      go true = refl
+      go false = refl
+
+-- another number in the columns of the number
+pub is-other : (s : Section) (text : List ℕ) (to x k : ℕ) → to ≡ numberEnd s → x ≡ number (columns 1 to text) → (x ≡ k → ⊥) → false ≡ hasNumber k (asNumber (numberOn s text))
+unfolding numberOn some-of
+is-other s text to x k e d z = rw (← e, ← d) (go (skipped text) (fits (sectionColumns s) text))
+  where
+    go : (t u : Bool) → false ≡ hasNumber k (asNumber (cond t Skipped (cond u (Number x) Broken)))
+    go true u = refl
+    go false true = rw (ne-eqb x k z) refl
+    go false false = refl
+
+pub ruleset asked = (tests, end-small, is-skipped, is-broken, is-held, is-other)
+
+-- ---- the loops over lines, for `search looks`: r is the line cut at the place `at`; which number it has does not matter
+
+some-append : {X : Type 0} (t : X → Bool) (a b : List X) → some-of t (a ++ b) ≡ (some-of t a || some-of t b)
+unfolding some-of
+some-append t [] b = refl
+some-append t (x ∷ a) b = go (t x) (some-append t a b)
+  where
+    go : (u : Bool) → some-of t (a ++ b) ≡ (some-of t a || some-of t b) → (u || some-of t (a ++ b)) ≡ ((u || some-of t a) || some-of t b)
+    go true e = refl
+    go false e = e
+
+module _ (f : List ℕ) (at : ℕ) (r : Cut) (h : at < length f) (e : r ≡ cutAt f at 1) where
+  -- the text of the line
+  abbrev text : List ℕ
+  text = take (r .stop - at) (drop at f)
+
+  -- what texts give, with this line's and without it
+  gathered-step : {Y : Type 0} (g : List ℕ → List Y) → gathered (λ (l : Line). g (l .text)) (linesFrom 1 at (drop at f)) ≡ g text ++ gathered (λ (l : Line). g (l .text)) (linesFrom 1 (r .next) (drop (r .next) f))
+  unfolding gathered
+  gathered-step g = ap (gathered (λ (l : Line). g (l .text))) (cutting f at 1 r h e .step) ∙ ap (λ x. g text ++ x) (gathered-any g (r .no) 1 (r .next) (drop (r .next) f))
+
+  module _ (s : Section) (k : ℕ) (q t : Bool) (d : t ≡ hasNumber k (asNumber (numberOn s text))) (v : hasNumber k (numbers s (linesFrom 1 at (drop at f))) ≡ q) where
+    has-step : (t || hasNumber k (numbers s (linesFrom 1 (r .next) (drop (r .next) f)))) ≡ q
+    unfolding numbers
+    has-step = rw d (sym (some-append (λ (x : ℕ). eqb x k) (asNumber (numberOn s text)) _) ∙ rw (← (gathered-step (λ (l : List ℕ). asNumber (numberOn s l)))) v)
+
+    pub has-again : t ≡ false → hasNumber k (numbers s (linesFrom 1 (r .next) (drop (r .next) f))) ≡ q
+    has-again y = rw y at has-step
+
+    pub has-out : t ≡ true → true ≡ q
+    has-out y = rw y at has-step
+
+pub has-done : (f : List ℕ) (at : ℕ) (s : Section) (k : ℕ) (q : Bool) → length f ≤ at → hasNumber k (numbers s (linesFrom 1 at (drop at f))) ≡ q → false ≡ q
+unfolding numbers gathered some-of
+has-done f at s k q h v = rw (lines-none f at 1 h) at v
+
+pub ruleset looks = (tests, walk, has-again, has-out, has-done)
+
+-- ---- the words of a bit field, for `search bits`: b is whether the line holds a bit field of number k
+
+find-append : (k : ℕ) (t u : Bool) (x : BitField) (hs : List BitField) (b : Bool)
+    → b ≡ hasNumber k (asNumber (cond t Skipped (cond u (Number (x .number)) Broken)))
+    → wordsOf k (listed (cond t skip (cond u (held x) broken)) ++ hs) ≡ cond b (x .words) (wordsOf k hs)
+unfolding find some-of
+find-append k true u x hs b e = rw e refl
+find-append k false false x hs b e = rw e refl
+find-append k false true x hs b e = rw e (go (eqb (x .number) k))
+  where
+    go : (t : Bool) → wordsBy (cond t (some x) (find (λ (f : BitField). eqb (f .number) k) hs)) ≡ cond (t || false) (x .words) (wordsOf k hs)
+    go true = refl
+    go false = refl
+
+module _ (f : List ℕ) (at : ℕ) (r : Cut) (h : at < length f) (e : r ≡ cutAt f at 1) (k : ℕ) (q : List ℕ) (b : Bool)
+    (d : b ≡ hasNumber k (asNumber (numberOn BitFields (take (r .stop - at) (drop at f))))) (v : wordsOf k (held-in bitFieldOf (linesFrom 1 at (drop at f))) ≡ q) where
+  -- the bit field on the line
+  abbrev here : List ℕ → BitField
+  here l = record { number = number (columns 1 6 l); words = bitsIn l }
+
+  bits-step : cond b (bitsIn (text f at r h e)) (wordsOf k (held-in bitFieldOf (linesFrom 1 (r .next) (drop (r .next) f)))) ≡ q
+  unfolding numberOn
+  bits-step =
+      sym (find-append k (skipped (text f at r h e)) (fits bitFieldColumns (text f at r h e)) (here (text f at r h e)) _ b d)
+      ∙ rw (held-gathered bitFieldOf (linesFrom 1 (r .next) (drop (r .next) f))) (ap (wordsOf k) (sym (gathered-step f at r h e (λ (l : List ℕ). listed (cond (skipped l) skip (cond (fits bitFieldColumns l) (held (here l)) broken))))))
+      ∙ ap (wordsOf k) (sym (held-gathered bitFieldOf (linesFrom 1 at (drop at f)))) ∙ v
+
+  pub bits-again : b ≡ false → wordsOf k (held-in bitFieldOf (linesFrom 1 (r .next) (drop (r .next) f))) ≡ q
+  bits-again y = rw y at bits-step
+
+  pub bits-out : (w : List ℕ) → b ≡ true → w ≡ bitsIn (take (r .stop - at) (drop at f)) → w ≡ q
+  bits-out w y x = x ∙ (rw y at bits-step)
+
+pub bits-done : (f : List ℕ) (at k : ℕ) (q : List ℕ) → length f ≤ at → wordsOf k (held-in bitFieldOf (linesFrom 1 at (drop at f))) ≡ q → replicate 12 0 ≡ q
+unfolding held-in find
+bits-done f at k q h v = rw (lines-none f at 1 h) at v
+
+pub ruleset bits = (tests, walk, bits-again, bits-out, bits-done)
+
+-- ---- the look-ups in the definitions' words, for `search knows`
+
+some-map : {X : Type 0} (t : ℕ → Bool) (key : X → ℕ) (xs : List X) → some-of t (map key xs) ≡ some-of (λ (x : X). t (key x)) xs
+unfolding some-of
+some-map t key [] = refl
+some-map t key (x ∷ xs) = ap (λ (u : Bool). t (key x) || u) (some-map t key xs)
+
+module _ (r : Bool) (k : ℕ) (ls : List Line) where
+  pub has-field : r ≡ hasNumber k (numbers BitFields ls) → r ≡ hasField k (held-in bitFieldOf ls)
+  has-field e = e ∙ ap (hasNumber k) (field-numbers ls) ∙ some-map _ _ (held-in bitFieldOf ls)
+
+  pub has-stop : r ≡ hasNumber k (numbers Stops ls) → r ≡ hasStop k (held-in stopOf ls)
+  has-stop e = e ∙ ap (hasNumber k) (stop-numbers ls) ∙ some-map _ _ (held-in stopOf ls)
+
+  pub has-record : r ≡ hasNumber k (numbers Interchanges ls) → r ≡ hasInterchange k (held-in interchangeOf ls)
+  has-record e = e ∙ ap (hasNumber k) (record-numbers ls) ∙ some-map _ _ (held-in interchangeOf ls)
+
+pub ruleset knows = (tests, has-field, has-stop)

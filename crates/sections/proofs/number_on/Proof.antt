@@ -1,0 +1,44 @@
+use Rattle.sections.proofs.Lookups.{numbering}
+use Rattle.sections.proofs.number_on.Statement.{statement}
+use Rattle.sections.proofs.number_on.Tie as tie
+
+skips-requires : tie.Need-skips-requires
+skips-requires c κs = search numbering
+
+returns : tie.Need-returns
+returns c = search numbering
+
+section-form-requires : tie.Need-section-form-requires
+section-form-requires c κs = search numbering
+
+enum-told : tie.Need-enum-told
+enum-told c = search numbering
+
+number-end-requires : tie.Need-number-end-requires
+number-end-requires c κs = search numbering
+
+number-in-requires : tie.Need-number-in-requires
+number-in-requires c κs = search numbering
+
+enum-known-form : tie.Need-enum-known-form
+enum-known-form c = search numbering
+
+returns-2 : tie.Need-returns-2
+returns-2 c = search numbering
+
+returns-3 : tie.Need-returns-3
+returns-3 c = search numbering
+
+pub number-on-spec : {M : Type 1} → statement M
+number-on-spec =
+    tie.close
+    (tie.spec
+    skips-requires
+    returns
+    section-form-requires
+    enum-told
+    number-end-requires
+    number-in-requires
+    enum-known-form
+    returns-2
+    returns-3)

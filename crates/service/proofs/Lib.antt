@@ -1,0 +1,4 @@
+pub mod Lent
+pub mod Legs
+pub mod Size
+pub mod Order

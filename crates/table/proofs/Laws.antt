@@ -1,0 +1,85 @@
+-- The needs of the table's functions, a ruleset for each family. Assumes nothing.
+use mathlib.Core.Path.{_≡_, ap, _∙_, sym}
+use mathlib.Core.List.{List}
+use mathlib.Core.Bool.{Bool, true, false, not, _&&_}
+use Prim.Native.Nat.{ℕ, _+_, _-_, _*_, _^_, _≤_, _<_}
+use native.Mathlib.Nat.{add-zero, add-assoc}
+use native.Mathlib.Omega.{arith}
+use lib.ListN.{length, getD, drop}
+use lib.Seq.{getD-drop}
+use lib.Dec.{ltb, leb}
+use borrow.Author.Tests.{not-true, not-false}
+use Rattle.base.specs.Lists.{every}
+use Rattle.base.proofs.Laws.{tests}
+use Rattle.timetable.specs.Ranges.{inOrder}
+use Rattle.timetable.specs.Table.{rowsIn, legsAt, callAt, callSound, legsSound}
+use Rattle.timetable.specs.declared.Call.{Call}
+use Rattle.table.proofs.Rows.{stride-turn, rows-again, rows-out, rows-done}
+
+-- ---- the rows of a record, for `search rows`
+
+pub call-is : (w : List ℕ) (p : ℕ) → record { stop = getD w p 0; arrival = getD w (p + 1) 0; departure = getD w (p + 2) 0; flags = getD w (p + 3) 0 } ≡ callAt (drop p w)
+call-is w p = rw (getD-drop p w 0 0, add-zero p, getD-drop p w 1 0, getD-drop p w 2 0, getD-drop p w 3 0)
+
+-- a call y was read at p, and x says whether it is sound
+module _ (w : List ℕ) (p k : ℕ) (r x : Bool) (y : Call) (h : 0 < k) (d : y ≡ callAt (drop p w)) (e : x ≡ callSound y) (v : every callSound (rowsIn callAt 4 k (drop p w)) ≡ r) where
+  pub calls-again : not x ≡ false → every callSound (rowsIn callAt 4 (k - 1) (drop (p + 4) w)) ≡ r
+  calls-again = rows-again callSound callAt 4 w p k r x h (e ∙ ap callSound d) v
+
+  pub calls-out : not x ≡ true → false ≡ r
+  calls-out = rows-out callSound callAt 4 w p k r x h (e ∙ ap callSound d) v
+
+pub calls-done : (w : List ℕ) (k : ℕ) (r : Bool) → k ≤ 0 → every callSound (rowsIn callAt 4 k w) ≡ r → true ≡ r
+calls-done w k r = rows-done callSound callAt 4 w k r
+
+-- in order, by whether from may equal to
+module _ (loose : Bool) (f t : ℕ) where
+  pub loose-order : loose ≡ true → leb f t ≡ inOrder loose f t
+  loose-order e = rw e
+
+  pub strict-order : loose ≡ false → ltb f t ≡ inOrder loose f t
+  strict-order e = rw e
+
+-- the legs at p; x says whether they are in order
+module _ (w : List ℕ) (p c : ℕ) (loose x : Bool) (e : x ≡ inOrder loose (getD w p 0) (getD w (p + 1) 0)) where
+  legs-are : legsSound loose c (legsAt 0 (drop p w)) ≡ (x && ltb (getD w (p + 1) 0) c)
+  legs-are = rw (e, getD-drop p w 0 0, add-zero p, getD-drop p w 1 0)
+
+  pub legs-bad : not x ≡ true → false ≡ legsSound loose c (legsAt 0 (drop p w))
+  legs-bad n = sym (legs-are ∙ rw (not-true x n))
+
+  pub legs-end : not x ≡ false → ltb (getD w (p + 1) 0) c ≡ legsSound loose c (legsAt 0 (drop p w))
+  legs-end n = sym (legs-are ∙ rw (not-false x n))
+
+-- a range at p with so many words of its own before its legs; x says whether they are sound
+module _ (w : List ℕ) (p k own c : ℕ) (loose r x : Bool) (h : 0 < k) (e : x ≡ legsSound loose c (legsAt 0 (drop (p + own) w))) (v : every (legsSound loose c) (rowsIn (legsAt own) (own + 2) k (drop p w)) ≡ r) where
+  legs-here : x ≡ legsSound loose c (legsAt own (drop p w))
+  legs-here = e ∙ rw (getD-drop (p + own) w 0 0, add-zero (p + own), getD-drop (p + own) w 1 0, add-assoc p own 1, getD-drop p w own 0, getD-drop p w (own + 1) 0)
+
+  pub ranges-again : not x ≡ false → every (legsSound loose c) (rowsIn (legsAt own) (own + 2) (k - 1) (drop (p + (own + 2)) w)) ≡ r
+  ranges-again = rows-again (legsSound loose c) (legsAt own) (own + 2) w p k r x h legs-here v
+
+  pub ranges-out : not x ≡ true → false ≡ r
+  ranges-out = rows-out (legsSound loose c) (legsAt own) (own + 2) w p k r x h legs-here v
+
+pub ranges-done : (w : List ℕ) (k own c : ℕ) (loose r : Bool) → k ≤ 0 → every (legsSound loose c) (rowsIn (legsAt own) (own + 2) k w) ≡ r → true ≡ r
+ranges-done w k own c loose r = rows-done (legsSound loose c) (legsAt own) (own + 2) w k r
+
+-- k ranges from p on are within the words
+module _ (w : List ℕ) (p k own : ℕ) (h : 0 < k) (v : p + (own + 2) * k ≤ length w) where
+  pub ranges-rest : p + (own + 2) + (own + 2) * (k - 1) ≤ length w
+  ranges-rest = omega (arith, stride-turn (own + 2) k h)
+
+  pub ranges-legs : p + own + 2 ≤ length w
+  ranges-legs = omega (arith, ranges-rest)
+
+  pub ranges-place : length w < 2 ^ 64 → p + own < 2 ^ 64
+  ranges-place l = omega (arith, ranges-rest)
+
+  pub ranges-size : length w < 2 ^ 64 → own + 2 < 2 ^ 64
+  ranges-size l = omega (arith, ranges-rest)
+
+  pub ranges-next : length w < 2 ^ 64 → p + (own + 2) < 2 ^ 64
+  ranges-next l = omega (arith, ranges-rest)
+
+pub ruleset rows = (tests, call-is, calls-again, calls-out, calls-done, loose-order, strict-order, legs-bad, legs-end, ranges-again, ranges-out, ranges-done, ranges-rest, ranges-legs, ranges-place, ranges-size, ranges-next)

@@ -1,0 +1,6 @@
+pub mod Rows
+pub mod Says
+pub mod Laws
+pub mod Records
+pub mod Whole
+pub mod Examples

@@ -1,0 +1,186 @@
+-- The needs of the functions on whole records and on the table, a ruleset for each. Assumes nothing.
+use mathlib.Core.Path.{_≡_, ap, _∙_, sym}
+use mathlib.Core.List.{List, [], _∷_}
+use mathlib.Core.Bool.{Bool, true, false, not, _&&_}
+use Prim.Native.Nat.{ℕ, zero, suc, _+_, _-_, _*_, _^_, _≤_, _<_}
+use native.Mathlib.Nat.{sub-zero, add-zero}
+use native.Mathlib.Omega.{arith}
+use lib.ListN.{length, getD, take, drop, length-drop}
+use lib.Seq.{drop-drop, getD-drop, take-all, take-nil, drop-nil}
+use lib.Dec.{leb, eqb}
+use borrow.Author.Tests.{le-leb, lt-leb, eq-eqb, ne-eqb, not-true, not-false}
+use Rattle.base.specs.Lists.{every}
+use Rattle.base.proofs.Laws.{tests, by-eqb}
+use Rattle.timetable.specs.Table.{word, rowsIn, callAt, legsAt, categoryPlace, dayPlace, extraPlace, serviceAt, used, callSound, legsSound, serviceSound, countsSound, sizesSound, recordSound, recordsSound, isTable}
+use Rattle.table.specs.Whole.{recordEnd, headerSound}
+use Rattle.table.proofs.Says.{Sizes, sizes-say, record-says, service-parts, HeadOf, head-says, table-says}
+
+-- ---- the length of a record: said is its first word, y what its counts make it
+
+module _ (w : List ℕ) (said y : ℕ) (a : said ≡ getD w 0 0) (b : y ≡ recordEnd w) where
+  pub length-differs : (said ≡ y → ⊥) → false ≡ (eqb (word w 0) (recordEnd w) && leb (word w 0) (length w))
+  length-differs d = rw (← a, ← b, ne-eqb said y d)
+
+  pub length-end : said ≡ y → leb said (length w) ≡ (eqb (word w 0) (recordEnd w) && leb (word w 0) (length w))
+  length-end d = rw (← a, ← b, eq-eqb said y d)
+
+-- its sizes; x says whether its counts are in their bounds, y whether its length is right
+module _ (w : List ℕ) (h : 11 ≤ length w) (x : Bool) (e : x ≡ countsSound (getD w 6 0) (getD w 7 0) (getD w 8 0) (getD w 9 0)) where
+  pub sizes-counts : not x ≡ true → false ≡ sizesSound w
+  sizes-counts n = rw (le-leb 11 (length w) h, sym e ∙ not-true x n)
+
+  pub sizes-length : not x ≡ false → (y : Bool) → y ≡ (eqb (word w 0) (recordEnd w) && leb (word w 0) (length w)) → y ≡ sizesSound w
+  sizes-length n y f = f ∙ rw (le-leb 11 (length w) h, sym e ∙ not-false x n)
+
+pub ruleset sizes = (tests, length-differs, length-end, sizes-counts, sizes-length)
+
+-- ---- what a record holds: x, y, z say whether its calls, its *G from g on and its *A VE from v on are sound
+
+pub parts-repeats : (w : List ℕ) → 999 < getD w 4 0 → false ≡ serviceSound (serviceAt w)
+parts-repeats w h = sym (service-parts w ∙ rw (lt-leb (getD w 4 0) 999 h))
+
+module _ (w : List ℕ) (a : getD w 4 0 ≤ 999) where
+  pub parts-offset : 999 < getD w 5 0 → false ≡ serviceSound (serviceAt w)
+  parts-offset h = sym (service-parts w ∙ rw (le-leb (getD w 4 0) 999 a, lt-leb (getD w 5 0) 999 h))
+
+  module _ (b : getD w 5 0 ≤ 999) (x : Bool) (e : x ≡ every callSound (rowsIn callAt 4 (getD w 6 0) (drop 11 w))) where
+    pub parts-calls : not x ≡ true → false ≡ serviceSound (serviceAt w)
+    parts-calls n = sym (service-parts w ∙ rw (le-leb (getD w 4 0) 999 a, le-leb (getD w 5 0) 999 b, sym e ∙ not-true x n))
+
+    module _ (n : not x ≡ false) (g : ℕ) (i : g ≡ categoryPlace w) (y : Bool) (f : y ≡ every (legsSound false (getD w 6 0)) (rowsIn (legsAt 1) 3 (getD w 7 0) (drop g w))) where
+      after-calls : serviceSound (serviceAt w) ≡ (y && (every (legsSound false (getD w 6 0)) (rowsIn (legsAt 1) 3 (getD w 8 0) (drop (dayPlace w) w)) && every (legsSound true (getD w 6 0)) (rowsIn (legsAt 2) 4 (getD w 9 0) (drop (extraPlace w) w))))
+      after-calls = service-parts w ∙ rw (le-leb (getD w 4 0) 999 a, le-leb (getD w 5 0) 999 b, sym e ∙ not-false x n, f, i)
+
+      pub parts-categories : not y ≡ true → false ≡ serviceSound (serviceAt w)
+      parts-categories m = sym (after-calls ∙ rw (not-true y m))
+
+      module _ (m : not y ≡ false) (v : ℕ) (j : v ≡ dayPlace w) (z : Bool) (k : z ≡ every (legsSound false (getD w 6 0)) (rowsIn (legsAt 1) 3 (getD w 8 0) (drop v w))) where
+        after-categories : serviceSound (serviceAt w) ≡ (z && every (legsSound true (getD w 6 0)) (rowsIn (legsAt 2) 4 (getD w 9 0) (drop (extraPlace w) w)))
+        after-categories = after-calls ∙ rw (not-false y m, k, j)
+
+        pub parts-days : not z ≡ true → false ≡ serviceSound (serviceAt w)
+        parts-days o = sym (after-categories ∙ rw (not-true z o))
+
+        pub parts-extras : not z ≡ false → (p : ℕ) → p ≡ extraPlace w → (r : Bool) → r ≡ every (legsSound true (getD w 6 0)) (rowsIn (legsAt 2) 4 (getD w 9 0) (drop p w)) → r ≡ serviceSound (serviceAt w)
+        parts-extras o p l r q = sym (after-categories ∙ rw (not-false z o, q, l))
+
+pub ruleset parts = (tests, parts-repeats, parts-offset, parts-calls, parts-categories, parts-days, parts-extras)
+
+-- ---- one record; x says whether its sizes are sound
+
+module _ (w : List ℕ) (x : Bool) (e : x ≡ sizesSound w) where
+  pub record-sizes : not x ≡ true → false ≡ recordSound w
+  unfolding recordSound
+  record-sizes n = rw (sym e ∙ not-true x n)
+
+  module _ (n : not x ≡ false) where
+    pub record-room : recordEnd w ≤ length w
+    record-room = sizes-say w (sym e ∙ not-false x n) .inside
+
+    pub record-parts : (y : Bool) → y ≡ serviceSound (serviceAt w) → y ≡ recordSound w
+    unfolding recordSound
+    record-parts y f = f ∙ rw (sym e ∙ not-false x n)
+
+pub ruleset one = (tests, record-sizes, record-room, record-parts)
+
+-- ---- parts of the words
+
+pub rest-is : (w : List ℕ) (at : ℕ) → take (length w - at) (drop at w) ≡ drop at w
+rest-is w at = take-all (length w - at) (drop at w) (rw length-drop (omega arith))
+
+pub part-is : (a b : ℕ) (l : List ℕ) → take (b - a) (drop a l) ≡ drop a (take b l)
+part-is zero b l = rw sub-zero
+part-is (suc a) zero l =
+    let e : 0 - suc a ≡ 0 = omega arith in
+    rw e (sym (drop-nil (suc a)))
+part-is (suc a) (suc b) [] = take-nil (suc b - suc a)
+part-is (suc a) (suc b) (x ∷ l) =
+    let e : suc b - suc a ≡ b - a = omega arith in
+    rw e (part-is a b l)
+
+-- ---- records one after the other; x says whether the record at `at` is sound
+
+pub one-record : (k : ℕ) (u : List ℕ) → 0 < k → recordsSound k u ≡ (recordSound u && recordsSound (k - 1) (drop (word u 0) u))
+unfolding recordsSound
+one-record zero u h = absurd (omega arith)
+one-record (suc k) u h =
+    let e : suc k - 1 ≡ k = omega arith in
+    rw e
+
+pub first-word : (w : List ℕ) (at : ℕ) → getD (drop at w) 0 0 ≡ getD w at 0
+first-word w at = getD-drop at w 0 0 ∙ rw add-zero
+
+module _ (w : List ℕ) (at : ℕ) (x : Bool) (i : at ≤ length w) (e : x ≡ recordSound (take (length w - at) (drop at w))) where
+  record-here : x ≡ recordSound (drop at w)
+  record-here = e ∙ ap recordSound (rest-is w at)
+
+  module _ (n : not x ≡ false) where
+    sizes-here : Sizes (drop at w)
+    sizes-here = record-says (drop at w) (sym record-here ∙ not-false x n) .0
+
+    pub records-inside : at < length w
+    records-inside = omega (arith, sizes-here .head, length-drop at w)
+
+    pub records-fit : (y : ℕ) → y ≡ getD w at 0 → at + y ≤ length w
+    records-fit y q = omega (arith, sizes-here .said, sizes-here .inside, length-drop at w, first-word w at, records-inside)
+
+  module _ (k : ℕ) (r : Bool) (h : 0 < k) (v : recordsSound k (drop at w) ≡ r) where
+    pub records-again : (y : ℕ) → y ≡ getD w at 0 → not x ≡ false → recordsSound (k - 1) (drop (at + y) w) ≡ r
+    records-again y q n = rw (one-record k (drop at w) h, sym record-here ∙ not-false x n, first-word w at, ← q, drop-drop y at w) at v
+
+    pub records-out : not x ≡ true → false ≡ r
+    records-out n = rw (one-record k (drop at w) h, sym record-here ∙ not-true x n) at v
+
+pub records-done : (w : List ℕ) (at k : ℕ) (r : Bool) → at ≤ length w → k ≤ 0 → recordsSound k (drop at w) ≡ r → eqb at (length w) ≡ r
+unfolding recordsSound
+records-done w at zero r i h v =
+    by-eqb (λ (t : Bool). t ≡ eqb (length w - at) 0) at (length w) (λ q. sym (eq-eqb (length w - at) 0 (omega arith))) (λ d. sym (ne-eqb (length w - at) 0 (λ z. d (omega arith))))
+    ∙ rw (length-drop at w) at v
+records-done w at (suc k) r i h v = absurd (omega arith)
+
+pub ruleset records = (tests, records-inside, records-fit, records-again, records-out, records-done)
+
+-- ---- the table; x says whether its header is sound
+
+pub table-short : (w : List ℕ) → length w < 8 → false ≡ isTable w
+unfolding isTable
+table-short w h = rw (lt-leb 8 (length w) h)
+
+module _ (w : List ℕ) (h : 8 ≤ length w) (x : Bool) (e : x ≡ headerSound w) where
+  pub table-head : not x ≡ true → false ≡ isTable w
+  unfolding isTable
+  table-head n = rw (le-leb 8 (length w) h, sym e ∙ not-true x n)
+
+  module _ (n : not x ≡ false) where
+    head-here : HeadOf w
+    head-here = head-says (length w) (getD w 0 0) (getD w 1 0) (getD w 2 0) (getD w 3 0) (getD w 4 0) (getD w 5 0) (getD w 7 0) (sym e ∙ not-false x n)
+
+    pub table-room : (end : ℕ) → end ≡ getD w 0 0 → end ≤ length w
+    table-room end p = omega (arith, head-here .used-high)
+
+    pub table-scaled : (at : ℕ) → at ≡ getD w 7 0 → length w * 4 < 2 ^ 63 → at * 4 < 2 ^ 64
+    table-scaled at q l = omega (arith, head-here .inside, head-here .used-high)
+
+    module _ (at end : ℕ) (q : at ≡ getD w 7 0) (p : end ≡ getD w 0 0) where
+      pub table-order : at ≤ end
+      table-order = omega (arith, head-here .inside)
+
+      pub table-rest : (r : Bool) → r ≡ recordsSound (getD w 6 0) (take (end - at) (drop at w)) → r ≡ isTable w
+      unfolding isTable
+      table-rest r f = f ∙ rw (le-leb 8 (length w) h, sym e ∙ not-false x n, ← p, ← q, part-is at end w)
+
+pub ruleset whole = (tests, table-short, table-head, table-order, table-scaled, table-room, table-rest)
+
+-- ---- the words used
+
+module _ (w : List ℕ) (e : isTable w ≡ true) where
+  pub used-first : 0 < length w
+  used-first = omega (arith, table-says w e .used-low, table-says w e .used-high)
+
+  pub used-room : (s : ℕ) → s ≡ getD w 0 0 → s ≤ length w
+  used-room s q = omega (arith, table-says w e .used-high)
+
+pub used-are : (w : List ℕ) (s : ℕ) → s ≡ getD w 0 0 → take (s - 0) w ≡ used w
+used-are w s q = rw (sub-zero, q)
+
+pub ruleset front = (tests, used-first, used-room, used-are)

@@ -1,0 +1,345 @@
+// Whether any words are a table (21), the words that a table uses, and the sections of its records.
+// Sums of words are taken in 64 bits, and no word is read before its place is known to be there.
+use timetable::BIT_FIELD_WORDS;
+use timetable::CALL_WORDS;
+use timetable::CATEGORY_WORDS;
+use timetable::Call;
+use timetable::DAYS_WORDS;
+use timetable::EXTRA_WORDS;
+use timetable::HEADER_WORDS;
+use timetable::INTERCHANGE_WORDS;
+use timetable::MOST_CALLS;
+use timetable::MOST_CATEGORIES;
+use timetable::MOST_DAYS;
+use timetable::MOST_EXTRAS;
+use timetable::SERVICE_WORDS;
+use timetable::STOP_WORDS;
+ghost use mathlib.Core.Path.{_≡_};
+ghost use mathlib.Core.Bool.{true, _&&_};
+ghost use Prim.Native.Nat.{_+_, _*_, _≤_};
+ghost use lib.ListN.{length, drop};
+ghost use lib.Dec.{leb, eqb};
+ghost use Rattle.base.specs.Lists.{every};
+ghost use Rattle.timetable.specs.Load.{headerSize, serviceHead, callSize, recordSize, firstService};
+ghost use Rattle.timetable.specs.Ranges.{inOrder};
+ghost use Rattle.timetable.specs.Table.{word, rowsIn, legsAt, callAt, serviceAt, categoryPlace, dayPlace, extraPlace, used, callSound, legsSound, serviceSound, countsSound, sizesSound, recordSound, recordsSound, headSound, isTable};
+ghost use Rattle.table.specs.Whole.{recordEnd, headerSound};
+
+// The days of a period, at most.
+const MOST_PERIOD_DAYS: u32 = 380;
+
+// The day after 31.12.2199.
+const AFTER_LAST_DAY: u64 = 109573;
+
+// Repeats and offset, at most.
+const MOST_REPEATS: u32 = 999;
+
+// 999 hours and 59 minutes.
+const LATEST_TIME: u32 = 59999;
+
+// Every flag of a call.
+const ALL_FLAGS: u32 = 15;
+
+// Whether the words are a table.
+pub fn is_table(w: &[u32]) -> bool
+    ensures { λ r. ⌜ r ≡ isTable (now (w .entry)) ⌝ }
+{
+    if w.len() < HEADER_WORDS {
+        return false;
+    }
+    if !header_sound(w) {
+        return false;
+    }
+    records_sound(&w[size(w[7])..size(w[0])], w[6])
+}
+
+// The words that a table uses, without those after them.
+pub fn used_words(w: &[u32]) -> &[u32]
+    requires { ⌜ isTable (now w) ≡ true ⌝ }
+    ensures { λ r. ⌜ now r ≡ used (now (w .entry)) ⌝ }
+{
+    &w[0..size(w[0])]
+}
+
+// A word as a place or a count of words.
+pub fn size(x: u32) -> usize
+    ensures { λ r. ⌜ r ≡ x ⌝ }
+{
+    x as usize
+}
+
+// ---- the header
+
+// Whether the header is sound.
+fn header_sound(w: &[u32]) -> bool
+    requires { ⌜ headerSize ≤ length (now w) ⌝ }
+    ensures { λ r. ⌜ r ≡ headerSound (now (w .entry)) ⌝ }
+{
+    head_sound(w.len(), w[0], w[1], w[2], w[3], w[4], w[5], w[7])
+}
+
+// Whether its numbers go together, for so many words lent.
+fn head_sound(lent: usize, used: u32, first: u32, n: u32, b: u32, s: u32, u: u32, at: u32) -> bool
+    ensures { λ r. ⌜ r ≡ headSound lent used first n b s u at ⌝ }
+{
+    if (used as usize) < HEADER_WORDS {
+        return false;
+    }
+    if lent < used as usize {
+        return false;
+    }
+    if n < 1 {
+        return false;
+    }
+    if MOST_PERIOD_DAYS < n {
+        return false;
+    }
+    if AFTER_LAST_DAY < sum(first, n) {
+        return false;
+    }
+    if u < 1 {
+        return false;
+    }
+    let place = first_service(b, s, u);
+    if at as u64 != place {
+        return false;
+    }
+    at <= used
+}
+
+fn sum(x: u32, y: u32) -> u64
+    ensures { λ r. ⌜ r ≡ x + y ⌝ }
+{
+    x as u64 + y as u64
+}
+
+// The place of the first service.
+fn first_service(b: u32, s: u32, u: u32) -> u64
+    ensures { λ r. ⌜ r ≡ firstService b s u ⌝ }
+{
+    HEADER_WORDS as u64
+        + BIT_FIELD_WORDS as u64 * (b as u64)
+        + STOP_WORDS as u64 * (s as u64)
+        + INTERCHANGE_WORDS as u64 * (u as u64)
+}
+
+// ---- records
+
+// Whether v records follow each other and end with the words.
+fn records_sound(w: &[u32], v: u32) -> bool
+    ensures { λ r. ⌜ r ≡ recordsSound v (now (w .entry)) ⌝ }
+{
+    let mut at = 0;
+    let mut k = v;
+    while 0 < k {
+        if !record_sound(&w[at..]) {
+            return false;
+        }
+        at += size(w[at]);
+        k -= 1;
+    }
+    at == w.len()
+}
+
+// Whether the record at the front of the words is sound.
+fn record_sound(w: &[u32]) -> bool
+    ensures { λ r. ⌜ r ≡ recordSound (now (w .entry)) ⌝ }
+{
+    if !sizes_sound(w) {
+        return false;
+    }
+    service_sound(w)
+}
+
+// Whether its counts are in their bounds, and it is as long as it says.
+fn sizes_sound(w: &[u32]) -> bool
+    ensures { λ r. ⌜ r ≡ sizesSound (now (w .entry)) ⌝ }
+{
+    if w.len() < SERVICE_WORDS {
+        return false;
+    }
+    if !counts_sound(w[6], w[7], w[8], w[9]) {
+        return false;
+    }
+    length_sound(w)
+}
+
+// Whether its first word says how long its counts make it, and is within the words.
+fn length_sound(w: &[u32]) -> bool
+    requires { ⌜ serviceHead ≤ length (now w) ⌝ }
+    ensures { λ r. ⌜ r ≡ (eqb (word (now (w .entry)) 0) (recordEnd (now (w .entry))) && leb (word (now (w .entry)) 0) (length (now (w .entry)))) ⌝ }
+{
+    let said = size(w[0]);
+    if said as u64 != record_end(w) {
+        return false;
+    }
+    said <= w.len()
+}
+
+// Where its counts make it end.
+fn record_end(w: &[u32]) -> u64
+    requires { ⌜ serviceHead ≤ length (now w) ⌝ }
+    ensures { λ r. ⌜ r ≡ recordEnd (now (w .entry)) ⌝ }
+{
+    record_size(w[6], w[7], w[8], w[9])
+}
+
+fn counts_sound(c: u32, g: u32, v: u32, a: u32) -> bool
+    ensures { λ r. ⌜ r ≡ countsSound c g v a ⌝ }
+{
+    if c < 2 {
+        return false;
+    }
+    if MOST_CALLS < c {
+        return false;
+    }
+    if MOST_CATEGORIES < g {
+        return false;
+    }
+    if MOST_DAYS < v {
+        return false;
+    }
+    a <= MOST_EXTRAS
+}
+
+// The words of a record with these counts.
+fn record_size(c: u32, g: u32, v: u32, a: u32) -> u64
+    ensures { λ r. ⌜ r ≡ recordSize c g v a ⌝ }
+{
+    SERVICE_WORDS as u64
+        + CALL_WORDS as u64 * (c as u64)
+        + CATEGORY_WORDS as u64 * (g as u64)
+        + DAYS_WORDS as u64 * (v as u64)
+        + EXTRA_WORDS as u64 * (a as u64)
+}
+
+// Whether all that it holds is within bounds.
+fn service_sound(w: &[u32]) -> bool
+    requires { ⌜ recordEnd (now w) ≤ length (now w) ⌝ }
+    ensures { λ r. ⌜ r ≡ serviceSound (serviceAt (now (w .entry))) ⌝ }
+{
+    if MOST_REPEATS < w[4] {
+        return false;
+    }
+    if MOST_REPEATS < w[5] {
+        return false;
+    }
+    let c = w[6];
+    if !calls_sound(w, SERVICE_WORDS, c) {
+        return false;
+    }
+    if !ranges_sound(w, category_place(w), w[7], 1, false, c) {
+        return false;
+    }
+    if !ranges_sound(w, day_place(w), w[8], 1, false, c) {
+        return false;
+    }
+    ranges_sound(w, extra_place(w), w[9], 2, true, c)
+}
+
+// ---- the sections of a record
+
+// Where its *G begin.
+pub fn category_place(w: &[u32]) -> usize
+    requires { ⌜ recordEnd (now w) ≤ length (now w) ⌝ }
+    ensures { λ r. ⌜ r ≡ categoryPlace (now (w .entry)) ⌝ }
+{
+    SERVICE_WORDS + CALL_WORDS * size(w[6])
+}
+
+// Where its *A VE begin.
+pub fn day_place(w: &[u32]) -> usize
+    requires { ⌜ recordEnd (now w) ≤ length (now w) ⌝ }
+    ensures { λ r. ⌜ r ≡ dayPlace (now (w .entry)) ⌝ }
+{
+    category_place(w) + CATEGORY_WORDS * size(w[7])
+}
+
+// Where its other *A begin.
+pub fn extra_place(w: &[u32]) -> usize
+    requires { ⌜ recordEnd (now w) ≤ length (now w) ⌝ }
+    ensures { λ r. ⌜ r ≡ extraPlace (now (w .entry)) ⌝ }
+{
+    day_place(w) + DAYS_WORDS * size(w[8])
+}
+
+// The call at a place.
+pub fn call_at(w: &[u32], p: usize) -> Call
+    requires { ⌜ p + callSize ≤ length (now w) ⌝ }
+    ensures { λ r. ⌜ r ≡ callAt (drop p (now (w .entry))) ⌝ }
+{
+    Call {
+        stop: w[p],
+        arrival: w[p + 1],
+        departure: w[p + 2],
+        flags: w[p + 3],
+    }
+}
+
+// ---- calls and ranges
+
+// Whether the n calls from a place on have their times and flags within bounds.
+fn calls_sound(w: &[u32], at: usize, n: u32) -> bool
+    requires { ⌜ at + callSize * n ≤ length (now w) ⌝ }
+    ensures { λ r. ⌜ r ≡ every callSound (rowsIn callAt callSize n (drop at (now (w .entry)))) ⌝ }
+{
+    let mut p = at;
+    let mut k = n;
+    while 0 < k {
+        if !call_sound(call_at(w, p)) {
+            return false;
+        }
+        p += CALL_WORDS;
+        k -= 1;
+    }
+    true
+}
+
+fn call_sound(c: Call) -> bool
+    ensures { λ r. ⌜ r ≡ callSound c ⌝ }
+{
+    if LATEST_TIME < c.arrival {
+        return false;
+    }
+    if LATEST_TIME < c.departure {
+        return false;
+    }
+    c.flags <= ALL_FLAGS
+}
+
+// Whether the n ranges from a place on are sound on a route of c calls; the legs of each stand after so many words of its own.
+fn ranges_sound(w: &[u32], at: usize, n: u32, own: usize, loose: bool, c: u32) -> bool
+    requires { ⌜ at + (own + 2) * n ≤ length (now w) ⌝ }
+    ensures { λ r. ⌜ r ≡ every (legsSound loose c) (rowsIn (legsAt own) (own + 2) n (drop at (now (w .entry)))) ⌝ }
+{
+    let mut p = at;
+    let mut k = n;
+    while 0 < k {
+        if !legs_sound(w, p + own, loose, c) {
+            return false;
+        }
+        p += own + 2;
+        k -= 1;
+    }
+    true
+}
+
+// Whether the legs at a place are in order and end below c.
+fn legs_sound(w: &[u32], p: usize, loose: bool, c: u32) -> bool
+    requires { ⌜ p + 2 ≤ length (now w) ⌝ }
+    ensures { λ r. ⌜ r ≡ legsSound loose c (legsAt 0 (drop p (now (w .entry)))) ⌝ }
+{
+    if !in_order(loose, w[p], w[p + 1]) {
+        return false;
+    }
+    w[p + 1] < c
+}
+
+fn in_order(loose: bool, from: u32, to: u32) -> bool
+    ensures { λ r. ⌜ r ≡ inOrder loose from to ⌝ }
+{
+    if loose {
+        return from <= to;
+    }
+    from < to
+}

@@ -1,0 +1,73 @@
+-- What a delivery holds: what the lines of its five files say. Of an accepted delivery this is everything that its table and its walks go by.
+-- Assumes nothing.
+use Prim.Native.Nat.{ℕ}
+use mathlib.Core.List.{List}
+use Rattle.timetable.specs.declared.Opening.{Opening}
+use Rattle.timetable.specs.declared.Call.{Call}
+
+-- the five files, as bytes
+pub record Files : Type 0 where
+  pub eckdaten : List ℕ
+  pub bitfeld : List ℕ
+  pub bahnhof : List ℕ
+  pub umsteigb : List ℕ
+  pub fplan : List ℕ
+
+abbrev pub filesOf : List ℕ → List ℕ → List ℕ → List ℕ → List ℕ → Files
+filesOf e b s u p = record { eckdaten = e; bitfeld = b; bahnhof = s; umsteigb = u; fplan = p }
+
+-- the first day and the number of days n
+pub record Period : Type 0 where
+  pub start : ℕ
+  pub days : ℕ
+
+-- a bit field: its number and its twelve words
+pub record BitField : Type 0 where
+  pub number : ℕ
+  pub words : List ℕ
+
+-- a stop: its number, "byte offset of column 13 in BAHNHOF from 0, name length without trailing blanks"
+pub record StopRecord : Type 0 where
+  pub number : ℕ
+  pub offset : ℕ
+  pub size : ℕ
+
+-- an interchange record: its stop and its two times
+pub record Interchange : Type 0 where
+  pub number : ℕ
+  pub firstTime : ℕ
+  pub secondTime : ℕ
+
+-- the legs between two calls of a route
+pub record Legs : Type 0 where
+  pub from : ℕ
+  pub to : ℕ
+
+pub record CategoryRange : Type 0 where
+  pub name : ℕ
+  pub legs : Legs
+
+pub record DayRange : Type 0 where
+  pub field : ℕ
+  pub legs : Legs
+
+pub record ExtraRange : Type 0 where
+  pub code : ℕ
+  pub field : ℕ
+  pub legs : Legs
+
+-- a service: its *Z line's number and content, its calls, and its ranges, each kind in line order
+pub record Service : Type 0 where
+  pub line : ℕ
+  pub opening : Opening
+  pub calls : List Call
+  pub categories : List CategoryRange
+  pub days : List DayRange
+  pub extras : List ExtraRange
+
+pub record Delivery : Type 0 where
+  pub period : Period
+  pub fields : List BitField
+  pub stops : List StopRecord
+  pub interchanges : List Interchange
+  pub services : List Service

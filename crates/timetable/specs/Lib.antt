@@ -1,0 +1,10 @@
+pub mod Delivery
+pub mod Offences
+pub mod Files
+pub mod Plan
+pub mod Ranges
+pub mod Service
+pub mod Checks
+pub mod Load
+pub mod Table
+pub mod Questions

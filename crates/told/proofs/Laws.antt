@@ -1,0 +1,67 @@
+-- The needs of the functions of src, for `search telling`: each value that code computed stands with its equation. Assumes nothing.
+use mathlib.Core.Path.{_≡_, refl, ap, sym, _∙_}
+use mathlib.Core.List.{List}
+use mathlib.Core.Bool.{Bool, true, false}
+use Prim.Native.Nat.{ℕ, _+_, _*_, _^_, _≤_, _<_}
+use native.Mathlib.Nat.{add-zero}
+use native.Mathlib.Omega.{arith}
+use lib.Dec.{leb}
+use borrow.Author.Tests.{eq-eqb, ne-eqb, leb-true}
+use Rattle.base.proofs.Laws.{tests}
+use Rattle.columns.specs.Columns.{columns, number}
+use Rattle.lines.specs.Lines.{skipped}
+use Rattle.fields.specs.declared.Time.{Time}
+use Rattle.fields.specs.declared.Time.the-variants.{Absent, Stated, NoTime}
+use Rattle.forms.specs.Form.{Row, isFit, fits, formOf}
+use Rattle.forms.specs.Kinds.{kindOf}
+use Rattle.forms.specs.declared.Form.{Form}
+use Rattle.forms.specs.declared.Kind.{Kind}
+use Rattle.timetable.specs.Plan.{twoBytes, attributeEnds, attributeIn, flagsOf, formed, toldBy, toldIn}
+use Rattle.timetable.specs.declared.Ends.{Ends}
+use Rattle.timetable.specs.declared.Told.{Told}
+use Rattle.timetable.specs.declared.Told.the-variants.{Skip, Broken, Days, Extra}
+
+-- b says whether the line is skipped
+module _ (text : List ℕ) (b : Bool) (e : b ≡ skipped text) where
+  pub told-skip : b ≡ true → Skip ≡ toldIn text
+  unfolding toldIn
+  told-skip t = rw (← e, t)
+
+  pub told-kind : (k : Kind) (r : Told) → b ≡ false → k ≡ kindOf text → r ≡ toldBy k text → r ≡ toldIn text
+  unfolding toldIn
+  told-kind k r t d v = rw (← e, t, ← d) v
+
+-- f is the line's form, and b says whether it fits
+module _ (rows : List Row) (text : List ℕ) (f : Form) (b : Bool) (e : f ≡ formOf rows text) (d : b ≡ isFit f) where
+  pub form-fits : (x y : Told) → b ≡ true → x ≡ y → x ≡ formed (fits rows text) y
+  form-fits x y t v = rw (← e, ← d, t) v
+
+  pub form-broken : (y : Told) → b ≡ false → Broken ≡ formed (fits rows text) y
+  form-broken y t = rw (← e, ← d, t)
+
+-- the code, the bit field and the range ends of a *A line
+module _ (text : List ℕ) (code field : ℕ) (ends : Ends) (c : code ≡ twoBytes 4 text) (f : field ≡ number (columns 23 28 text)) (e : ends ≡ attributeEnds text) where
+  pub days-told : code ≡ 22085 → Days (record { field = field; ends = ends }) ≡ attributeIn text
+  days-told t = rw (← c, eq-eqb code 22085 t, f, e)
+
+  pub extra-told : (code ≡ 22085 → ⊥) → Extra (record { code = code; field = field; ends = ends }) ≡ attributeIn text
+  extra-told t = rw (← c, ne-eqb code 22085 t, f, e)
+
+-- the flags of a stated time, which "-" forbids or not
+module _ (f m : ℕ) (b : Bool) (t : Time) (e : t ≡ Stated m b) where
+  pub flags-barred : b ≡ true → f + 4 * f ≡ flagsOf f t
+  flags-barred d = rw (e, d)
+
+  pub flags-free : b ≡ false → f ≡ flagsOf f t
+  flags-free d = rw (e, d, add-zero)
+
+flags-le : (f : ℕ) (t : Time) → flagsOf f t ≤ 5 * f
+flags-le f Absent = omega arith
+flags-le f (Stated m true) = omega arith
+flags-le f (Stated m false) = omega arith
+flags-le f NoTime = omega arith
+
+pub flags-fit : (a b f g : ℕ) (t u : Time) → a ≡ flagsOf f t → b ≡ flagsOf g u → leb f 2 ≡ true → leb g 2 ≡ true → a + b < 2 ^ 32
+flags-fit a b f g t u p q i j = omega (arith, flags-le f t, flags-le g u, leb-true f 2 i, leb-true g 2 j)
+
+pub ruleset telling = (tests, told-skip, told-kind, form-fits, form-broken, days-told, extra-told, flags-barred, flags-free, flags-fit)

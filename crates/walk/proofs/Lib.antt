@@ -1,0 +1,4 @@
+pub mod Stretch
+pub mod Along
+pub mod Laws
+pub mod Examples

@@ -1,0 +1,17 @@
+pub mod Lists
+pub mod Records
+pub mod Back
+pub mod Ends
+pub mod Sound
+pub mod Clear
+pub mod Period
+pub mod Lines
+pub mod Right
+pub mod Accepted
+pub mod Once
+pub mod Stretch
+pub mod Times
+pub mod Resolved
+pub mod Rows
+pub mod Demand3
+pub mod Slack

@@ -1,0 +1,162 @@
+-- "6 number seen earlier in the same file": in an accepted delivery no number stands twice in BITFELD, BAHNHOF or UMSTEIGB, so the first match is the
+-- only one, and what is looked up by a line's number is that line's own. Assumes nothing.
+use mathlib.Core.Path.{_≡_, refl, sym, ap, _∙_, subst}
+use mathlib.Core.List.{List, [], _∷_, _++_, append-nil}
+use mathlib.Core.Bool.{Bool, true, false, cond, _||_}
+use mathlib.Core.Option.{Option, none, some}
+use Prim.Native.Nat.{ℕ, _%_}
+use native.Mathlib.Omega.{arith}
+use lib.Dec.{eqb}
+use borrow.Author.Tests.{eq-eqb}
+use Rattle.base.specs.Lists.{some-of, find}
+use Rattle.bitfield.specs.BitField.{framed, runsOn}
+use Rattle.lines.specs.Lines.{Line, linesOf}
+use Rattle.timetable.specs.Delivery.{Files, BitField, StopRecord, Interchange}
+use Rattle.timetable.specs.Offences.{first}
+use Rattle.timetable.specs.Files.{Held, skip, broken, held, listed, held-in, hasField, bitFieldOf, bitFieldOffence, bitFieldsFirst, hasStop, stopOf, stopOffence, stopsFirst, hasInterchange, interchangeOf, recordOffence, interchangeOffence, interchangesFirst}
+use Rattle.timetable.specs.Checks.{fieldRuns}
+use Rattle.timetable.specs.Load.{delivered}
+use Rattle.timetable.specs.Questions.{interchangeBy, interchangeAtStop}
+use Rattle.whole.specs.Promise.{All, nil, cons}
+use Rattle.whole.proofs.Lists.{apart, clash, all-append, all-to}
+use Rattle.whole.proofs.Clear.{then-none, first-keeps, held-more, Clear}
+
+-- ---- records with a number each
+
+-- what is found stays found as more follow
+module _ {X : Type 0} (p : X → Bool) where
+  find-more : (g : X) (xs ys : List X) → find p xs ≡ some g → find p (xs ++ ys) ≡ some g
+  unfolding find
+  find-more g [] ys e = apart (cc)
+  find-more g (x ∷ xs) ys e = go (p x) e (find-more g xs ys)
+    where
+      go : (t : Bool) → cond t (some x) (find p xs) ≡ some g → (find p xs ≡ some g → find p (xs ++ ys) ≡ some g) → cond t (some x) (find p (xs ++ ys)) ≡ some g
+      go true e more = e
+      go false e more = more e
+
+  find-past : (xs ys : List X) → some-of p xs ≡ false → find p (xs ++ ys) ≡ find p ys
+  unfolding find some-of
+  find-past [] ys e = refl
+  find-past (x ∷ xs) ys e = go (p x) e (find-past xs ys)
+    where
+      go : (t : Bool) → t || some-of p xs ≡ false → (some-of p xs ≡ false → find p (xs ++ ys) ≡ find p ys) → cond t (some x) (find p (xs ++ ys)) ≡ find p ys
+      go true e more = clash (sym e)
+      go false e more = more e
+
+-- what holds of all that a line without offence holds, holds of all that the lines hold
+all-held : {X : Type 0} (ok : X → Type 0) (hold : Line → Held X) (off : List Line → Line → ℕ) → ((before : List Line) (l : Line) → off before l ≡ 0 → All ok (listed (hold l)))
+    → (ls : List Line) → first off [] ls ≡ none → All ok (held-in hold ls)
+unfolding held-in
+all-held ok hold off one ls e =
+    first-keeps off (λ (b : List Line). All ok (held-in hold b))
+    (λ before l o h. subst (All ok) (sym (held-more hold before l)) (all-append ok h (one before l o)))
+    ls e nil
+
+module _ {X : Type 0} (number : X → ℕ) where
+  -- the first of its number is itself
+  abbrev pub Own : List X → X → Type 0
+  Own all x = find (λ (y : X). eqb (number y) (number x)) all ≡ some x
+
+  -- none of some records has a number
+  abbrev Unseen : List X → ℕ → Type 0
+  Unseen xs n = some-of (λ (y : X). eqb (number y) n) xs ≡ false
+
+  alone : (x : X) → Own (x ∷ []) x
+  unfolding find
+  alone x = rw (eq-eqb (number x) (number x) refl)
+
+  own-more : (xs : List X) (x : X) → All (Own xs) xs → Unseen xs (number x) → All (Own (xs ++ (x ∷ []))) (xs ++ (x ∷ []))
+  own-more xs x h e =
+      all-append (Own (xs ++ (x ∷ [])))
+      (all-to (Own xs) (Own (xs ++ (x ∷ []))) (λ y a. find-more (λ (z : X). eqb (number z) (number y)) y xs (x ∷ []) a) xs h)
+      (cons {x = x} (find-past (λ (y : X). eqb (number y) (number x)) xs (x ∷ []) e ∙ alone x) nil)
+
+  own-listed : (xs : List X) (h : Held X) → All (Own xs) xs → All (λ (x : X). Unseen xs (number x)) (listed h) → All (Own (xs ++ listed h)) (xs ++ listed h)
+  own-listed xs skip a u = rw append-nil a
+  own-listed xs broken a u = rw append-nil a
+  own-listed xs (held x) a (cons e t) = own-more xs x a e
+
+  own-held : (hold : Line → Held X) (off : List Line → Line → ℕ) → ((before : List Line) (l : Line) → off before l ≡ 0 → All (λ (x : X). Unseen (held-in hold before) (number x)) (listed (hold l)))
+      → (ls : List Line) → first off [] ls ≡ none → All (Own (held-in hold ls)) (held-in hold ls)
+  unfolding held-in
+  own-held hold off one ls e =
+      first-keeps off (λ (b : List Line). All (Own (held-in hold b)) (held-in hold b))
+      (λ before l o h. subst (λ (r : List X). All (Own r) r) (sym (held-more hold before l)) (own-listed (held-in hold before) (hold l) h (one before l o)))
+      ls e nil
+
+-- ---- 2 BITFELD
+
+not-7-6 : (s t u : Bool) → _≡_ {A = ℕ} (cond s 7 (cond t 6 (cond u 0 8))) 0 → (s ≡ false) × (t ≡ false)
+not-7-6 true t u e = absurd (omega arith)
+not-7-6 false true u e = absurd (omega arith)
+not-7-6 false false u e = (refl, refl)
+
+module _ (n : ℕ) where
+  field-unseen : (earlier : List BitField) (h : Held BitField) → bitFieldOffence n earlier h ≡ 0 → All (λ (b : BitField). Unseen (λ (y : BitField). y .number) earlier (b .number)) (listed h)
+  field-unseen earlier skip e = nil
+  field-unseen earlier broken e = nil
+  field-unseen earlier (held f) e = cons {x = f} (not-7-6 (eqb (f .number) 0) (hasField (f .number) earlier) (framed n (f .words)) e .1) nil
+
+  field-not-0 : (earlier : List BitField) (h : Held BitField) → bitFieldOffence n earlier h ≡ 0 → All (λ (b : BitField). eqb (b .number) 0 ≡ false) (listed h)
+  field-not-0 earlier skip e = nil
+  field-not-0 earlier broken e = nil
+  field-not-0 earlier (held f) e = cons {x = f} (not-7-6 (eqb (f .number) 0) (hasField (f .number) earlier) (framed n (f .words)) e .0) nil
+
+field-runs : (all : List BitField) (k : ℕ) {xs : List BitField} → All (Own (λ (y : BitField). y .number) all) xs → All (λ (b : BitField). eqb (b .number) 0 ≡ false) xs
+    → All (λ (b : BitField). fieldRuns all (b .number) k ≡ runsOn (b .words) k) xs
+unfolding fieldRuns
+field-runs all k nil nil = nil
+field-runs all k (cons {x = b} p q) (cons u v) = cons {x = b} (rw (u, p)) (field-runs all k q v)
+
+-- a bit field's number runs on the days of that very line's bits
+pub fields-run : (f : Files) → Clear f → (k : ℕ) → All (λ (b : BitField). fieldRuns (delivered f .fields) (b .number) k ≡ runsOn (b .words) k) (delivered f .fields)
+unfolding delivered bitFieldsFirst
+fields-run f h k =
+    field-runs (delivered f .fields) k
+    (own-held (λ (y : BitField). y .number) bitFieldOf _ (λ before l o. field-unseen _ (held-in bitFieldOf before) (bitFieldOf l) o) (linesOf (f .bitfeld)) (h .fields))
+    (all-held _ bitFieldOf _ (λ before l o. field-not-0 _ (held-in bitFieldOf before) (bitFieldOf l) o) (linesOf (f .bitfeld)) (h .fields))
+
+-- ---- 3 BAHNHOF
+
+not-6 : (s t : Bool) → _≡_ {A = ℕ} (cond s 7 (cond t 6 0)) 0 → t ≡ false
+not-6 true t e = absurd (omega arith)
+not-6 false true e = absurd (omega arith)
+not-6 false false e = refl
+
+stop-unseen : (earlier : List StopRecord) (h : Held StopRecord) → stopOffence earlier h ≡ 0 → All (λ (s : StopRecord). Unseen (λ (y : StopRecord). y .number) earlier (s .number)) (listed h)
+stop-unseen earlier skip e = nil
+stop-unseen earlier broken e = nil
+stop-unseen earlier (held s) e = cons {x = s} (not-6 (eqb (s .number) 9999999 || eqb (s .number % 100000) 0) (hasStop (s .number) earlier) e) nil
+
+pub stops-own : (f : Files) → Clear f → All (Own (λ (y : StopRecord). y .number) (delivered f .stops)) (delivered f .stops)
+unfolding delivered stopsFirst
+stops-own f h = own-held (λ (y : StopRecord). y .number) stopOf _ (λ before l o. stop-unseen (held-in stopOf before) (stopOf l) o) (linesOf (f .bahnhof)) (h .stops)
+
+-- ---- 4 UMSTEIGB
+
+not-6-9 : (s t : Bool) → _≡_ {A = ℕ} (cond s 6 (cond t 0 9)) 0 → s ≡ false
+not-6-9 true t e = absurd (omega arith)
+not-6-9 false t e = refl
+
+module _ (stops : List StopRecord) where
+  record-unseen : (earlier : List Interchange) (c : Interchange) → recordOffence stops earlier c ≡ 0 → Unseen (λ (y : Interchange). y .number) earlier (c .number)
+  unfolding some-of
+  record-unseen [] c e = refl
+  record-unseen (x ∷ earlier) c e = not-6-9 (hasInterchange (c .number) (x ∷ earlier)) (hasStop (c .number) stops) e
+
+  interchange-unseen : (earlier : List Interchange) (h : Held Interchange) → interchangeOffence stops earlier h ≡ 0 → All (λ (c : Interchange). Unseen (λ (y : Interchange). y .number) earlier (c .number)) (listed h)
+  interchange-unseen earlier skip e = nil
+  interchange-unseen earlier broken e = nil
+  interchange-unseen earlier (held c) e = cons {x = c} (record-unseen earlier c e) nil
+
+interchanges-own : (f : Files) → Clear f → All (Own (λ (y : Interchange). y .number) (delivered f .interchanges)) (delivered f .interchanges)
+unfolding delivered interchangesFirst
+interchanges-own f h = own-held (λ (y : Interchange). y .number) interchangeOf _ (λ before l o. interchange-unseen _ (held-in interchangeOf before) (interchangeOf l) o) (linesOf (f .umsteigb)) (then-none _ _ (h .interchanges) .0)
+
+-- the record at a stop that has one is that very line's
+pub interchanges-at : (f : Files) → Clear f → All (λ (x : Interchange). interchangeAtStop (delivered f) (x .number) ≡ x) (delivered f .interchanges)
+unfolding interchangeAtStop
+interchanges-at f h =
+    all-to (Own (λ (y : Interchange). y .number) (delivered f .interchanges)) (λ (x : Interchange). interchangeAtStop (delivered f) (x .number) ≡ x)
+    (λ x e. ap (λ (o : Option Interchange). interchangeBy o (delivered f .interchanges)) e)
+    (delivered f .interchanges) (interchanges-own f h)

@@ -1,0 +1,97 @@
+//! Questions on a table.
+
+use crate::raw;
+use crate::refusal::Refusal;
+use crate::row::Rows;
+
+/// A date as it is asked; whether it exists is for the answer to say.
+#[derive(Clone, Copy, Debug, PartialEq, Eq)]
+pub struct Date {
+    pub day: u32,
+    pub month: u32,
+    pub year: u32,
+}
+
+/// Words to ask. Any words may be asked; each question first looks whether they are a table, and answers
+/// [`Refusal::NotATable`] if not. Words after the table's own are not looked at.
+///
+/// Its first eight words are words used, first day (from 01.01.1900, which is 0), days, bit fields, stops, interchange
+/// records, services, and the place of the first service.
+#[derive(Clone, Copy, Debug)]
+pub struct Table<'a> {
+    words: &'a [u32],
+}
+
+/// The answer of a walk.
+#[derive(Clone, Copy, Debug, PartialEq, Eq)]
+pub enum Walk<'r> {
+    /// The service operates no leg on that day. The rows stay as lent.
+    NotRunning,
+    /// The calls of that day's stretch. Words after the rows stay as lent.
+    Rows(Rows<'r>),
+}
+
+impl<'a> Table<'a> {
+    /// The words to ask, for as long as they are borrowed.
+    pub fn new(words: &'a [u32]) -> Table<'a> {
+        Table { words }
+    }
+
+    /// The words as they were given.
+    pub fn words(self) -> &'a [u32] {
+        self.words
+    }
+
+    /// Whether a bit field runs on a date; 0 always runs.
+    ///
+    /// # Panics
+    ///
+    /// As [`load`](crate::load) does, here and in the other questions.
+    pub fn day(self, field: u32, date: Date) -> Result<bool, Refusal> {
+        let Date { day, month, year } = date;
+        // SAFETY: pointer and length are those of a slice.
+        let answer = unsafe { raw::estelunya_day(self.words.as_ptr(), self.words.len(), day, month, year, field) };
+        answered(answer.number, 0, answer.runs != 0)
+    }
+
+    /// The minutes to change at a stop from a class to a class.
+    pub fn interchange(self, stop: u32, arriving: u32, departing: u32) -> Result<u32, Refusal> {
+        // SAFETY: pointer and length are those of a slice.
+        let answer =
+            unsafe { raw::estelunya_interchange(self.words.as_ptr(), self.words.len(), stop, arriving, departing) };
+        answered(answer.number, 0, answer.minutes)
+    }
+
+    /// Walks a run that starts on a date: service by its index from 0 in FPLAN's order, repeat 0 for the run itself.
+    /// Refused: the rows stay as lent.
+    pub fn walk(self, service: u32, repeat: u32, date: Date, rows: &mut [u32]) -> Result<Walk<'_>, Refusal> {
+        let Date { day, month, year } = date;
+        // SAFETY: each pointer and length is that of a slice, and the mutable slice does not overlap the other.
+        let answer = unsafe {
+            raw::estelunya_walk(
+                self.words.as_ptr(),
+                self.words.len(),
+                service,
+                repeat,
+                day,
+                month,
+                year,
+                rows.as_mut_ptr(),
+                rows.len(),
+            )
+        };
+        let walk = match answer.rows {
+            0 => Walk::NotRunning,
+            listed => Walk::Rows(Rows::new(rows, listed)),
+        };
+        answered(answer.number, answer.needed, walk)
+    }
+}
+
+fn answered<T>(number: u32, needed: u32, answer: T) -> Result<T, Refusal> {
+    match (number, Refusal::from_number(number, needed)) {
+        (0, _) => Ok(answer),
+        (_, Some(refusal)) => Err(refusal),
+        (_, None) => panic!("the archive answered {}", number),
+    }
+}

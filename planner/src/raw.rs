@@ -1,0 +1,96 @@
+//! The archive's four functions and their answers, as `include/estelunya.h` and `crates/estelunya/src/lib.rt` declare
+//! them. A slice is a pointer, then its length in items. `tools/drift.sh` holds the three declarations together.
+
+/// The answer of [`estelunya_load`].
+#[repr(C)]
+#[derive(Clone, Copy, Debug, PartialEq, Eq)]
+pub struct LoadResult {
+    /// 0: accepted; else the refusal, 1 to 20.
+    pub number: u32,
+    /// 1 ECKDATEN, 2 BITFELD, 3 BAHNHOF, 4 UMSTEIGB, 5 FPLAN; 0 if accepted, and for 20.
+    pub file: u32,
+    /// The line, counted from 1; 0 if accepted, and for 1 and 20.
+    pub line: u32,
+    /// The words used if accepted, the words needed for 20, else 0.
+    pub words: u32,
+}
+
+/// The answer of [`estelunya_day`].
+#[repr(C)]
+#[derive(Clone, Copy, Debug, PartialEq, Eq)]
+pub struct DayResult {
+    /// 0: answered; else the refusal: 21, 22, 23, 28.
+    pub number: u32,
+    /// 1 if the bit field runs on the day, else 0.
+    pub runs: u32,
+}
+
+/// The answer of [`estelunya_interchange`].
+#[repr(C)]
+#[derive(Clone, Copy, Debug, PartialEq, Eq)]
+pub struct InterchangeResult {
+    /// 0: answered; else the refusal: 21, 26, 27.
+    pub number: u32,
+    /// The interchange time; 0 if refused.
+    pub minutes: u32,
+}
+
+/// The answer of [`estelunya_walk`].
+#[repr(C)]
+#[derive(Clone, Copy, Debug, PartialEq, Eq)]
+pub struct WalkResult {
+    /// 0: answered; else the refusal: 21 to 25, 29, 31 to 36.
+    pub number: u32,
+    /// The rows listed; 0 if the service is not running on the day, and if refused.
+    pub rows: u32,
+    /// The words needed for 29, else 0.
+    pub needed: u32,
+}
+
+// The contract of all four: each pointer is good for its length (reads, and writes for `table` of the load and `rows`);
+// the words lent overlap no other argument. Nothing is asked of what the bytes, words and numbers say.
+extern "C" {
+    /// Loads the five files into the words lent. Accepted: the first `words` of them are the table, later words stay.
+    /// Refused: all words stay.
+    pub fn estelunya_load(
+        eckdaten: *const u8,
+        eckdaten_len: usize,
+        bitfeld: *const u8,
+        bitfeld_len: usize,
+        bahnhof: *const u8,
+        bahnhof_len: usize,
+        umsteigb: *const u8,
+        umsteigb_len: usize,
+        fplan: *const u8,
+        fplan_len: usize,
+        table: *mut u32,
+        table_len: usize,
+    ) -> LoadResult;
+
+    /// Whether a bit field of the table runs on a date.
+    pub fn estelunya_day(table: *const u32, table_len: usize, day: u32, month: u32, year: u32, field: u32)
+        -> DayResult;
+
+    /// The interchange time at a stop between two classes.
+    pub fn estelunya_interchange(
+        table: *const u32,
+        table_len: usize,
+        stop: u32,
+        arriving: u32,
+        departing: u32,
+    ) -> InterchangeResult;
+
+    /// Walks a repeat of a service on a date into the words lent, 7 a row. Listed: later words stay. Not running or
+    /// refused: all words stay.
+    pub fn estelunya_walk(
+        table: *const u32,
+        table_len: usize,
+        service: u32,
+        repeat: u32,
+        day: u32,
+        month: u32,
+        year: u32,
+        rows: *mut u32,
+        rows_len: usize,
+    ) -> WalkResult;
+}

@@ -1,0 +1,232 @@
+//! Refusals by their numbers, each with a sentence for people. `REFUSALS.md` says how to mend them.
+
+use std::error::Error;
+use std::fmt;
+use std::mem::discriminant;
+
+/// A file of a delivery.
+#[derive(Clone, Copy, Debug, PartialEq, Eq)]
+pub enum File {
+    Eckdaten = 1,
+    Bitfeld = 2,
+    Bahnhof = 3,
+    Umsteigb = 4,
+    Fplan = 5,
+}
+
+const FILES: [(File, &str); 5] = [
+    (File::Eckdaten, "ECKDATEN"),
+    (File::Bitfeld, "BITFELD"),
+    (File::Bahnhof, "BAHNHOF"),
+    (File::Umsteigb, "UMSTEIGB"),
+    (File::Fplan, "FPLAN"),
+];
+
+/// The text beside a value; every value is listed.
+fn text_of<T: Copy + PartialEq>(texts: &[(T, &'static str)], value: T) -> &'static str {
+    texts.iter().find(|(listed, _)| *listed == value).map_or("", |(_, text)| text)
+}
+
+impl File {
+    /// The file's number, 1 to 5.
+    pub fn number(self) -> u32 {
+        self as u32
+    }
+
+    /// The file of a number; `None` unless 1 to 5.
+    pub fn from_number(number: u32) -> Option<File> {
+        FILES.iter().map(|(file, _)| *file).find(|file| file.number() == number)
+    }
+
+    /// The file's name in a delivery.
+    pub fn name(self) -> &'static str {
+        text_of(&FILES, self)
+    }
+}
+
+impl fmt::Display for File {
+    fn fmt(&self, f: &mut fmt::Formatter<'_>) -> fmt::Result {
+        f.write_str(self.name())
+    }
+}
+
+/// Why a delivery is refused.
+#[derive(Clone, Copy, Debug, PartialEq, Eq)]
+pub enum Offence {
+    FileTooLong = 1,
+    LineMissing = 2,
+    FourthLine = 3,
+    Form = 4,
+    NoSuchDate = 5,
+    NumberSeenEarlier = 6,
+    NumberNotAllowed = 7,
+    FrameWrong = 8,
+    StopUnknown = 9,
+    BitFieldUnknown = 10,
+    OtherLineKind = 11,
+    NoServiceYet = 12,
+    TooManyLines = 13,
+    UnderTwoCalls = 14,
+    Times = 15,
+    RangeNotOnRoute = 16,
+    Categories = 17,
+    OperatingDays = 18,
+    TwoStretches = 19,
+    TableTooShort = 20,
+}
+
+const OFFENCES: [(Offence, &str); 20] = [
+    (Offence::FileTooLong, "the file has more than 16,777,216 bytes"),
+    (Offence::LineMissing, "a line is missing: ECKDATEN needs three lines, UMSTEIGB at least the record of 9999999"),
+    (Offence::FourthLine, "ECKDATEN has more than three lines"),
+    (Offence::Form, "the line does not have its form"),
+    (Offence::NoSuchDate, "there is no such date, or the period ends before it starts or has more than 380 days"),
+    (Offence::NumberSeenEarlier, "an earlier line of the same file has this number"),
+    (
+        Offence::NumberNotAllowed,
+        "this number cannot stand here: 000000, a stop 9999999 or ending 00000, or a first record that is not 9999999",
+    ),
+    (Offence::FrameWrong, "the frame is wrong: two bits 1 before and two after the days of the period, then 0"),
+    (Offence::StopUnknown, "the stop is not in BAHNHOF"),
+    (Offence::BitFieldUnknown, "the bit field is not in BITFELD"),
+    (Offence::OtherLineKind, "a line of this kind is not taken"),
+    (Offence::NoServiceYet, "no *Z line has opened a service yet"),
+    (Offence::TooManyLines, "the service has over 200 calls, 50 *G, 50 *A VE or 100 other *A lines"),
+    (Offence::UnderTwoCalls, "the service has fewer than two calls"),
+    (Offence::Times, "a time of this call is missing, or earlier than the time before it"),
+    (Offence::RangeNotOnRoute, "an end of this range is not on the route, or its ends stand in the wrong order"),
+    (Offence::Categories, "a leg of the service does not have exactly one *G line"),
+    (Offence::OperatingDays, "a leg of the service does not have exactly one *A VE line"),
+    (Offence::TwoStretches, "on some day the service runs on two or more separate stretches"),
+    (Offence::TableTooShort, "the delivery is right, but the table lent is too short for it"),
+];
+
+impl Offence {
+    /// Document 01's number, 1 to 20.
+    pub fn number(self) -> u32 {
+        self as u32
+    }
+
+    /// The offence of a number; `None` unless 1 to 20.
+    pub fn from_number(number: u32) -> Option<Offence> {
+        OFFENCES.iter().map(|(offence, _)| *offence).find(|offence| offence.number() == number)
+    }
+}
+
+impl fmt::Display for Offence {
+    fn fmt(&self, f: &mut fmt::Formatter<'_>) -> fmt::Result {
+        f.write_str(text_of(&OFFENCES, *self))
+    }
+}
+
+/// A refused delivery. Its text begins as the program's line does: `refused N file F line L`.
+#[derive(Clone, Copy, Debug, PartialEq, Eq)]
+pub struct LoadRefusal {
+    pub offence: Offence,
+    /// The file to mend; `None` for [`Offence::TableTooShort`] only.
+    pub file: Option<File>,
+    /// The line to look at, counted from 1; 0 for [`Offence::FileTooLong`] and [`Offence::TableTooShort`].
+    pub line: u32,
+    /// The words that the table needs; 0 unless [`Offence::TableTooShort`].
+    pub needed: u32,
+}
+
+impl fmt::Display for LoadRefusal {
+    fn fmt(&self, f: &mut fmt::Formatter<'_>) -> fmt::Result {
+        let file = self.file.map_or(0, File::number);
+        write!(f, "refused {} file {} line {}: ", self.offence.number(), file, self.line)?;
+        match self.file {
+            Some(file) => write!(f, "{}: {}", file, self.offence),
+            None => write!(f, "{}: {} words are needed", self.offence, self.needed),
+        }
+    }
+}
+
+impl Error for LoadRefusal {}
+
+/// Why a question is refused.
+#[derive(Clone, Copy, Debug, PartialEq, Eq)]
+pub enum Refusal {
+    /// 21
+    NotATable,
+    /// 22
+    NoSuchDate,
+    /// 23
+    OutsidePeriod,
+    /// 24
+    NoSuchService,
+    /// 25
+    NoSuchRepeat,
+    /// 26
+    ClassOver13,
+    /// 27
+    StopUnknown,
+    /// 28
+    NoSuchBitField,
+    /// 29, with the words that the rows need
+    RowsTooShort { needed: u32 },
+    /// 31
+    BitFieldUnknown,
+    /// 32
+    CallStopUnknown,
+    /// 33
+    Categories,
+    /// 34
+    OperatingDays,
+    /// 35
+    TwoStretches,
+    /// 36
+    Times,
+}
+
+const REFUSALS: [(u32, Refusal, &str); 15] = [
+    (21, Refusal::NotATable, "the words are not a table"),
+    (22, Refusal::NoSuchDate, "there is no such date"),
+    (23, Refusal::OutsidePeriod, "the date is outside the period"),
+    (24, Refusal::NoSuchService, "the service index is not below the number of services"),
+    (25, Refusal::NoSuchRepeat, "the repeat number is over the service's repeats"),
+    (26, Refusal::ClassOver13, "a class is over 13"),
+    (27, Refusal::StopUnknown, "the stop is not in the table"),
+    (28, Refusal::NoSuchBitField, "there is no such bit field in the table"),
+    (29, Refusal::RowsTooShort { needed: 0 }, "the rows lent are too short"),
+    (31, Refusal::BitFieldUnknown, "the bit field of a leg is not in the table"),
+    (32, Refusal::CallStopUnknown, "the stop of a call is not in the table"),
+    (33, Refusal::Categories, "a leg does not have exactly one category"),
+    (34, Refusal::OperatingDays, "a leg does not have exactly one range of operating days"),
+    (35, Refusal::TwoStretches, "on that day the service runs on two or more separate stretches"),
+    (36, Refusal::Times, "a time that the run needs is missing, or earlier than the one before it"),
+];
+
+impl Refusal {
+    /// Document 01's number, 21 to 29 or 31 to 36.
+    pub fn number(self) -> u32 {
+        self.entry().0
+    }
+
+    /// The refusal of a number, with the words needed if it is 29; `None` unless 21 to 29 or 31 to 36.
+    pub fn from_number(number: u32, needed: u32) -> Option<Refusal> {
+        match REFUSALS.iter().find(|entry| entry.0 == number)?.1 {
+            Refusal::RowsTooShort { .. } => Some(Refusal::RowsTooShort { needed }),
+            other => Some(other),
+        }
+    }
+
+    /// Number and text; every refusal is listed.
+    fn entry(self) -> (u32, &'static str) {
+        let same = REFUSALS.iter().find(|entry| discriminant(&entry.1) == discriminant(&self));
+        same.map_or((0, ""), |entry| (entry.0, entry.2))
+    }
+}
+
+impl fmt::Display for Refusal {
+    fn fmt(&self, f: &mut fmt::Formatter<'_>) -> fmt::Result {
+        let (number, text) = self.entry();
+        write!(f, "refused {}: {}", number, text)?;
+        match self {
+            Refusal::RowsTooShort { needed } => write!(f, ": {} words are needed", needed),
+            _ => Ok(()),
+        }
+    }
+}
+
+impl Error for Refusal {}

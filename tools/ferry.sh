@@ -1,0 +1,61 @@
+#!/bin/sh
+# ferry.sh: runs the program on every kind of delivery that it tells apart, and compares what it prints. Ends with 'ferry.sh: ok'.
+set -eu
+cd "$(dirname "$0")/.."
+root=$PWD
+sample=$root/crates/ferry/data
+place=target/ferry
+emulator=
+[ "$(uname -m)" = x86_64 ] || emulator=qemu-x86_64
+
+rt check ferry >target/ferry.log 2>&1 || { cat target/ferry.log >&2; exit 1; }
+
+# a fresh copy of the sample delivery
+fresh() {
+    rm -rf "$place"
+    mkdir -p "$place"
+    cp "$sample"/* "$place"
+}
+
+# says NAME EXPECTED: the program prints exactly this on the delivery at hand
+says() {
+    said=$(cd "$place" && $emulator "$root/target/bin/ferry")
+    [ "$said" = "$2" ] || { echo "ferry.sh: $1: '$said' instead of '$2'" >&2; exit 1; }
+    echo "  $1: $said"
+}
+
+# filled FILE SIZE: FILE with blank and "%" lines up to so many bytes
+filled() {
+    size=$(wc -c <"$place/$1")
+    printf '%%%*s' "$(($2 - size - 1))" '' >>"$place/$1"
+}
+
+fresh
+says 'the trial week' 'accepted days 7 bitfields 1 stops 3 interchange 1 services 1 words 66'
+fresh
+echo '31.02.2025' >"$place/ECKDATEN"
+says 'no such date' 'refused 5 file 1 line 1'
+fresh
+sed -i 's/FE6/FE4/' "$place/BITFELD"
+says 'a wrong frame' 'refused 8 file 2 line 1'
+fresh
+sed -i '2s/1000022/1000011/' "$place/BAHNHOF"
+says 'a stop listed twice' 'refused 6 file 3 line 2'
+fresh
+sed -i 's/  2  3/ 61  3/' "$place/UMSTEIGB"
+says '61 minutes' 'refused 4 file 4 line 1'
+fresh
+sed -i 's/^1000033 /1000099 /' "$place/FPLAN"
+says 'an unknown stop' 'refused 9 file 5 line 6'
+fresh
+rm "$place/UMSTEIGB"
+says 'a missing file' 'unread file 4'
+fresh
+filled BAHNHOF 8192
+says '8,192 bytes' 'accepted days 7 bitfields 1 stops 3 interchange 1 services 1 words 66'
+filled BAHNHOF 8194
+says 'a longer file' 'unread file 3'
+fresh
+filled FPLAN 8193
+says '8,193 bytes' 'unread file 5'
+echo "ferry.sh: ok"
