@@ -119,8 +119,52 @@ pub const EXTRA_WORDS: usize = 4;
 
 pub const ROW_WORDS: usize = 7;
 
-// ---- what one service may have (13)
+// The twelve words of a bit field's 384 bits.
+pub const BIT_WORDS: usize = 12;
 
+// ---- where the header's words stand
+
+pub const USED_AT: usize = 0;
+
+pub const FIRST_DAY_AT: usize = 1;
+
+pub const PERIOD_DAYS_AT: usize = 2;
+
+pub const BIT_FIELDS_AT: usize = 3;
+
+pub const STOPS_AT: usize = 4;
+
+pub const INTERCHANGES_AT: usize = 5;
+
+pub const SERVICES_AT: usize = 6;
+
+pub const FIRST_SERVICE_AT: usize = 7;
+
+// ---- where the words of a service's head stand
+
+pub const SIZE_AT: usize = 0;
+
+pub const REPEATS_AT: usize = 4;
+
+pub const OFFSET_AT: usize = 5;
+
+pub const CALLS_AT: usize = 6;
+
+pub const CATEGORIES_AT: usize = 7;
+
+pub const DAYS_AT: usize = 8;
+
+pub const EXTRAS_AT: usize = 9;
+
+// ---- limits
+
+// "file over 16,777,216 bytes" (1)
+pub const MOST_FILE_BYTES: usize = 16777216;
+
+// "A period of n days has 1 to 380."
+pub const MOST_PERIOD_DAYS: u32 = 380;
+
+// What one service may have (13).
 pub const MOST_CALLS: u32 = 200;
 
 pub const MOST_CATEGORIES: u32 = 50;
@@ -128,3 +172,9 @@ pub const MOST_CATEGORIES: u32 = 50;
 pub const MOST_DAYS: u32 = 50;
 
 pub const MOST_EXTRAS: u32 = 100;
+
+// The words of a service that has as many calls and ranges as it may: 11 + 4 * 200 + 3 * 50 + 3 * 50 + 4 * 100.
+pub const MOST_SERVICE_WORDS: usize = 1511;
+
+// The words of the bit fields of as many operating-day ranges as a service may have: 12 * 50.
+pub const MOST_DAYS_BITS: usize = 600;

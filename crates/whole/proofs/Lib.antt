@@ -15,3 +15,4 @@ pub mod Resolved
 pub mod Rows
 pub mod Demand3
 pub mod Slack
+pub mod Numbers
