@@ -39,6 +39,6 @@ frameBit n k b = cond (ltb k 2) b (cond (ltb k (n + 2)) true (cond (ltb k (n + 4
 unfoldable pub framed : ℕ → List ℕ → Bool
 framed n ws = every (λ (k : ℕ). frameBit n k (bit ws k)) (below 384)
 
--- some day of n days is in the set
+-- some day of n days is in the set (for the contract of `some_day` only)
 abbrev pub someDay : ℕ → List ℕ → Bool
 someDay n ws = some-of (runsOn ws) (below n)

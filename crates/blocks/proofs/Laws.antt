@@ -8,7 +8,7 @@ use Prim.Native.Nat.{ℕ, _+_, _-_, _≤_, _<_}
 use native.Mathlib.Omega.{arith}
 use lib.ListN.{length, take, drop, length-append}
 use Rattle.base.proofs.Laws.{tests}
-use Rattle.lines.specs.Lines.{Line, linesOf, skipped, cutAt}
+use Rattle.lines.specs.Lines.{Line, linesOf, skipped, cutAt, linesAt}
 use Rattle.lines.specs.declared.Cut.{Cut}
 use Rattle.lines.proofs.Laws.{walk, Cutting, cutting, lines-none}
 use Rattle.lines.proofs.Parts.{LineStart, start-next, part-lines}
@@ -16,7 +16,7 @@ use Rattle.forms.specs.Kinds.{kindOf}
 use Rattle.timetable.specs.Offences.{first}
 use Rattle.timetable.specs.Plan.{isOpening, opens}
 use Rattle.timetable.specs.Service.{headLines, blocks}
-use Rattle.blocks.specs.Blocks.{linesAt, Boundary, ServiceEnd, headOffence, HeadClear}
+use Rattle.blocks.specs.Blocks.{Boundary, ServiceEnd, headOffence, HeadClear}
 
 -- ---- the first of some lines
 

@@ -6,14 +6,14 @@ use mathlib.Core.Option.{none, some}
 use Prim.Native.Nat.{ℕ, _≤_}
 use native.Mathlib.Omega.{arith}
 use lib.ListN.{length, take}
-use Rattle.lines.specs.Lines.{Line, linesOf}
+use Rattle.lines.specs.Lines.{Line, linesOf, linesAt}
 use Rattle.lines.proofs.Laws.{lines-none}
 use Rattle.timetable.specs.Delivery.{BitField, StopRecord}
 use Rattle.timetable.specs.Offences.{_<|>_}
 use Rattle.timetable.specs.Plan.{opens}
 use Rattle.timetable.specs.Service.{headLines, blocks}
 use Rattle.timetable.specs.Checks.{serviceFirst, servicesFirst, planFirst}
-use Rattle.blocks.specs.Blocks.{linesAt, Boundary, ServiceEnd, headOffence, HeadClear}
+use Rattle.blocks.specs.Blocks.{Boundary, ServiceEnd, headOffence, HeadClear}
 use Rattle.blocks.specs.declared.Block.{Block}
 use Rattle.blocks.proofs.Laws.{blocks-open}
 

@@ -4,17 +4,13 @@ use mathlib.Core.Path.{_≡_}
 use mathlib.Core.List.{List, [], _∷_}
 use mathlib.Core.Bool.{cond}
 use mathlib.Core.Option.{Option, none, some}
-use lib.ListN.{length, take, drop}
-use Rattle.lines.specs.Lines.{Line, linesFrom, linesOf, skipped}
+use lib.ListN.{length, take}
+use Rattle.lines.specs.Lines.{Line, linesAt, linesOf, skipped}
 use Rattle.timetable.specs.Offences.{Offence, first}
 use Rattle.timetable.specs.Service.{headLines, blocks}
 use Rattle.blocks.specs.declared.Block.{Block}
 use Rattle.blocks.specs.declared.Head.{Head}
 use Rattle.blocks.specs.declared.Head.the-variants.{Stray, Clear}
-
--- the lines from line n on, which starts at place `at`
-abbrev pub linesAt : List ℕ → ℕ → ℕ → List Line
-linesAt f at n = linesFrom n at (drop at f)
 
 -- where a service may begin: what starts there, if anything, opens one
 pub record Boundary (f : List ℕ) (at n : ℕ) : Type 0 where

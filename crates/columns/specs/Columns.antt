@@ -42,7 +42,7 @@ digitValue b = cond (isDigit b) (b - 48) 0
 abbrev pub hexValue : ℕ → ℕ
 hexValue b = cond (isDigit b) (b - 48) (cond (leb 65 b && leb b 70) (b - 55) 0)
 
--- what every byte of a field may have to be
+-- what every byte of a field may have to be (for the contract of `every_in` only)
 abbrev pub isOf : Class → ℕ → Bool
 isOf Digit b = isDigit b
 isOf Hex b = isHex b

@@ -54,6 +54,7 @@ timeIn p =
     (cond (eqb (getD p 0 32) 45) (clock true (drop 1 p))
     NoTime))
 
+-- of a part of a line: its first six columns
 abbrev pub time : List ℕ → Time
 time p = timeIn (padTo 6 p)
 
@@ -67,6 +68,7 @@ indexBy NoNumber = NoEnd
 unfoldable pub rangeEndIn : List ℕ → RangeEnd
 rangeEndIn p = cond (blank p) Outer (cond (digits p) (Stop (record { 0 = number p })) (indexBy (hash p)))
 
+-- of a part of a line: its first seven columns
 abbrev pub rangeEnd : List ℕ → RangeEnd
 rangeEnd p = rangeEndIn (padTo 7 p)
 
@@ -86,5 +88,6 @@ nthBy NoNumber d = d
 unfoldable pub detailIn : List ℕ → Detail
 detailIn p = nthBy (hash p) (timedBy (timeIn p))
 
+-- of a part of a line: its first six columns
 abbrev pub detail : List ℕ → Detail
 detail p = detailIn (padTo 6 p)

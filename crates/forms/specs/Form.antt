@@ -91,7 +91,7 @@ abbrev pub detailOf : ℕ → Rule
 detailOf c line p = cond (isStop (F.rangeEnd (C.columns c (c + 6) line))) (isDetail (F.detail p)) true
 
 -- the offset beside the repeats in the three columns from c: "digits, both or neither blank";
--- "One or more repeats need an offset of at least 1" ("0" is byte 48)
+-- "One or more repeats need an offset of at least 1, else 4." Digits say 1 or more exactly where not all of them are "0" (byte 48).
 abbrev pub offsetOf : ℕ → Rule
 offsetOf c line p =
     cond (C.blank (C.columns c (c + 2) line)) (C.blank p)
@@ -142,7 +142,7 @@ unfoldable pub formFrom : ℕ → List Row → List ℕ → Form
 formFrom c [] line = unnamed c (length line) line
 formFrom c (x ∷ xs) line = before (rowForm c x line) (formFrom (x .to) xs line)
 
--- whether a line has the form, or the column where the leftmost field or unnamed column that breaks it starts
+-- whether a line has the form, or the column where the leftmost field or unnamed column that breaks it starts (01 asks only whether)
 abbrev pub formOf : List Row → List ℕ → Form
 formOf rows line = formFrom 0 rows line
 

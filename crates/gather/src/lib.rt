@@ -5,8 +5,8 @@ use timetable::Told;
 ghost use mathlib.Core.Path.{_≡_};
 ghost use mathlib.Core.List.{[]};
 ghost use Prim.Native.Nat.{_+_, _*_, _/_, _≤_, _<_};
-ghost use lib.ListN.{length, drop};
-ghost use Rattle.lines.specs.Lines.{linesFrom};
+ghost use lib.ListN.{length};
+ghost use Rattle.lines.specs.Lines.{linesAt};
 ghost use Rattle.route.specs.Route.{callsIn};
 ghost use Rattle.words.specs.Words.{write};
 ghost use Rattle.base.specs.Lists.{gathered};
@@ -50,10 +50,10 @@ pub struct RangeEnds {
 // Writes the words of a service from place q on.
 pub fn service_into(b: &[u8], at: usize, no: u32, t: &mut [u32], q: usize) -> Sizes
     requires { ⌜ (at < length (now b)) × (length (now b) ≤ 16777216) × (no ≤ at + 1) ⌝ }
-    requires { ⌜ length (callsOf (linesFrom no at (drop at (now b)))) ≤ 200 ⌝ }
-    requires { ⌜ q + length (serviceWords (serviceOf (linesFrom no at (drop at (now b))))) ≤ length (now t) ⌝ }
-    requires { ⌜ length (serviceWords (serviceOf (linesFrom no at (drop at (now b))))) ≤ 4294967295 ⌝ }
-    ensures { λ r. ⌜ (r ≡ sizesOf (serviceOf (linesFrom no at (drop at (now (b .entry)))))) × (now (t .exit) ≡ write (now (t .entry)) q (serviceWords (serviceOf (linesFrom no at (drop at (now (b .entry))))))) ⌝ }
+    requires { ⌜ length (callsOf (linesAt (now b) at no)) ≤ 200 ⌝ }
+    requires { ⌜ q + length (serviceWords (serviceOf (linesAt (now b) at no))) ≤ length (now t) ⌝ }
+    requires { ⌜ length (serviceWords (serviceOf (linesAt (now b) at no))) ≤ 4294967295 ⌝ }
+    ensures { λ r. ⌜ (r ≡ sizesOf (serviceOf (linesAt (now (b .entry)) at no))) × (now (t .exit) ≡ write (now (t .entry)) q (serviceWords (serviceOf (linesAt (now (b .entry)) at no)))) ⌝ }
 {
     let z = body_into(b, at, no, t, q + 11);
     let o = opening_of(b, at, no);
@@ -64,10 +64,10 @@ pub fn service_into(b: &[u8], at: usize, no: u32, t: &mut [u32], q: usize) -> Si
 // Writes the calls and ranges of a service from place q on.
 fn body_into(b: &[u8], at: usize, no: u32, t: &mut [u32], q: usize) -> Sizes
     requires { ⌜ (at < length (now b)) × (length (now b) ≤ 16777216) × (no ≤ at + 1) ⌝ }
-    requires { ⌜ length (callsOf (linesFrom no at (drop at (now b)))) ≤ 200 ⌝ }
-    requires { ⌜ q + length (bodyWords (serviceOf (linesFrom no at (drop at (now b))))) ≤ length (now t) ⌝ }
-    requires { ⌜ 11 + length (bodyWords (serviceOf (linesFrom no at (drop at (now b))))) ≤ 4294967295 ⌝ }
-    ensures { λ r. ⌜ (r ≡ sizesOf (serviceOf (linesFrom no at (drop at (now (b .entry)))))) × (now (t .exit) ≡ write (now (t .entry)) q (bodyWords (serviceOf (linesFrom no at (drop at (now (b .entry))))))) ⌝ }
+    requires { ⌜ length (callsOf (linesAt (now b) at no)) ≤ 200 ⌝ }
+    requires { ⌜ q + length (bodyWords (serviceOf (linesAt (now b) at no))) ≤ length (now t) ⌝ }
+    requires { ⌜ 11 + length (bodyWords (serviceOf (linesAt (now b) at no))) ≤ 4294967295 ⌝ }
+    ensures { λ r. ⌜ (r ≡ sizesOf (serviceOf (linesAt (now (b .entry)) at no))) × (now (t .exit) ≡ write (now (t .entry)) q (bodyWords (serviceOf (linesAt (now (b .entry)) at no)))) ⌝ }
 {
     let mut calls = [0u32; 800];
     let c = calls_into(b, at, no, &mut calls);
@@ -77,10 +77,10 @@ fn body_into(b: &[u8], at: usize, no: u32, t: &mut [u32], q: usize) -> Sizes
 // The same where w holds the service's c calls.
 fn body_with(b: &[u8], at: usize, no: u32, w: &[u32], c: u32, t: &mut [u32], q: usize) -> Sizes
     requires { ⌜ (at ≤ length (now b)) × (length (now b) ≤ 16777216) × (no ≤ at + 1) × (c * 4 ≤ length (now w)) ⌝ }
-    requires { ⌜ callsIn c (now w) ≡ callsOf (linesFrom no at (drop at (now b))) ⌝ }
-    requires { ⌜ q + length (bodyWords (serviceOf (linesFrom no at (drop at (now b))))) ≤ length (now t) ⌝ }
-    requires { ⌜ 11 + length (bodyWords (serviceOf (linesFrom no at (drop at (now b))))) ≤ 4294967295 ⌝ }
-    ensures { λ r. ⌜ (r ≡ sizesOf (serviceOf (linesFrom no at (drop at (now (b .entry)))))) × (now (t .exit) ≡ write (now (t .entry)) q (bodyWords (serviceOf (linesFrom no at (drop at (now (b .entry))))))) ⌝ }
+    requires { ⌜ callsIn c (now w) ≡ callsOf (linesAt (now b) at no) ⌝ }
+    requires { ⌜ q + length (bodyWords (serviceOf (linesAt (now b) at no))) ≤ length (now t) ⌝ }
+    requires { ⌜ 11 + length (bodyWords (serviceOf (linesAt (now b) at no))) ≤ 4294967295 ⌝ }
+    ensures { λ r. ⌜ (r ≡ sizesOf (serviceOf (linesAt (now (b .entry)) at no))) × (now (t .exit) ≡ write (now (t .entry)) q (bodyWords (serviceOf (linesAt (now (b .entry)) at no)))) ⌝ }
 {
     let g = part_into(Part::Calls, b, at, no, w, c, t, q);
     let r = ranges_into(b, at, no, w, c, t, g);
@@ -104,8 +104,8 @@ fn ranges_into(
     q: usize,
 ) -> RangeEnds
     requires { ⌜ (at ≤ length (now b)) × (length (now b) ≤ 16777216) × (no ≤ at + 1) × (c * 4 ≤ length (now w)) ⌝ }
-    requires { ⌜ q + length (rangeWords (callsIn c (now w)) (linesFrom no at (drop at (now b)))) ≤ length (now t) ⌝ }
-    ensures { λ r. ⌜ (r ≡ rangeEnds q (callsIn c (now (w .entry))) (linesFrom no at (drop at (now (b .entry))))) × (now (t .exit) ≡ write (now (t .entry)) q (rangeWords (callsIn c (now (w .entry))) (linesFrom no at (drop at (now (b .entry)))))) ⌝ }
+    requires { ⌜ q + length (rangeWords (callsIn c (now w)) (linesAt (now b) at no)) ≤ length (now t) ⌝ }
+    ensures { λ r. ⌜ (r ≡ rangeEnds q (callsIn c (now (w .entry))) (linesAt (now (b .entry)) at no)) × (now (t .exit) ≡ write (now (t .entry)) q (rangeWords (callsIn c (now (w .entry))) (linesAt (now (b .entry)) at no))) ⌝ }
 {
     let v = part_into(Part::Categories, b, at, no, w, c, t, q);
     let r = attributes_into(b, at, no, w, c, t, v);
@@ -127,8 +127,8 @@ fn attributes_into(
     q: usize,
 ) -> RangeEnds
     requires { ⌜ (at ≤ length (now b)) × (length (now b) ≤ 16777216) × (no ≤ at + 1) × (c * 4 ≤ length (now w)) ⌝ }
-    requires { ⌜ q + length (attributeWords (callsIn c (now w)) (linesFrom no at (drop at (now b)))) ≤ length (now t) ⌝ }
-    ensures { λ r. ⌜ (r ≡ attributeEnds q (callsIn c (now (w .entry))) (linesFrom no at (drop at (now (b .entry))))) × (now (t .exit) ≡ write (now (t .entry)) q (attributeWords (callsIn c (now (w .entry))) (linesFrom no at (drop at (now (b .entry)))))) ⌝ }
+    requires { ⌜ q + length (attributeWords (callsIn c (now w)) (linesAt (now b) at no)) ≤ length (now t) ⌝ }
+    ensures { λ r. ⌜ (r ≡ attributeEnds q (callsIn c (now (w .entry))) (linesAt (now (b .entry)) at no)) × (now (t .exit) ≡ write (now (t .entry)) q (attributeWords (callsIn c (now (w .entry))) (linesAt (now (b .entry)) at no))) ⌝ }
 {
     let days = part_into(Part::Days, b, at, no, w, c, t, q);
     let extras = part_into(Part::Extras, b, at, no, w, c, t, days);
@@ -156,9 +156,9 @@ fn sizes_of(c: u32, categories: usize, days: usize, extras: usize, body: usize) 
 // Writes the calls to the front of `calls`; how many they are.
 pub fn calls_into(b: &[u8], at: usize, no: u32, calls: &mut [u32]) -> u32
     requires { ⌜ (at ≤ length (now b)) × (length (now b) ≤ 16777216) × (no ≤ at + 1) ⌝ }
-    requires { ⌜ length (callsOf (linesFrom no at (drop at (now b)))) ≤ 200 ⌝ }
+    requires { ⌜ length (callsOf (linesAt (now b) at no)) ≤ 200 ⌝ }
     requires { ⌜ 800 ≤ length (now calls) ⌝ }
-    ensures { λ r. ⌜ (r ≡ length (callsOf (linesFrom no at (drop at (now (b .entry)))))) × (now (calls .exit) ≡ write (now (calls .entry)) 0 (gathered callWords (callsOf (linesFrom no at (drop at (now (b .entry))))))) ⌝ }
+    ensures { λ r. ⌜ (r ≡ length (callsOf (linesAt (now (b .entry)) at no))) × (now (calls .exit) ≡ write (now (calls .entry)) 0 (gathered callWords (callsOf (linesAt (now (b .entry)) at no)))) ⌝ }
 {
     let none = [0u32; 1];
     let end = part_into(Part::Calls, b, at, no, &none, 0, calls, 0);
@@ -168,7 +168,7 @@ pub fn calls_into(b: &[u8], at: usize, no: u32, calls: &mut [u32]) -> u32
 // What the *Z line says.
 fn opening_of(b: &[u8], at: usize, no: u32) -> Opening
     requires { ⌜ (at < length (now b)) × (length (now b) ≤ 16777216) × (no ≤ at + 1) ⌝ }
-    ensures { λ r. ⌜ r ≡ serviceOf (linesFrom no at (drop at (now (b .entry)))) .opening ⌝ }
+    ensures { λ r. ⌜ r ≡ serviceOf (linesAt (now (b .entry)) at no) .opening ⌝ }
 {
     let cut = reader::line_from(b, at, no);
     let stop = cut.stop;
@@ -212,8 +212,8 @@ pub fn part_into(
     to: usize,
 ) -> usize
     requires { ⌜ (at ≤ length (now b)) × (length (now b) ≤ 16777216) × (no ≤ at + 1) × (c * 4 ≤ length (now w)) ⌝ }
-    requires { ⌜ to + length (partWords part (callsIn c (now w)) (linesFrom no at (drop at (now b)))) ≤ length (now t) ⌝ }
-    ensures { λ r. ⌜ (r ≡ to + length (partWords part (callsIn c (now (w .entry))) (linesFrom no at (drop at (now (b .entry)))))) × (now (t .exit) ≡ write (now (t .entry)) to (partWords part (callsIn c (now (w .entry))) (linesFrom no at (drop at (now (b .entry)))))) ⌝ }
+    requires { ⌜ to + length (partWords part (callsIn c (now w)) (linesAt (now b) at no)) ≤ length (now t) ⌝ }
+    ensures { λ r. ⌜ (r ≡ to + length (partWords part (callsIn c (now (w .entry))) (linesAt (now (b .entry)) at no))) × (now (t .exit) ≡ write (now (t .entry)) to (partWords part (callsIn c (now (w .entry))) (linesAt (now (b .entry)) at no))) ⌝ }
 {
     let mut place = at;
     let mut line = no;

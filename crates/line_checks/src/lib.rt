@@ -5,11 +5,11 @@ ghost use mathlib.Core.Path.{_≡_};
 ghost use mathlib.Core.List.{[]};
 ghost use mathlib.Core.Bool.{cond};
 ghost use Prim.Native.Nat.{_+_, _≤_};
-ghost use lib.ListN.{length, drop};
+ghost use lib.ListN.{length};
 ghost use lib.Dec.{ltb};
-ghost use Rattle.lines.specs.Lines.{linesOf, linesFrom};
+ghost use Rattle.lines.specs.Lines.{linesAt};
 ghost use Rattle.timetable.specs.Offences.{first};
-ghost use Rattle.timetable.specs.Files.{held-in, bitFieldOf, stopOf, hasStop};
+ghost use Rattle.timetable.specs.Files.{hasStop, bitFieldsIn, stopsIn};
 ghost use Rattle.timetable.specs.Checks.{fieldKnown, ownOffence};
 ghost use Rattle.line_checks.specs.Own.{countsOf, counted, Within, offenceAfter, ownBy};
 
@@ -30,7 +30,7 @@ pub enum Own {
 // The own checks of a service's lines.
 pub fn own_checks(b: &[u8], at: usize, no: u32, bitfeld: &[u8], bahnhof: &[u8]) -> Own
     requires { ⌜ (at ≤ length (now b)) × (length (now b) ≤ 16777216) × (no ≤ at + 1) ⌝ }
-    ensures { λ r. ⌜ r ≡ ownBy (first (ownOffence (held-in bitFieldOf (linesOf (now (bitfeld .entry)))) (held-in stopOf (linesOf (now (bahnhof .entry))))) [] (linesFrom no at (drop at (now (b .entry))))) (countsOf (linesFrom no at (drop at (now (b .entry))))) ⌝ }
+    ensures { λ r. ⌜ r ≡ ownBy (first (ownOffence (bitFieldsIn (now (bitfeld .entry))) (stopsIn (now (bahnhof .entry)))) [] (linesAt (now (b .entry)) at no)) (countsOf (linesAt (now (b .entry)) at no)) ⌝ }
 {
     let mut k = Counts {
         calls: 0,
@@ -57,7 +57,7 @@ pub fn own_checks(b: &[u8], at: usize, no: u32, bitfeld: &[u8], bahnhof: &[u8]) 
 
 // The own offence of what a line says, where so many lines of each kind stand before it; 0 for none.
 fn offence_after(k: Counts, said: Told, bitfeld: &[u8], bahnhof: &[u8]) -> u32
-    ensures { λ r. ⌜ r ≡ offenceAfter (held-in bitFieldOf (linesOf (now (bitfeld .entry)))) (held-in stopOf (linesOf (now (bahnhof .entry)))) k said ⌝ }
+    ensures { λ r. ⌜ r ≡ offenceAfter (bitFieldsIn (now (bitfeld .entry))) (stopsIn (now (bahnhof .entry))) k said ⌝ }
 {
     match said {
         Told::Skip => 0,
@@ -95,7 +95,7 @@ fn limited(count: u32, most: u32, o: u32) -> u32
 
 // 10 for a bit field that BITFELD does not have; 0 is daily.
 fn field_offence(bitfeld: &[u8], field: u32) -> u32
-    ensures { λ r. ⌜ r ≡ cond (fieldKnown field (held-in bitFieldOf (linesOf (now (bitfeld .entry))))) 0 10 ⌝ }
+    ensures { λ r. ⌜ r ≡ cond (fieldKnown field (bitFieldsIn (now (bitfeld .entry)))) 0 10 ⌝ }
 {
     if field == 0 {
         return 0;
@@ -108,7 +108,7 @@ fn field_offence(bitfeld: &[u8], field: u32) -> u32
 
 // 9 for a stop that BAHNHOF does not have.
 fn stop_offence(bahnhof: &[u8], stop: u32) -> u32
-    ensures { λ r. ⌜ r ≡ cond (hasStop stop (held-in stopOf (linesOf (now (bahnhof .entry))))) 0 9 ⌝ }
+    ensures { λ r. ⌜ r ≡ cond (hasStop stop (stopsIn (now (bahnhof .entry)))) 0 9 ⌝ }
 {
     if sections::known_stop(bahnhof, stop) {
         return 0;

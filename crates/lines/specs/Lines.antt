@@ -38,15 +38,20 @@ numbered n at (p ∷ ps) = record { no = n; start = at; text = noCR p } ∷ numb
 unfoldable pub linesFrom : ℕ → ℕ → List ℕ → List Line
 linesFrom n at s = numbered n at (pieces s)
 
+-- the lines of a file from line n on, which starts at place `at`
+abbrev pub linesAt : List ℕ → ℕ → ℕ → List Line
+linesAt f at n = linesFrom n at (drop at f)
+
 -- the lines of a file
 abbrev pub linesOf : List ℕ → List Line
 linesOf s = linesFrom 1 0 s
 
--- "a line that is all blank or starts with "%" is skipped but counted" (% is byte 37)
+-- "Except in ECKDATEN, a line that is all blank or starts with "%" is skipped but counted." (% is byte 37)
 unfoldable pub skipped : List ℕ → Bool
 skipped text = eqb (column 1 text) 37 || blank text
 
--- ---- one step of the walk of a file: the line that starts at a place
+-- ---- one step of the walk of a file: the line that starts at a place. Nobody has to believe what follows: `lines::line_at` is promised over it,
+-- and the law `cutting` (proofs/Laws) says that such steps give the lines above.
 
 -- how many bytes stand before the first LF (all, where there is none)
 unfoldable pub toLF : List ℕ → ℕ

@@ -6,9 +6,8 @@ ghost use mathlib.Core.Path.{_≡_};
 ghost use Rattle.calendar.specs.Calendar.{dateIn};
 ghost use Rattle.forms.specs.Form.{fits};
 ghost use Rattle.forms.specs.Columns.{dateColumns};
-ghost use Rattle.lines.specs.Lines.{linesFrom, linesOf};
+ghost use Rattle.lines.specs.Lines.{linesOf, linesAt};
 ghost use Rattle.timetable.specs.Files.{dayNumber, dateOffence, periodFirst, periodIn};
-ghost use lib.ListN.{drop};
 ghost use Rattle.period.specs.Read.{readBy, readThird, readSecond};
 
 // The first day and the number of days, or number and line of the first offence.
@@ -35,7 +34,7 @@ pub fn read_period(f: &[u8]) -> PeriodRead
 
 // From line 2 on, which starts at `at`.
 fn second_line(f: &[u8], at: usize, start: u32) -> PeriodRead
-    ensures { λ r. ⌜ r ≡ readSecond start (linesFrom 2 at (drop at (now (f .entry)))) ⌝ }
+    ensures { λ r. ⌜ r ≡ readSecond start (linesAt (now (f .entry)) at 2) ⌝ }
 {
     if f.len() <= at {
         return PeriodRead::Wrong { number: 2, line: 2 };
@@ -56,7 +55,7 @@ fn second_line(f: &[u8], at: usize, start: u32) -> PeriodRead
 
 // From line 3 on, which starts at `at`.
 fn third_line(f: &[u8], at: usize, start: u32, days: u32) -> PeriodRead
-    ensures { λ r. ⌜ r ≡ readThird start days (linesFrom 3 at (drop at (now (f .entry)))) ⌝ }
+    ensures { λ r. ⌜ r ≡ readThird start days (linesAt (now (f .entry)) at 3) ⌝ }
 {
     if f.len() <= at {
         return PeriodRead::Wrong { number: 2, line: 3 };

@@ -8,13 +8,13 @@ use native.Mathlib.Omega.{arith}
 use lib.ListN.{length, length-append}
 use Rattle.base.specs.Lists.{gathered}
 use Rattle.base.proofs.Laws.{tests}
-use Rattle.lines.specs.Lines.{linesOf}
+use Rattle.lines.specs.Lines.{linesOf, linesAt}
 use Rattle.timetable.specs.Delivery.{BitField, StopRecord}
 use Rattle.timetable.specs.Offences.{Offence, _<|>_}
 use Rattle.timetable.specs.Service.{blocks, serviceOf}
 use Rattle.timetable.specs.Checks.{serviceFirst, servicesFirst, planFirst}
 use Rattle.timetable.specs.Load.{serviceWords}
-use Rattle.blocks.specs.Blocks.{linesAt, Boundary, ServiceEnd, HeadClear, HeadEnd}
+use Rattle.blocks.specs.Blocks.{Boundary, ServiceEnd, HeadClear, HeadEnd}
 use Rattle.blocks.specs.declared.Block.{Block}
 use Rattle.blocks.specs.declared.Head.{Head}
 use Rattle.blocks.specs.declared.Head.the-variants.{Stray, Clear}

@@ -4,11 +4,11 @@ use service::Checked;
 ghost use mathlib.Core.Path.{_≡_};
 ghost use Prim.Native.Nat.{_≤_};
 ghost use lib.ListN.{length};
-ghost use Rattle.lines.specs.Lines.{linesOf};
-ghost use Rattle.timetable.specs.Files.{held-in, bitFieldOf, stopOf};
+ghost use Rattle.lines.specs.Lines.{linesOf, linesAt};
+ghost use Rattle.timetable.specs.Files.{bitFieldsIn, stopsIn};
 ghost use Rattle.timetable.specs.Service.{blocks};
 ghost use Rattle.timetable.specs.Checks.{servicesFirst, planFirst};
-ghost use Rattle.blocks.specs.Blocks.{linesAt, Boundary};
+ghost use Rattle.blocks.specs.Blocks.{Boundary};
 ghost use Rattle.plan_words.specs.Services.{blockWords};
 ghost use Rattle.plan.specs.Planned.{plannedBy};
 
@@ -20,7 +20,7 @@ pub enum Planned {
 
 pub fn check_plan(f: &[u8], bitfeld: &[u8], bahnhof: &[u8], days: u32) -> Planned
     requires { ⌜ (length (now f) ≤ 16777216) × (days ≤ 380) ⌝ }
-    ensures { λ r. ⌜ r ≡ plannedBy (planFirst (held-in bitFieldOf (linesOf (now (bitfeld .entry)))) (held-in stopOf (linesOf (now (bahnhof .entry)))) days (linesOf (now (f .entry)))) (length (blocks (linesOf (now (f .entry))))) (length (blockWords (blocks (linesOf (now (f .entry)))))) ⌝ }
+    ensures { λ r. ⌜ r ≡ plannedBy (planFirst (bitFieldsIn (now (bitfeld .entry))) (stopsIn (now (bahnhof .entry))) days (linesOf (now (f .entry)))) (length (blocks (linesOf (now (f .entry))))) (length (blockWords (blocks (linesOf (now (f .entry)))))) ⌝ }
 {
     let head = blocks::head_end(f);
     match head {
@@ -40,7 +40,7 @@ fn check_services(
 ) -> Planned
     requires { ⌜ (length (now f) ≤ 16777216) × (days ≤ 380) ⌝ }
     requires { ⌜ Boundary (now f) start first ⌝ }
-    ensures { λ r. ⌜ r ≡ plannedBy (servicesFirst (held-in bitFieldOf (linesOf (now (bitfeld .entry)))) (held-in stopOf (linesOf (now (bahnhof .entry)))) days (blocks (linesAt (now (f .entry)) start first))) (length (blocks (linesAt (now (f .entry)) start first))) (length (blockWords (blocks (linesAt (now (f .entry)) start first)))) ⌝ }
+    ensures { λ r. ⌜ r ≡ plannedBy (servicesFirst (bitFieldsIn (now (bitfeld .entry))) (stopsIn (now (bahnhof .entry))) days (blocks (linesAt (now (f .entry)) start first))) (length (blocks (linesAt (now (f .entry)) start first))) (length (blockWords (blocks (linesAt (now (f .entry)) start first)))) ⌝ }
 {
     let mut at = start;
     let mut no = first;

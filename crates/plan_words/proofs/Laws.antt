@@ -12,7 +12,7 @@ use borrow.Author.Tests.{leb-true}
 use Rattle.base.specs.Lists.{every, gathered}
 use Rattle.base.proofs.Laws.{tests}
 use Rattle.base.proofs.Loops.{and-true}
-use Rattle.lines.specs.Lines.{Line, linesFrom, linesOf}
+use Rattle.lines.specs.Lines.{Line, linesFrom, linesOf, linesAt}
 use Rattle.words.specs.Words.{write}
 use Rattle.words.proofs.Laws.{write-none, write-write}
 use Rattle.timetable.specs.Offences.{Offence}
@@ -21,7 +21,7 @@ use Rattle.timetable.specs.Service.{blocks, serviceOf}
 use Rattle.timetable.specs.Load.{serviceWords}
 use Rattle.gather.specs.declared.Sizes.{Sizes}
 use Rattle.gather.specs.Parts.{sizesOf}
-use Rattle.blocks.specs.Blocks.{linesAt, Boundary, ServiceEnd, headOffence, HeadClear, HeadEnd}
+use Rattle.blocks.specs.Blocks.{Boundary, ServiceEnd, headOffence, HeadClear, HeadEnd}
 use Rattle.blocks.specs.declared.Block.{Block}
 use Rattle.blocks.specs.declared.Head.{Head}
 use Rattle.blocks.specs.declared.Head.the-variants.{Stray, Clear}

@@ -5,10 +5,10 @@ ghost use mathlib.Core.Bool.{true};
 ghost use mathlib.Core.Option.{none};
 ghost use Prim.Native.Nat.{_+_, _≤_};
 ghost use lib.ListN.{length};
-ghost use Rattle.lines.specs.Lines.{linesOf};
+ghost use Rattle.lines.specs.Lines.{linesOf, linesAt};
 ghost use Rattle.words.specs.Words.{write};
 ghost use Rattle.timetable.specs.Service.{blocks};
-ghost use Rattle.blocks.specs.Blocks.{linesAt, Boundary, headOffence};
+ghost use Rattle.blocks.specs.Blocks.{Boundary, headOffence};
 ghost use Rattle.plan_words.specs.Services.{blockWords, fewCalls};
 
 // Writes the words of every service from place q on.

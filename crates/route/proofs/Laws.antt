@@ -10,6 +10,7 @@ use lib.ListN.{length, getD, getElem?, drop}
 use lib.Seq.{getD-drop}
 use lib.Dec.{eqb}
 use Rattle.base.proofs.Laws.{tests}
+use Rattle.fields.specs.declared.StopNumber.{StopNumber}
 use Rattle.timetable.specs.Ranges.{places, firstPlace, lastPlace, callsAt}
 use Rattle.timetable.specs.Table.{rowsIn, callAt}
 use Rattle.timetable.specs.declared.Call.{Call}
@@ -137,24 +138,24 @@ module _ (t : Call → Bool) (w : List ℕ) (left at : ℕ) (o : Option ℕ) (v 
 pub ruleset lasts = (tests, last-again, last-out, last-done)
 
 -- of the places from the call at hand on the one behind `before` others is o
-module _ (n : ℕ) (w : List ℕ) (c i at before : ℕ) (o : Option ℕ) (v : getElem? (placesFrom (callsAt n) w c i at) before ≡ o) where
+module _ (n : StopNumber) (w : List ℕ) (c i at before : ℕ) (o : Option ℕ) (v : getElem? (placesFrom (callsAt n) w c i at) before ≡ o) where
   abbrev rest : List ℕ
   rest = placesFrom (callsAt n) w c (i + 1) (at + 4)
 
-  turn : i < c → getElem? (cond (eqb (getD w at 0) n) (i ∷ rest) rest) before ≡ o
+  turn : i < c → getElem? (cond (eqb (getD w at 0) (n .0)) (i ∷ rest) rest) before ≡ o
   turn h =
-      ap (λ (l : List ℕ). getElem? l before) (sym (places-turn (callsAt n) w c i at (eqb (getD w at 0) n) h (ap (callsAt n) (sym (call-at w at))))) ∙ v
+      ap (λ (l : List ℕ). getElem? l before) (sym (places-turn (callsAt n) w c i at (eqb (getD w at 0) (n .0)) h (ap (callsAt n) (sym (call-at w at))))) ∙ v
 
-  pub nth-again : (here : ℕ) → i < c → here ≡ cond (eqb (getD w at 0) n) 1 0 → here ≤ before → getElem? (placesFrom (callsAt n) w c (i + 1) (at + 4)) (before - here) ≡ o
-  nth-again here h e l = sym (nth-behind (eqb (getD w at 0) n) i rest here e before l) ∙ turn h
+  pub nth-again : (here : ℕ) → i < c → here ≡ cond (eqb (getD w at 0) (n .0)) 1 0 → here ≤ before → getElem? (placesFrom (callsAt n) w c (i + 1) (at + 4)) (before - here) ≡ o
+  nth-again here h e l = sym (nth-behind (eqb (getD w at 0) (n .0)) i rest here e before l) ∙ turn h
 
-  pub nth-out : (here : ℕ) → i < c → here ≡ cond (eqb (getD w at 0) n) 1 0 → before < here → At (record { 0 = i }) ≡ placeOf o
-  nth-out here h e l = ap placeOf (sym (nth-front (eqb (getD w at 0) n) i rest here e before l) ∙ turn h)
+  pub nth-out : (here : ℕ) → i < c → here ≡ cond (eqb (getD w at 0) (n .0)) 1 0 → before < here → At (record { 0 = i }) ≡ placeOf o
+  nth-out here h e l = ap placeOf (sym (nth-front (eqb (getD w at 0) (n .0)) i rest here e before l) ∙ turn h)
 
   pub nth-done : c ≤ i → Nowhere ≡ placeOf o
   nth-done h = ap placeOf (ap (λ (l : List ℕ). getElem? l before) (sym (places-none (callsAt n) w c i at h)) ∙ v)
 
-pub nth-start : (n k : ℕ) (w : List ℕ) (c : ℕ) → getElem? (placesFrom (callsAt n) w c 0 0) k ≡ getElem? (places (callsAt n) 0 (callsIn c w)) k
+pub nth-start : (n : StopNumber) (k : ℕ) (w : List ℕ) (c : ℕ) → getElem? (placesFrom (callsAt n) w c 0 0) k ≡ getElem? (places (callsAt n) 0 (callsIn c w)) k
 nth-start n k w c = ap (λ (l : List ℕ). getElem? l k) (places-all (callsAt n) w c)
 
 pub ruleset nths = (tests, nth-start, nth-again, nth-out, nth-done)

@@ -23,9 +23,9 @@ abbrev pub callsIn : ℕ → List ℕ → List Call
 callsIn c w = rowsIn callAt callSize c w
 
 abbrev pub meets : Sought → Call → Bool
-meets (Calling n) c = callsAt (n .0) c
-meets (Departing n m) c = departsAt (n .0) m c
-meets (Arriving n m) c = arrivesAt (n .0) m c
+meets (Calling n) c = callsAt n c
+meets (Departing n m) c = departsAt n m c
+meets (Arriving n m) c = arrivesAt n m c
 
 abbrev pub placeOf : Option ℕ → Place
 placeOf none = Nowhere

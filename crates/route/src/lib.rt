@@ -117,7 +117,7 @@ fn last_call(c: u32) -> Place
 // From a stop: searched from the front.
 fn from_stop(w: &[u32], c: u32, n: StopNumber, d: Detail) -> Place
     requires { ⌜ c * 4 ≤ length (now w) ⌝ }
-    ensures { λ r. ⌜ r ≡ placeOf (fromStop (callsIn c (now (w .entry))) (n .0) d) ⌝ }
+    ensures { λ r. ⌜ r ≡ placeOf (fromStop (callsIn c (now (w .entry))) n d) ⌝ }
 {
     match d {
         Detail::Plain => place_sought(w, c, Sought::Calling(n), false),
@@ -130,7 +130,7 @@ fn from_stop(w: &[u32], c: u32, n: StopNumber, d: Detail) -> Place
 // To a stop: searched from the end, but appearances count from the route's start.
 fn to_stop(w: &[u32], c: u32, n: StopNumber, d: Detail) -> Place
     requires { ⌜ c * 4 ≤ length (now w) ⌝ }
-    ensures { λ r. ⌜ r ≡ placeOf (toStop (callsIn c (now (w .entry))) (n .0) d) ⌝ }
+    ensures { λ r. ⌜ r ≡ placeOf (toStop (callsIn c (now (w .entry))) n d) ⌝ }
 {
     match d {
         Detail::Plain => place_sought(w, c, Sought::Calling(n), true),
@@ -189,7 +189,7 @@ fn last_place(w: &[u32], c: u32, s: Sought) -> Place
 // The k-th call at a stop, from 0.
 fn nth_place(w: &[u32], c: u32, n: StopNumber, k: Appearance) -> Place
     requires { ⌜ c * 4 ≤ length (now w) ⌝ }
-    ensures { λ r. ⌜ r ≡ placeOf (getElem? (places (callsAt (n .0)) 0 (callsIn c (now (w .entry)))) (k .0)) ⌝ }
+    ensures { λ r. ⌜ r ≡ placeOf (getElem? (places (callsAt n) 0 (callsIn c (now (w .entry)))) (k .0)) ⌝ }
 {
     let mut before: u32 = k.0;
     let mut index: u32 = 0;

@@ -8,8 +8,8 @@ ghost use mathlib.Core.Path.{_≡_};
 ghost use mathlib.Core.List.{List, []};
 ghost use mathlib.Core.Bool.{cond, _&&_, _||_};
 ghost use Prim.Native.Nat.{_+_, _*_, _≤_, _<_};
-ghost use lib.ListN.{length, drop};
-ghost use Rattle.lines.specs.Lines.{Line, linesFrom};
+ghost use lib.ListN.{length};
+ghost use Rattle.lines.specs.Lines.{Line, linesAt};
 ghost use Rattle.route.specs.Route.{callsIn};
 ghost use Rattle.timetable.specs.Offences.{first};
 ghost use Rattle.timetable.specs.Plan.{toldIn};
@@ -28,7 +28,7 @@ pub enum FirstLine {
 // The line of the first of c calls whose times are missing or fall. Only schedule lines are taken as calls; every other kind is passed over.
 pub fn times_wrong(b: &[u8], at: usize, no: u32, c: u32) -> FirstLine
     requires { ⌜ (at ≤ length (now b)) × (length (now b) ≤ 16777216) × (no ≤ at + 1) ⌝ }
-    ensures { λ r. ⌜ r ≡ lineBy (timesFirst c 0 0 (callLines (linesFrom no at (drop at (now (b .entry)))))) ⌝ }
+    ensures { λ r. ⌜ r ≡ lineBy (timesFirst c 0 0 (callLines (linesAt (now (b .entry)) at no))) ⌝ }
 {
     let mut place = at;
     let mut line = no;
@@ -141,7 +141,7 @@ fn later(stated: bool, time: u32, before: u32) -> u32
 pub fn ranges_wrong(b: &[u8], at: usize, no: u32, w: &[u32], c: u32) -> FirstLine
     requires { ⌜ (at ≤ length (now b)) × (length (now b) ≤ 16777216) × (no ≤ at + 1) ⌝ }
     requires { ⌜ c * 4 ≤ length (now w) ⌝ }
-    ensures { λ r. ⌜ r ≡ lineBy (first (λ (before : List Line) (l : Line). cond (rangeBad (callsIn c (now (w .entry))) (toldIn (l .text))) 16 0) [] (linesFrom no at (drop at (now (b .entry))))) ⌝ }
+    ensures { λ r. ⌜ r ≡ lineBy (first (λ (before : List Line) (l : Line). cond (rangeBad (callsIn c (now (w .entry))) (toldIn (l .text))) 16 0) [] (linesAt (now (b .entry)) at no)) ⌝ }
 {
     let mut place = at;
     let mut line = no;

@@ -10,7 +10,7 @@ ghost use Rattle.lines.specs.Lines.{linesOf};
 ghost use Rattle.forms.specs.Form.{formOf};
 ghost use Rattle.bitfield.specs.BitField.{bitsIn};
 ghost use Rattle.timetable.specs.Offences.{first};
-ghost use Rattle.timetable.specs.Files.{held, held-in, orNumber};
+ghost use Rattle.timetable.specs.Files.{held, orNumber, bitFieldsIn, stopsIn, interchangesIn};
 ghost use Rattle.timetable.specs.Files.{bitFieldOf, hasField, bitFieldOffence, bitFieldsFirst};
 ghost use Rattle.timetable.specs.Files.{stopOf, hasStop, stopOffence, stopsFirst};
 ghost use Rattle.timetable.specs.Files.{interchangeOf, recordOffence, interchangesFirst};
@@ -43,14 +43,14 @@ pub enum Scan {
 pub fn check_bit_fields(f: &[u8], days: u32) -> Scan
     requires { ⌜ length (now f) ≤ 16777216 ⌝ }
     requires { ⌜ days ≤ 380 ⌝ }
-    ensures { λ r. ⌜ r ≡ scanBy (bitFieldsFirst days (linesOf (now (f .entry)))) (length (held-in bitFieldOf (linesOf (now (f .entry))))) (length (linesOf (now (f .entry))) + 1) ⌝ }
+    ensures { λ r. ⌜ r ≡ scanBy (bitFieldsFirst days (linesOf (now (f .entry)))) (length (bitFieldsIn (now (f .entry)))) (length (linesOf (now (f .entry))) + 1) ⌝ }
 {
     scan_section(Section::BitFields, f, days, f)
 }
 
 pub fn check_stops(f: &[u8]) -> Scan
     requires { ⌜ length (now f) ≤ 16777216 ⌝ }
-    ensures { λ r. ⌜ r ≡ scanBy (stopsFirst (linesOf (now (f .entry)))) (length (held-in stopOf (linesOf (now (f .entry))))) (length (linesOf (now (f .entry))) + 1) ⌝ }
+    ensures { λ r. ⌜ r ≡ scanBy (stopsFirst (linesOf (now (f .entry)))) (length (stopsIn (now (f .entry)))) (length (linesOf (now (f .entry))) + 1) ⌝ }
 {
     scan_section(Section::Stops, f, 0, f)
 }
@@ -58,7 +58,7 @@ pub fn check_stops(f: &[u8]) -> Scan
 // UMSTEIGB has at least one record.
 pub fn check_interchanges(f: &[u8], bahnhof: &[u8]) -> Scan
     requires { ⌜ length (now f) ≤ 16777216 ⌝ }
-    ensures { λ r. ⌜ r ≡ scanBy (interchangesFirst (held-in stopOf (linesOf (now (bahnhof .entry)))) (linesOf (now (f .entry)))) (length (held-in interchangeOf (linesOf (now (f .entry))))) (length (linesOf (now (f .entry))) + 1) ⌝ }
+    ensures { λ r. ⌜ r ≡ scanBy (interchangesFirst (stopsIn (now (bahnhof .entry))) (linesOf (now (f .entry)))) (length (interchangesIn (now (f .entry)))) (length (linesOf (now (f .entry))) + 1) ⌝ }
 {
     let scan = scan_section(Section::Interchanges, f, 0, bahnhof);
     let Scan::Records { count, next } = scan else {
@@ -77,21 +77,21 @@ pub fn check_interchanges(f: &[u8], bahnhof: &[u8]) -> Scan
 
 // Whether BITFELD, or a part of it, has a bit field of this number.
 pub fn known_field(f: &[u8], number: u32) -> bool
-    ensures { λ r. ⌜ r ≡ hasField number (held-in bitFieldOf (linesOf (now (f .entry)))) ⌝ }
+    ensures { λ r. ⌜ r ≡ hasField number (bitFieldsIn (now (f .entry))) ⌝ }
 {
     has_number(Section::BitFields, f, number)
 }
 
 // Whether BAHNHOF, or a part of it, has this stop.
 pub fn known_stop(f: &[u8], number: u32) -> bool
-    ensures { λ r. ⌜ r ≡ hasStop number (held-in stopOf (linesOf (now (f .entry)))) ⌝ }
+    ensures { λ r. ⌜ r ≡ hasStop number (stopsIn (now (f .entry))) ⌝ }
 {
     has_number(Section::Stops, f, number)
 }
 
 // The twelve words of the first bit field of this number, zeros where there is none.
 pub fn field_bits(f: &[u8], number: u32) -> [u32; 12]
-    ensures { λ r. ⌜ r ≡ wordsOf number (held-in bitFieldOf (linesOf (now (f .entry)))) ⌝ }
+    ensures { λ r. ⌜ r ≡ wordsOf number (bitFieldsIn (now (f .entry))) ⌝ }
 {
     let mut at: usize = 0;
     while at < f.len() {
@@ -181,7 +181,7 @@ fn number_end(section: Section) -> usize
 fn scan_section(section: Section, f: &[u8], days: u32, bahnhof: &[u8]) -> Scan
     requires { ⌜ length (now f) ≤ 16777216 ⌝ }
     requires { ⌜ days ≤ 380 ⌝ }
-    ensures { λ r. ⌜ r ≡ scanBy (first (lineOffence section days (held-in stopOf (linesOf (now (bahnhof .entry))))) [] (linesOf (now (f .entry)))) (length (numbers section (linesOf (now (f .entry))))) (length (linesOf (now (f .entry))) + 1) ⌝ }
+    ensures { λ r. ⌜ r ≡ scanBy (first (lineOffence section days (stopsIn (now (bahnhof .entry)))) [] (linesOf (now (f .entry)))) (length (numbers section (linesOf (now (f .entry))))) (length (linesOf (now (f .entry))) + 1) ⌝ }
 {
     let mut at: usize = 0;
     let mut no: u32 = 1;
@@ -218,7 +218,7 @@ fn offence_on(
     requires { ⌜ n ≡ numberOn section (now text) ⌝ }
     requires { ⌜ days ≤ 380 ⌝ }
     requires { ⌜ count ≡ length (numbers section (linesOf (now before))) ⌝ }
-    ensures { λ r. ⌜ r ≡ lineOffence section days (held-in stopOf (linesOf (now (bahnhof .entry)))) (linesOf (now (before .entry))) (lineAt 0 (now (text .entry))) ⌝ }
+    ensures { λ r. ⌜ r ≡ lineOffence section days (stopsIn (now (bahnhof .entry))) (linesOf (now (before .entry))) (lineAt 0 (now (text .entry))) ⌝ }
 {
     match n {
         Numbered::Skipped => 0,
@@ -234,7 +234,7 @@ fn offence_on(
 // 7, 6 or 8: 000000, seen earlier, frame bits wrong.
 fn field_offence(before: &[u8], text: &[u8], number: u32, days: u32) -> u32
     requires { ⌜ days ≤ 380 ⌝ }
-    ensures { λ r. ⌜ r ≡ bitFieldOffence days (held-in bitFieldOf (linesOf (now (before .entry)))) (held (record { number = number; words = bitsIn (now (text .entry)) })) ⌝ }
+    ensures { λ r. ⌜ r ≡ bitFieldOffence days (bitFieldsIn (now (before .entry))) (held (record { number = number; words = bitsIn (now (text .entry)) })) ⌝ }
 {
     let zero = given(number == 0, 7);
     let seen = given(known_field(before, number), 6);
@@ -244,7 +244,7 @@ fn field_offence(before: &[u8], text: &[u8], number: u32, days: u32) -> u32
 
 // 7 or 6: a number that no stop has, seen earlier.
 fn stop_offence(before: &[u8], number: u32) -> u32
-    ensures { λ r. ⌜ r ≡ stopOffence (held-in stopOf (linesOf (now (before .entry)))) (held (record { number = number; offset = 0; size = 0 })) ⌝ }
+    ensures { λ r. ⌜ r ≡ stopOffence (stopsIn (now (before .entry))) (held (record { number = number; offset = 0; size = 0 })) ⌝ }
 {
     let barred = given(is_barred(number), 7);
     let seen = given(known_stop(before, number), 6);
@@ -264,7 +264,7 @@ fn is_barred(number: u32) -> bool
 // 7: the first record is not 9999999; after it 6 or 9: seen earlier, not in BAHNHOF.
 fn record_offence(before: &[u8], number: u32, bahnhof: &[u8], count: u32) -> u32
     requires { ⌜ count ≡ length (numbers Interchanges (linesOf (now before))) ⌝ }
-    ensures { λ r. ⌜ r ≡ recordOffence (held-in stopOf (linesOf (now (bahnhof .entry)))) (held-in interchangeOf (linesOf (now (before .entry)))) (record { number = number; firstTime = 0; secondTime = 0 }) ⌝ }
+    ensures { λ r. ⌜ r ≡ recordOffence (stopsIn (now (bahnhof .entry))) (interchangesIn (now (before .entry))) (record { number = number; firstTime = 0; secondTime = 0 }) ⌝ }
 {
     if count == 0 {
         return given(number != 9999999, 7);

@@ -32,7 +32,8 @@ module _ (fields : List BitField) (stops : List StopRecord) where
   abbrev pub fieldOffence : ℕ → ℕ
   fieldOffence b = cond (fieldKnown b fields) 0 10
 
-  -- "13 in one service over 200 calls, 50 *G, 50 *A VE or 100 other *A", "9 schedule stop not in BAHNHOF"
+  -- "Within a line by the order 12, 11, 4, 13, .., 9, 10" (12: `planFirst`, below). "11 other line kind"; "4 a field or unnamed column breaks
+  -- the form"; "13 in one service over 200 calls, 50 *G, 50 *A VE or 100 other *A", at the first over; "9 .. schedule stop not in BAHNHOF"; 10
   abbrev pub toldOffence : List Line → Told → ℕ
   toldOffence before Skip = 0
   toldOffence before Other = 11
@@ -43,10 +44,11 @@ module _ (fields : List BitField) (stops : List StopRecord) where
   toldOffence before (Extra a) = cond (ltb (length (extraLines before)) 100) (fieldOffence (a .field)) 13
   toldOffence before (Calls c) = cond (ltb (length (callsOf before)) 200) (cond (hasStop (c .stop) stops) 0 9) 13
 
+  -- of a line, after the lines of its service before it
   abbrev pub ownOffence : List Line → Line → ℕ
   ownOffence before l = toldOffence before (toldIn (l .text))
 
--- ---- 15, by line
+-- ---- 15, by line: each call of the service in order
 
 -- "no departure at the first call, no arrival at the last, either missing between": the i-th call of n
 abbrev pub timesStated : ℕ → ℕ → Call → Bool
@@ -106,7 +108,7 @@ abbrev pub runsBy : Option BitField → ℕ → Bool
 runsBy none d = false
 runsBy (some f) d = runsOn (f .words) d
 
--- a bit field number runs on a day: 0 always, else as the first bit field of that number says
+-- a bit field number runs on a day: 0 always, else as its bit field says; "Lookups take the first match."
 unfoldable pub fieldRuns : List BitField → ℕ → ℕ → Bool
 fieldRuns fields b d = eqb b 0 || runsBy (find (λ (f : BitField). eqb (f .number) b) fields) d
 
@@ -125,10 +127,12 @@ legCount s = length (s .calls) - 1
 abbrev pub operatedLegs : List BitField → Service → ℕ → List Bool
 operatedLegs fields s d = map (operated fields (s .days) d) (below (legCount s))
 
+-- on some day of the n days of the period
 abbrev pub torn : List BitField → ℕ → Service → Bool
 torn fields n s = some-of (λ (d : ℕ). leb 2 (stretches false (operatedLegs fields s d))) (below n)
 
 -- ---- "For a service 14, 15, 16 (each by line), 17, 18, 19."
+-- "14 under two calls". 14 and 17 to 19 stand at the *Z line, 15 at the call's, 16 at the range's.
 
 unfoldable pub serviceChecks : List BitField → ℕ → List Line → Option Offence
 serviceChecks fields n ls =
@@ -144,6 +148,7 @@ module _ (fields : List BitField) (stops : List StopRecord) (n : ℕ) where
   unfoldable pub serviceFirst : List Line → Option Offence
   serviceFirst ls = first (ownOffence fields stops) [] ls <|> serviceChecks fields n ls
 
+  -- "service by service"
   unfoldable pub servicesFirst : List (List Line) → Option Offence
   servicesFirst [] = none
   servicesFirst (b ∷ bs) = serviceFirst b <|> servicesFirst bs

@@ -38,19 +38,22 @@ pub record Interchange : Type 0 where
   pub firstTime : ℕ
   pub secondTime : ℕ
 
--- the legs between two calls of a route
+-- a range's first and last call: "*G and operating-day ranges .. cover the legs between" (other *A are ranges of calls)
 pub record Legs : Type 0 where
   pub from : ℕ
   pub to : ℕ
 
+-- "*G of 3 (category as three bytes, from, to)"
 pub record CategoryRange : Type 0 where
   pub name : ℕ
   pub legs : Legs
 
+-- "*A VE of 3 (bit field, from, to)"
 pub record DayRange : Type 0 where
   pub field : ℕ
   pub legs : Legs
 
+-- "other of 4 (code as two bytes, bit field, from, to)"
 pub record ExtraRange : Type 0 where
   pub code : ℕ
   pub field : ℕ

@@ -9,7 +9,7 @@ use Rattle.base.specs.Lists.{gathered}
 use Rattle.lines.specs.Lines.{linesOf}
 use Rattle.timetable.specs.Delivery.{Files, Period, BitField, StopRecord, Interchange, CategoryRange, DayRange, ExtraRange, Service, Delivery}
 use Rattle.timetable.specs.Offences.{Offence, _<|>_, when}
-use Rattle.timetable.specs.Files.{held-in, periodFirst, periodIn, bitFieldOf, bitFieldsFirst, stopOf, stopsFirst, interchangeOf, interchangesFirst}
+use Rattle.timetable.specs.Files.{periodFirst, periodIn, bitFieldsIn, bitFieldsFirst, stopsIn, stopsFirst, interchangesIn, interchangesFirst}
 use Rattle.timetable.specs.Service.{serviceOf, blocks}
 use Rattle.timetable.specs.Checks.{planFirst}
 use Rattle.timetable.specs.declared.Call.{Call}
@@ -21,9 +21,9 @@ use Rattle.timetable.specs.declared.Loaded.the-variants.{Accepted, Refus
 unfoldable pub delivered : Files → Delivery
 delivered f = record {
   period = periodIn (linesOf (f .eckdaten));
-  fields = held-in bitFieldOf (linesOf (f .bitfeld));
-  stops = held-in stopOf (linesOf (f .bahnhof));
-  interchanges = held-in interchangeOf (linesOf (f .umsteigb));
+  fields = bitFieldsIn (f .bitfeld);
+  stops = stopsIn (f .bahnhof);
+  interchanges = interchangesIn (f .umsteigb);
   services = map serviceOf (blocks (linesOf (f .fplan)));
 }
 
@@ -41,6 +41,7 @@ inFile f (some o) = some (o .0, f, o .1)
 abbrev pub tooLong : ℕ → List ℕ → Option Where
 tooLong f s = inFile f (when (ltb 16777216 (length s)) 1 0)
 
+-- the first offence of all
 unfoldable pub offence : Files → Option Where
 offence f =
     tooLong 1 (f .eckdaten) <|> tooLong 2 (f .bitfeld) <|> tooLong 3 (f .bahnhof) <|> tooLong 4 (f .umsteigb) <|> tooLong 5 (f .fplan)
@@ -124,14 +125,26 @@ serviceWords s =
 abbrev pub firstService : ℕ → ℕ → ℕ → ℕ
 firstService b s u = headerSize + bitFieldSize * b + stopSize * s + interchangeSize * u
 
+-- all after the header
 abbrev pub sections : Delivery → List ℕ
-sections d = gathered bitFieldWords (d .fields) ++ (gathered stopWords (d .stops) ++ (gathered interchangeWords (d .interchanges) ++ gathered serviceWords (d .services)))
+sections d =
+    gathered bitFieldWords (d .fields)
+    ++ (gathered stopWords (d .stops)
+    ++ (gathered interchangeWords (d .interchanges)
+    ++ gathered serviceWords (d .services)))
 
 -- "Header: words used, first day, n, bit fields B, stops S, interchange records U, services V, place of first service."
 unfoldable pub tableWords : Delivery → List ℕ
 tableWords d =
-    (headerSize + length (sections d)) ∷ d .period .start ∷ d .period .days ∷ length (d .fields) ∷ length (d .stops) ∷ length (d .interchanges)
-    ∷ length (d .services) ∷ firstService (length (d .fields)) (length (d .stops)) (length (d .interchanges)) ∷ sections d
+    (headerSize + length (sections d))
+    ∷ d .period .start
+    ∷ d .period .days
+    ∷ length (d .fields)
+    ∷ length (d .stops)
+    ∷ length (d .interchanges)
+    ∷ length (d .services)
+    ∷ firstService (length (d .fields)) (length (d .stops)) (length (d .interchanges))
+    ∷ sections d
 
 -- ---- load: its answer, and the table afterwards
 

@@ -32,7 +32,13 @@ threeBytes c text = twoBytes c text * 256 + column (c + 2) text
 
 -- "*Z: 4-8 digits, 10-15 six non-blank bytes, 23-25 repeats and 27-29 offset"; "Blank repeats mean 0 and 0."
 abbrev pub openingIn : List ℕ → Opening
-openingIn text = record { number = number (columns 4 8 text); high = threeBytes 10 text; low = threeBytes 13 text; repeats = number (columns 23 25 text); offset = number (columns 27 29 text) }
+openingIn text = record {
+  number = number (columns 4 8 text);
+  high = threeBytes 10 text;
+  low = threeBytes 13 text;
+  repeats = number (columns 23 25 text);
+  offset = number (columns 27 29 text);
+}
 
 -- "*G: 4-6 category, 8-14 from, 16-22 to, 24-29 from-detail, 31-36 to-detail"
 abbrev pub categoryIn : List ℕ → CategoryLine
@@ -95,6 +101,7 @@ toldBy Attribute text = formed (fits attributeColumns text) (attributeIn text)
 toldBy Schedule text = formed (fits callColumns text) (Calls (callIn text))
 toldBy OtherKind text = Other
 
+-- what a line says: nothing where it is skipped, else what its kind reads
 unfoldable pub toldIn : List ℕ → Told
 toldIn text = cond (skipped text) Skip (toldBy (kindOf text) text)
 

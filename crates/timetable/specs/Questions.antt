@@ -48,11 +48,13 @@ abbrev pub dayBy : Delivery → ℕ → Dated → DayAnswer
 dayBy d b (undated number) = DayRefused number
 dayBy d b (dated k) = cond (fieldKnown b (d .fields)) (cond (fieldRuns (d .fields) b k) Runs Idle) (DayRefused 28)
 
+-- "Order: 21, 22 .., 23 .., then the question's own."
 unfoldable pub dayAsked : List ℕ → ℕ → ℕ → ℕ → ℕ → DayAnswer
 dayAsked w day month year b = cond (isTable w) (dayBy (tableOf w) b (dateOf (tableOf w) day month year)) (DayRefused 21)
 
 -- ---- "Interchange (no date): 26 class over 13, 27 stop unknown; the stop's record, else the first record"
 
+-- not met: words with no interchange record are not a table (21)
 abbrev pub noInterchange : Interchange
 noInterchange = record { number = 0; firstTime = 0; secondTime = 0 }
 
@@ -64,6 +66,7 @@ abbrev pub interchangeBy : Option Interchange → List Interchange → Interchan
 interchangeBy none cs = firstInterchange cs
 interchangeBy (some c) cs = c
 
+-- "Lookups take the first match."
 unfoldable pub interchangeAtStop : Delivery → ℕ → Interchange
 interchangeAtStop d n = interchangeBy (find (λ (c : Interchange). eqb (c .number) n) (d .interchanges)) (d .interchanges)
 
@@ -81,12 +84,13 @@ interchangeAsked w n a b =
 
 -- ---- "Walk of service, repeat, date"
 
--- "Each leg in order: 34 not exactly one *A VE, 31 its bit field unknown."
+-- "Each leg in order: 34 not exactly one *A VE, 31 its bit field unknown." (After 34 one range covers the leg, and "its" is that range's.)
 abbrev pub legRefusal : Delivery → Service → ℕ → Option ℕ
 legRefusal d s k =
     refuse (not (eqb (covering (λ (r : DayRange). r .legs) (s .days) k) 1)) 34
     <|> refuse (not (every (λ (r : DayRange). not (covers k (r .legs)) || fieldKnown (r .field) (d .fields)) (s .days))) 31
 
+-- the first refusal along some legs
 unfoldable pub firstRefusal : (ℕ → Option ℕ) → List ℕ → Option ℕ
 firstRefusal f [] = none
 firstRefusal f (k ∷ ks) = f k <|> firstRefusal f ks
@@ -117,6 +121,7 @@ timesNeeded n i before c =
     (eqb i 0 || (hasArrival c && leb before (c .arrival)))
     && (eqb i n || (hasDeparture c && leb (cond (eqb i 0) before (c .arrival)) (c .departure)))
 
+-- the needed time that the next call must not fall below
 abbrev pub neededLast : ℕ → ℕ → Call → ℕ
 neededLast n i c = cond (eqb i n) (c .arrival) (c .departure)
 
@@ -128,7 +133,8 @@ nameBy (some r) = r .name
 abbrev pub categoryOn : Service → ℕ → ℕ
 categoryOn s k = nameBy (find (λ (r : CategoryRange). covers k (r .legs)) (s .categories))
 
--- "Each call of the stretch: 32 stop unknown, 36 .., 33 leaving leg without exactly one *G." The stretch begins at call a and has n legs.
+-- "Each call of the stretch: 32 stop unknown, 36 .., 33 leaving leg without exactly one *G." The stretch begins at call a and has n legs;
+-- i counts its calls from 0, and `before` is the needed time before.
 abbrev pub callRefusal : Delivery → Service → ℕ → ℕ → ℕ → ℕ → Call → Option ℕ
 callRefusal d s a n i before c =
     refuse (not (hasStop (c .stop) (d .stops))) 32
@@ -144,7 +150,8 @@ abbrev pub rowFlags : ℕ → ℕ → ℕ → ℕ
 rowFlags n i f = cond (eqb i 0) 0 (f % 2 + f / 4 % 2 * 4) + cond (eqb i n) 0 (f / 2 % 2 * 2 + f / 8 * 8)
 
 -- "Rows of 7: stop, arrival, departure (each plus repeat times offset), flags, category of the leaving leg, the stop's two interchange times.
--- First row: arrival 0 .. Last: departure 0, .. category 0."
+-- First row: arrival 0 .. Last: departure 0, .. category 0." The i-th row of a stretch that begins at call a and has n legs; `delay` is repeat
+-- times offset. "The date is that of the start; minutes may pass 1,440."
 abbrev pub rowOf : Delivery → Service → ℕ → ℕ → ℕ → ℕ → Call → List ℕ
 rowOf d s a n delay i c =
     c .stop
@@ -200,11 +207,11 @@ datedJourney d i r (dated k) = indexed d (getElem? (d .services) i) r k
 unfoldable pub journey : Delivery → ℕ → ℕ → ℕ → ℕ → ℕ → Journey
 journey d i r day month year = datedJourney d i r (dateOf d day month year)
 
--- the walk of any words
+-- the walk of any words: "Order: 21, 22 .., 23 .., then the question's own."
 unfoldable pub walkOf : List ℕ → ℕ → ℕ → ℕ → ℕ → ℕ → Journey
 walkOf w i r day month year = cond (isTable w) (journey (tableOf w) i r day month year) (refused 21)
 
--- "Then 29 row slice too short", with the words needed; "A walk that lists rows returns how many"
+-- "Then 29 row slice too short." "Refusals below return only their number, 29 also the words needed"; "A walk that lists rows returns how many"
 abbrev pub walkedBy : Journey → ℕ → Walked
 walkedBy (refused number) room = Refused number 0
 walkedBy idle room = NotRunning

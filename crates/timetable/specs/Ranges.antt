@@ -39,45 +39,49 @@ hasArrival c = eqb (c .flags % 2) 1
 abbrev pub hasDeparture : Call → Bool
 hasDeparture c = eqb (c .flags / 2 % 2) 1
 
-abbrev pub callsAt : ℕ → Call → Bool
-callsAt n c = eqb (c .stop) n
+abbrev pub callsAt : StopNumber → Call → Bool
+callsAt n c = eqb (c .stop) (n .0)
 
-abbrev pub departsAt : ℕ → ℕ → Call → Bool
+abbrev pub departsAt : StopNumber → ℕ → Call → Bool
 departsAt n m c = callsAt n c && (hasDeparture c && eqb (c .departure) m)
 
-abbrev pub arrivesAt : ℕ → ℕ → Call → Bool
+abbrev pub arrivesAt : StopNumber → ℕ → Call → Bool
 arrivesAt n m c = callsAt n c && (hasArrival c && eqb (c .arrival) m)
+
+-- "that appearance, from 0 at the route's start"
+abbrev pub appearance : List ℕ → Appearance → Option ℕ
+appearance ks k = getElem? ks (k .0)
 
 -- "For a stop the detail says: blank, the first appearance for from ..; "#" and digits .., that appearance, from 0 at the route's start ..;
 -- a time, the first appearance with that departure for from"
-abbrev pub fromStop : List Call → ℕ → Detail → Option ℕ
+abbrev pub fromStop : List Call → StopNumber → Detail → Option ℕ
 fromStop cs n Plain = firstPlace (places (callsAt n) 0 cs)
-fromStop cs n (Nth k) = getElem? (places (callsAt n) 0 cs) (k .0)
+fromStop cs n (Nth k) = appearance (places (callsAt n) 0 cs) k
 fromStop cs n (Timed m) = firstPlace (places (departsAt n m) 0 cs)
 fromStop cs n NoDetail = none
 
 -- ".. the last for to; .. that appearance, from 0 at the route's start; .. the last with that arrival for to"
-abbrev pub toStop : List Call → ℕ → Detail → Option ℕ
+abbrev pub toStop : List Call → StopNumber → Detail → Option ℕ
 toStop cs n Plain = lastPlace (places (callsAt n) 0 cs)
-toStop cs n (Nth k) = getElem? (places (callsAt n) 0 cs) (k .0)
+toStop cs n (Nth k) = appearance (places (callsAt n) 0 cs) k
 toStop cs n (Timed m) = lastPlace (places (arrivesAt n m) 0 cs)
 toStop cs n NoDetail = none
 
 -- a place that the route has
-abbrev pub within : List Call → ℕ → Option ℕ
-within cs k = cond (ltb k (length cs)) (some k) none
+abbrev pub within : List Call → RouteIndex → Option ℕ
+within cs k = cond (ltb (k .0) (length cs)) (some (k .0)) none
 
 -- "A from or to is blank (first, last call), "#" and digits (route index from 0), or seven digits (stop)."
 abbrev pub fromBy : List Call → RangeEnd → Detail → Option ℕ
-fromBy cs Outer d = within cs 0
-fromBy cs (Index k) d = within cs (k .0)
-fromBy cs (Stop n) d = fromStop cs (n .0) d
+fromBy cs Outer d = within cs (record { 0 = 0 })
+fromBy cs (Index k) d = within cs k
+fromBy cs (Stop n) d = fromStop cs n d
 fromBy cs NoEnd d = none
 
 abbrev pub toBy : List Call → RangeEnd → Detail → Option ℕ
-toBy cs Outer d = within cs (length cs - 1)
-toBy cs (Index k) d = within cs (k .0)
-toBy cs (Stop n) d = toStop cs (n .0) d
+toBy cs Outer d = within cs (record { 0 = length cs - 1 })
+toBy cs (Index k) d = within cs k
+toBy cs (Stop n) d = toStop cs n d
 toBy cs NoEnd d = none
 
 unfoldable pub fromPlace : List Call → End → Option ℕ

@@ -38,10 +38,12 @@ dayRange cs v = withLegs (λ (x : Legs). record { field = v .field; legs = x }) 
 abbrev pub extraRange : List Call → ExtraLine → List ExtraRange
 extraRange cs a = withLegs (λ (x : Legs). record { code = a .code; field = a .field; legs = x }) (legsOf true cs (a .ends))
 
+-- a service's *Z line (a service always has one)
 abbrev pub firstLine : List Line → Line
 firstLine [] = record { no = 0; start = 0; text = [] }
 firstLine (l ∷ ls) = l
 
+-- what it says (where its form is broken the delivery is refused: 4)
 abbrev pub firstOpening : List Opening → Opening
 firstOpening [] = record { number = 0; high = 0; low = 0; repeats = 0; offset = 0 }
 firstOpening (o ∷ os) = o

@@ -1,4 +1,5 @@
--- Any words read as a table, and when they are "not a table (21)". Reading is total: n records from the front of the words. Assumes nothing.
+-- Any words read as a table, and when they are "not a table (21)". Reading is total: n records from the front of the words. (The words as load
+-- writes them: `tableWords` in Load.) Assumes nothing.
 use Prim.Native.Nat.{ℕ, zero, suc, _+_, _-_, _*_}
 use mathlib.Core.List.{List, [], _∷_}
 use mathlib.Core.Bool.{Bool, true, false, cond, _&&_}
@@ -135,13 +136,14 @@ recordsSound zero w = eqb (length w) 0
 recordsSound (suc v) w = recordSound w && recordsSound v (drop (word w 0) w)
 
 -- "fewer than 8, or words used under 8 or over those lent; n not 1 to 380, or last day after 31.12.2199; U is 0;
--- word 7 is not 8 + 13B + 3S + 3U or is beyond words used"
+-- word 7 is not 8 + 13B + 3S + 3U or is beyond words used": of the words lent, and of words 0 to 5 and 7
 unfoldable pub headSound : ℕ → ℕ → ℕ → ℕ → ℕ → ℕ → ℕ → ℕ → Bool
-headSound lent used first n b s u at =
-    leb headerSize used && (leb used lent
+headSound lent end first n b s u place =
+    leb headerSize end && (leb end lent
     && (leb 1 n && (leb n 380 && (leb (first + n) (lastDay + 1)
-    && (leb 1 u && (eqb at (firstService b s u) && leb at used))))))
+    && (leb 1 u && (eqb place (firstService b s u) && leb place end))))))
 
+-- "Any words are not a table (21) exactly if": this is false
 unfoldable pub isTable : List ℕ → Bool
 isTable w =
     leb headerSize (length w) && (headSound (length w) (word w 0) (word w 1) (word w 2) (word w 3) (word w 4) (word w 5) (word w 7)

@@ -8,6 +8,8 @@ use native.Mathlib.Omega.{arith}
 use lib.ListN.{length, getElem?}
 use borrow.Author.Tests.{lt-ltb}
 use Rattle.base.proofs.Laws.{by-ltb}
+use Rattle.fields.specs.declared.RouteIndex.{RouteIndex}
+use Rattle.fields.specs.declared.StopNumber.{StopNumber}
 use Rattle.fields.specs.declared.RangeEnd.{RangeEnd}
 use Rattle.fields.specs.declared.RangeEnd.the-variants.{Outer, Index, Stop, NoEnd}
 use Rattle.fields.specs.declared.Detail.{Detail}
@@ -51,11 +53,11 @@ module _ (n : ℕ) where
   elem-below (suc k) (cons h t) = elem-below k t
 
 module _ (cs : List Call) where
-  within-below : (k : ℕ) → Below (length cs) (within cs k)
+  within-below : (k : RouteIndex) → Below (length cs) (within cs k)
   unfolding Below
-  within-below k = by-ltb (λ t. Below (length cs) (cond t (some k) none)) k (length cs) (λ h. h) (λ h. tt)
+  within-below k = by-ltb (λ t. Below (length cs) (cond t (some (k .0)) none)) (k .0) (length cs) (λ h. h) (λ h. tt)
 
-  stop-below : (n : ℕ) (d : Detail) → Below (length cs) (toStop cs n d)
+  stop-below : (n : StopNumber) (d : Detail) → Below (length cs) (toStop cs n d)
   unfolding Below
   stop-below n Plain = last-below (length cs) (places-below _ 0 cs (length cs) (omega arith))
   stop-below n (Nth k) = elem-below (length cs) (k .0) (places-below _ 0 cs (length cs) (omega arith))
@@ -64,9 +66,9 @@ module _ (cs : List Call) where
 
   end-below : (p : RangeEnd) (d : Detail) → Below (length cs) (toBy cs p d)
   unfolding Below
-  end-below Outer d = within-below (length cs - 1)
-  end-below (Index k) d = within-below (k .0)
-  end-below (Stop n) d = stop-below (n .0) d
+  end-below Outer d = within-below (record { 0 = length cs - 1 })
+  end-below (Index k) d = within-below k
+  end-below (Stop n) d = stop-below n d
   end-below NoEnd d = tt
 
   to-below : (e : End) → Below (length cs) (toPlace cs e)

@@ -2,11 +2,11 @@
 use mathlib.Core.Path.{_≡_}
 use Prim.Native.Nat.{_+_, _-_}
 use lib.ListN.{length}
-use Rattle.lines.specs.Lines.{linesOf}
+use Rattle.lines.specs.Lines.{linesOf, linesAt}
 use Rattle.timetable.specs.Files.{held-in, bitFieldOf, stopOf}
 use Rattle.timetable.specs.Service.{blocks}
 use Rattle.timetable.specs.Checks.{servicesFirst}
-use Rattle.blocks.specs.Blocks.{linesAt, Boundary}
+use Rattle.blocks.specs.Blocks.{Boundary}
 use Rattle.plan_words.specs.Services.{blockWords}
 use Rattle.plan.proofs.Laws.{checking}
 use Rattle.plan.proofs.check_services.Statement.{statement}

@@ -5,7 +5,8 @@ use Prim.Native.Nat.{_+_, _-_}
 use lib.ListN.{length}
 use Rattle.words.specs.Words.{write}
 use Rattle.timetable.specs.Service.{blocks}
-use Rattle.blocks.specs.Blocks.{linesAt, Boundary}
+use Rattle.lines.specs.Lines.{linesAt}
+use Rattle.blocks.specs.Blocks.{Boundary}
 use Rattle.plan_words.specs.Services.{blockWords, fewCalls}
 use Rattle.plan_words.proofs.Laws.{putting}
 use Rattle.plan_words.proofs.put_services.Statement.{statement}

@@ -9,7 +9,7 @@ use Rattle.route.proofs.nth_place.Statement.{statement}
 use Rattle.route.proofs.nth_place.Tie as tie
 
 abbrev Inv-loop : tie.InvT-loop
-Inv-loop w c n before₀ index₀ at₀ before index at = (at ≡ index * 4) × (getElem? (placesFrom (callsAt (n .0)) w c index at) before ≡ getElem? (places (callsAt (n .0)) 0 (callsIn c w)) before₀)
+Inv-loop w c n before₀ index₀ at₀ before index at = (at ≡ index * 4) × (getElem? (placesFrom (callsAt n) w c index at) before ≡ getElem? (places (callsAt n) 0 (callsIn c w)) before₀)
 
 abbrev μ-loop : tie.MeasureT-loop
 μ-loop w c n before₀ index₀ at₀ before index at = c - index
