@@ -2,14 +2,14 @@
  * Estelunya: the proved timetable loader. Link libestelunya.a.
  *
  * Four functions: a load makes a table from the five files of a delivery; day, interchange and walk are asked of a table. The rules, and the
- * numbers of the refusals, are document 01's; REFUSALS.md tells them to people.
+ * numbers of the refusals, are document 01's; docs/REFUSALS.md tells them to people.
  *
  * What the caller owes: each pointer is good for its length, given in items (bytes or 32-bit words), and aligned as its type is; it may be null
  * where that length is 0. The words that a call writes (table of a load, rows of a walk) overlap none of its other arguments.
  * Nothing else: any bytes, any words and any numbers may be given, and have exactly one answer.
  *
  * A call writes into the words lent to it and nowhere else. It keeps nothing: no pointer, no memory, no state between calls. So calls may run
- * side by side as long as no words lent to one of them are used by another.
+ * side by side. Many questions may read one table at a time; words that a call writes may be used by no other call meanwhile.
  */
 #ifndef ESTELUNYA_H
 #define ESTELUNYA_H
@@ -21,10 +21,11 @@
 extern "C" {
 #endif
 
-/* The words of a row. A service has at most 200 calls, so that 1,400 words are enough for every walk. */
+/* The words of a row, and words that are enough for every walk: a service has at most 200 calls. */
 #define ESTELUNYA_ROW_WORDS 7
+#define ESTELUNYA_MOST_ROW_WORDS 1400
 
-/* The flags of a row. */
+/* The flags of a call and of a row. */
 #define ESTELUNYA_ARRIVAL 1u      /* has an arrival */
 #define ESTELUNYA_DEPARTURE 2u    /* has a departure */
 #define ESTELUNYA_NO_ALIGHTING 4u /* alighting is forbidden */
@@ -52,6 +53,24 @@ typedef struct EstelunyaWalkResult {
     uint32_t rows;   /* the rows listed, two or more; 0 if the service is not running on the date, and if refused */
     uint32_t needed; /* 29: the words needed; else 0 */
 } EstelunyaWalkResult;
+
+/*
+ * A table is 32-bit words: a header, then all bit fields, stops, interchange records and services, each in the order of their file, and within a
+ * service all its calls, *G, *A VE and other *A. Places of words count from 0.
+ *   header       8 words: words used; first day (01.01.1900 is 0); days of the period n; bit fields B; stops S; interchange records U; services V;
+ *                place of the first service, which is 8 + 13 B + 3 S + 3 U
+ *   bit field    13 words: number; 12 words of bits, bit 0 the highest of the first. Bit d + 2 is day d of the period, counted from 0.
+ *   stop         3 words: number; byte of BAHNHOF at which its name starts, counted from 0; length of the name without trailing blanks
+ *   interchange  3 words: number of the stop (9999999 in the first record: every stop without its own); time for two classes that are both 0 or 1;
+ *                time for all other classes
+ *   service      11 words: words of this service; number; administration in two words of three bytes; repeats; offset in minutes; calls c; *G g;
+ *                *A VE v; other *A a; line of its *Z in FPLAN. Then
+ *     call       4 words: number of the stop; arrival; departure, both in minutes, 0 if there is none; flags
+ *     *G         3 words: category in three bytes; from; to
+ *     *A VE      3 words: number of the bit field, 0 for daily; from; to
+ *     other *A   4 words: code in two bytes; number of the bit field; from; to
+ * From and to are indexes of calls, from 0. Bytes share a word with the first byte highest.
+ */
 
 /*
  * Loads a delivery: the bytes of its five files, each of any length (over 16,777,216 is refusal 1).

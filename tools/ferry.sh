@@ -51,6 +51,10 @@ fresh
 rm "$place/UMSTEIGB"
 says 'a missing file' 'unread file 4'
 fresh
+rm "$place/FPLAN"
+mkdir "$place/FPLAN"
+says 'FPLAN is a directory' 'unread file 5'
+fresh
 filled BAHNHOF 8192
 says '8,192 bytes' 'accepted days 7 bitfields 1 stops 3 interchange 1 services 1 words 66'
 filled BAHNHOF 8194

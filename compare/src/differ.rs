@@ -8,13 +8,14 @@ mod lent;
 mod report;
 mod tally;
 
+pub use cases::{rng_of, senseless};
 pub use lent::{Call, Outcome};
 pub use report::report;
 pub use tally::Tally;
 
 use crate::boundary::{Boundary, Reader};
 use crate::generate::{damaged_table, question, Question, Rng};
-use cases::{delivery, other_room, rng_of, senseless};
+use cases::{delivery, other_room};
 
 /// A boundary to compare, and what it is called in a report.
 pub type Named<'a> = (&'static str, &'a dyn Boundary);

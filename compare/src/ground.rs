@@ -13,12 +13,12 @@ pub mod question;
 pub mod tally;
 
 pub use question::{Answer, Question, What};
-pub use tally::{Library, Tally};
+pub use tally::{Draw, Library, Tally};
 
 use crate::generate::Rng;
 
-/// Asks every part's questions; about so many random inputs are among them.
-pub fn compare(tally: &mut Tally, seed: u64, rounds: u32) {
+/// Asks every part's questions.
+pub fn compare(tally: &mut Tally) {
     let parts: [(&'static str, fn(&mut Tally, &mut Rng, u32)); 5] = [
         ("dates", dates::ask),
         ("fields", fields::ask),
@@ -27,7 +27,7 @@ pub fn compare(tally: &mut Tally, seed: u64, rounds: u32) {
         ("bits", bits::ask),
     ];
     for (name, ask) in parts {
-        tally.begin(name);
+        let Draw { seed, rounds } = tally.begin(name);
         ask(tally, &mut Rng::new(seed), rounds);
     }
 }

@@ -1,5 +1,5 @@
 //! An independent reader of HAFAS 5.20 deliveries, by the rules of document 01.
-//! Each rule cites the sentence that it follows; "open point" marks a reading from notes/open-points.md.
+//! Each rule cites the sentence that it follows; an "open point" is a reading that docs/DECISIONS.md gives.
 
 pub mod ask;
 pub mod bits;

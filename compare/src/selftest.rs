@@ -1,5 +1,5 @@
 //! The reader held against document 01's checked examples, the standard's printed ones, generated deliveries and
-//! REFUSALS.md; and the comparison against boundaries that slip.
+//! docs/REFUSALS.md; and the comparison against boundaries that slip.
 
 mod differ;
 mod examples;

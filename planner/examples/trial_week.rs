@@ -1,89 +1,72 @@
-//! Document 01's trial week: loaded, walked on 05.12.2025, and not running on 06.12.2025.
+//! Reads the five files of a delivery, loads them, and walks the first service on 05.12.2025 and 06.12.2025.
 //!
-//! Prints the table's counts as the program does, then the walks; ends with a panic where document 01 says otherwise.
+//!     trial_week [DIRECTORY]
+//!
+//! Without a directory it takes the sample delivery, document 01's trial week, which runs on the first of these days only.
+
+use std::env;
+use std::error::Error;
+use std::fs::read;
+use std::path::{Path, PathBuf};
 
 use estelunya_planner::{load, Date, Files, Row, Table, Walk, MOST_ROW_WORDS};
 
-const ECKDATEN: &str = "01.12.2025\n07.12.2025\nTrial week\n";
+/// Enough for a small delivery; a longer table is refused with the words that it needs.
+const TABLE_WORDS: usize = 4_096;
 
-/// Then 93 times "0": 96 hex digits.
-const BITFELD: &str = "000001 FE6";
-
-const BAHNHOF: &str = "\
-1000011     Quay A
-1000022     Quay B
-1000033     Quay C
-";
-
-const UMSTEIGB: &str = "9999999  2  3\n";
-
-const FPLAN: &str = "\
-*Z 00042 FERRY_                                           %
-*G BAT                                                    %
-*A VE                 000001                              %
-1000011                              00800                %
-1000022                       00810  00812                %
-1000033                       00830  00835                %
-1000022                       00855                       %
-";
-
-fn main() {
-    let bitfeld = format!("{}{}\n", BITFELD, "0".repeat(93));
+fn main() -> Result<(), Box<dyn Error>> {
+    let directory = directory();
+    let file = |name: &str| {
+        let path = directory.join(name);
+        read(&path).map_err(|error| format!("{}: {}", path.display(), error))
+    };
+    let bahnhof = file("BAHNHOF")?;
     let files = Files {
-        eckdaten: ECKDATEN.as_bytes(),
-        bitfeld: bitfeld.as_bytes(),
-        bahnhof: BAHNHOF.as_bytes(),
-        umsteigb: UMSTEIGB.as_bytes(),
-        fplan: FPLAN.as_bytes(),
+        eckdaten: &file("ECKDATEN")?,
+        bitfeld: &file("BITFELD")?,
+        bahnhof: &bahnhof,
+        umsteigb: &file("UMSTEIGB")?,
+        fplan: &file("FPLAN")?,
     };
-    let mut words = [0; 4096];
-    let loaded = load(&files, &mut words).unwrap_or_else(|refusal| panic!("{}", refusal));
-    assert_eq!(loaded.words, 66);
+    let mut words = vec![0; TABLE_WORDS];
+    let loaded = load(&files, &mut words)?;
+    words.truncate(loaded.words as usize);
     let table = Table::new(&words);
-    print_counts(table);
-    print_friday(table);
-    let mut rows = [0; MOST_ROW_WORDS];
-    assert_eq!(table.walk(0, 0, december(6), &mut rows), Ok(Walk::NotRunning));
-    println!("06.12.2025: not running");
-    assert_eq!((table.day(1, december(5)), table.day(1, december(6))), (Ok(true), Ok(false)));
-    assert_eq!((table.interchange(1_000_011, 1, 1), table.interchange(1_000_011, 2, 2)), (Ok(2), Ok(3)));
+    println!("accepted: stops {} services {} words {}", table.stops(), table.services(), loaded.words);
+
+    let mut lent = vec![0; MOST_ROW_WORDS];
+    for day in [5, 6] {
+        let date = Date { day, month: 12, year: 2025 };
+        print!("service {:05} on {:02}.12.2025:", table.service_number(0).unwrap_or(0), day);
+        match table.walk(0, 0, date, &mut lent)? {
+            Walk::NotRunning => println!(" not running"),
+            Walk::Rows(rows) => {
+                println!();
+                rows.iter().for_each(|row| println!("  {}", row_text(row, table, &bahnhof)));
+            }
+        }
+    }
+    Ok(())
 }
 
-fn december(day: u32) -> Date {
-    Date { day, month: 12, year: 2025 }
+/// The directory given, or that of the sample delivery; a program made without cargo looks for it from the root.
+fn directory() -> PathBuf {
+    match env::args_os().nth(1) {
+        Some(given) => PathBuf::from(given),
+        None => Path::new(option_env!("CARGO_MANIFEST_DIR").unwrap_or("planner")).join("../crates/ferry/data"),
+    }
 }
 
-fn print_counts(table: Table<'_>) {
-    let [used, _, days, bitfields, stops, interchange, services] = match table.words() {
-        [used, first, days, b, s, u, v, ..] => [used, first, days, b, s, u, v],
-        _ => panic!("fewer than 8 words"),
-    };
-    let counts = format!(
-        "days {} bitfields {} stops {} interchange {} services {} words {}",
-        days, bitfields, stops, interchange, services, used
-    );
-    assert_eq!(counts, "days 7 bitfields 1 stops 3 interchange 1 services 1 words 66");
-    println!("accepted {}", counts);
+fn row_text(row: Row<'_>, table: Table<'_>, bahnhof: &[u8]) -> String {
+    let name = text(table.stop_name(row.stop(), bahnhof).unwrap_or(b"?"));
+    let category = row.category().map_or(String::new(), |bytes| text(&bytes));
+    format!("{} {} {:3} {} {}", clock(row.arrival()), clock(row.departure()), category, row.stop(), name)
 }
 
-fn print_friday(table: Table<'_>) {
-    let mut lent = [0; MOST_ROW_WORDS];
-    let rows = match table.walk(0, 0, december(5), &mut lent) {
-        Ok(Walk::Rows(rows)) => rows,
-        other => panic!("{:?}", other),
-    };
-    assert_eq!(rows.words()[..7], [1_000_011, 0, 480, 2, 4_342_100, 2, 3]);
-    assert_eq!(rows.iter().len(), 4);
-    println!("05.12.2025:");
-    rows.iter().for_each(print_row);
+fn clock(time: Option<u32>) -> String {
+    time.map_or("  -  ".to_string(), |minutes| format!("{:02}:{:02}", minutes / 60, minutes % 60))
 }
 
-fn print_row(row: Row<'_>) {
-    let clock = |time: Option<u32>| match time {
-        Some(minutes) => format!("{:02}:{:02}", minutes / 60, minutes % 60),
-        None => "     ".to_string(),
-    };
-    let category = row.category().map_or(String::new(), |bytes| String::from_utf8_lossy(&bytes).into_owned());
-    let line = format!("  {} {} {} {}", row.stop(), clock(row.arrival()), clock(row.departure()), category);
-    println!("{}", line.trim_end());
+fn text(bytes: &[u8]) -> String {
+    String::from_utf8_lossy(bytes).into_owned()
 }

@@ -7,8 +7,11 @@ use crate::row::Rows;
 /// A date as it is asked; whether it exists is for the answer to say.
 #[derive(Clone, Copy, Debug, PartialEq, Eq)]
 pub struct Date {
+    /// The day of the month, from 1.
     pub day: u32,
+    /// The month, 1 to 12.
     pub month: u32,
+    /// The year in full, such as 2025.
     pub year: u32,
 }
 
@@ -16,7 +19,7 @@ pub struct Date {
 /// [`Refusal::NotATable`] if not. Words after the table's own are not looked at.
 ///
 /// Its first eight words are words used, first day (from 01.01.1900, which is 0), days, bit fields, stops, interchange
-/// records, services, and the place of the first service.
+/// records, services, and the place of the first service. `include/estelunya.h` says the whole layout.
 #[derive(Clone, Copy, Debug)]
 pub struct Table<'a> {
     words: &'a [u32],

@@ -3,6 +3,44 @@
 //! A delivery is loaded once into lent words; these are then asked all day. Nothing is asked of the caller: whatever the
 //! files, words and numbers say, the answer is document 01's, and a refusal leaves the lent words as they were.
 //!
+//! The sample delivery, read from this crate's directory, loaded and walked:
+//!
+//! ```
+//! use estelunya_planner::{load, Date, Files, Table, Walk, MOST_ROW_WORDS};
+//! use std::fs::read;
+//!
+//! # fn main() -> Result<(), Box<dyn std::error::Error>> {
+//! let bahnhof = read("../crates/ferry/data/BAHNHOF")?;
+//! let files = Files {
+//!     eckdaten: &read("../crates/ferry/data/ECKDATEN")?,
+//!     bitfeld: &read("../crates/ferry/data/BITFELD")?,
+//!     bahnhof: &bahnhof,
+//!     umsteigb: &read("../crates/ferry/data/UMSTEIGB")?,
+//!     fplan: &read("../crates/ferry/data/FPLAN")?,
+//! };
+//! let mut words = vec![0; 4096];
+//! let loaded = load(&files, &mut words)?;
+//! words.truncate(loaded.words as usize);
+//!
+//! let table = Table::new(&words);
+//! assert_eq!((table.services(), table.service_number(0)), (1, Some(42)));
+//! let mut lent = vec![0; MOST_ROW_WORDS];
+//! match table.walk(0, 0, Date { day: 5, month: 12, year: 2025 }, &mut lent)? {
+//!     Walk::Rows(rows) => {
+//!         let stops: Vec<u32> = rows.iter().map(|row| row.stop()).collect();
+//!         assert_eq!(stops, [1_000_011, 1_000_022, 1_000_033, 1_000_022]);
+//!         assert_eq!(table.stop_name(stops[0], &bahnhof), Some(&b"Quay A"[..]));
+//!     }
+//!     Walk::NotRunning => panic!("it runs on Fridays"),
+//! }
+//! let saturday = Date { day: 6, month: 12, year: 2025 };
+//! assert_eq!(table.walk(0, 0, saturday, &mut lent)?, Walk::NotRunning);
+//! # Ok(())
+//! # }
+//! ```
+//!
+//! What is wrong is refused, with its number, place and text:
+//!
 //! ```
 //! use estelunya_planner::{load, Date, Files, Offence, Refusal, Table};
 //!
@@ -16,10 +54,14 @@
 //! assert_eq!(Table::new(&words).day(1, date), Err(Refusal::NotATable));
 //! ```
 //!
-//! `examples/trial_week.rs` loads and walks document 01's trial week. A program links the archive by the flags
-//! `-L DIRECTORY -l static=estelunya`; `tools/planner.sh` gives them.
+//! `examples/trial_week.rs` is a whole program. With cargo, `build.rs` links the archive: the one in the directory that
+//! the environment variable `ESTELUNYA_LIB` names, else the one that `rt staticlib estelunya` has written. Without
+//! cargo, rustc takes it in by `-L DIRECTORY -l static=estelunya`; `tools/archive.sh` gives these flags.
+
+#![warn(missing_docs)]
 
 mod ask;
+mod contents;
 mod load;
 pub mod raw;
 mod refusal;

@@ -3,26 +3,32 @@
 use crate::raw;
 use crate::refusal::{File, LoadRefusal, Offence};
 
-/// The five files of a delivery, as bytes.
+/// The five files of a delivery, each as its bytes.
 #[derive(Clone, Copy, Debug, PartialEq, Eq)]
 pub struct Files<'a> {
+    /// ECKDATEN: the period.
     pub eckdaten: &'a [u8],
+    /// BITFELD: the bit fields.
     pub bitfeld: &'a [u8],
+    /// BAHNHOF: the stops.
     pub bahnhof: &'a [u8],
+    /// UMSTEIGB: the interchange times.
     pub umsteigb: &'a [u8],
+    /// FPLAN: the services.
     pub fplan: &'a [u8],
 }
 
-/// An accepted delivery: the first `words` words lent are its table.
+/// An accepted delivery.
 #[derive(Clone, Copy, Debug, PartialEq, Eq)]
 pub struct Loaded {
+    /// How many words the table has: so many of those lent, from the first.
     pub words: u32,
 }
 
 /// Loads a delivery into the words lent. Accepted: later words stay. Refused: all words stay as lent.
 ///
-/// The files are not needed afterwards, but for BAHNHOF if stop names are shown: a stop's record in the table says
-/// where in it the name stands.
+/// The files are not needed afterwards, but for BAHNHOF if stop names are shown: see
+/// [`Table::stop_name`](crate::Table::stop_name).
 ///
 /// # Panics
 ///

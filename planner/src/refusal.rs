@@ -1,4 +1,4 @@
-//! Refusals by their numbers, each with a sentence for people. `REFUSALS.md` says how to mend them.
+//! Refusals by their numbers, each with a sentence for people. `docs/REFUSALS.md` says how to mend them.
 
 use std::error::Error;
 use std::fmt;
@@ -7,10 +7,15 @@ use std::mem::discriminant;
 /// A file of a delivery.
 #[derive(Clone, Copy, Debug, PartialEq, Eq)]
 pub enum File {
+    /// File 1: the first and last day of the period, and its name.
     Eckdaten = 1,
+    /// File 2: bit fields, which say the days of the period on which something runs.
     Bitfeld = 2,
+    /// File 3: stops and their names.
     Bahnhof = 3,
+    /// File 4: interchange times, first those that hold for every stop without its own.
     Umsteigb = 4,
+    /// File 5: services with their calls, categories and operating days.
     Fplan = 5,
 }
 
@@ -53,25 +58,45 @@ impl fmt::Display for File {
 /// Why a delivery is refused.
 #[derive(Clone, Copy, Debug, PartialEq, Eq)]
 pub enum Offence {
+    /// 1: a file has more than 16,777,216 bytes.
     FileTooLong = 1,
+    /// 2: ECKDATEN has fewer than three lines, or UMSTEIGB no record. The line is the one after the last.
     LineMissing = 2,
+    /// 3: ECKDATEN has more than three lines.
     FourthLine = 3,
+    /// 4: a field of the line, or a column that no field has, breaks the form.
     Form = 4,
+    /// 5: no such date from 01.01.1900 to 31.12.2199, an end before the start, or more than 380 days.
     NoSuchDate = 5,
+    /// 6: an earlier line of the same file, BITFELD, BAHNHOF or UMSTEIGB, has this number.
     NumberSeenEarlier = 6,
+    /// 7: bit field 000000, a stop 9999999 or ending 00000, or a first record of UMSTEIGB that is not 9999999.
     NumberNotAllowed = 7,
+    /// 8: a bit field has wrong bits around the days of the period.
     FrameWrong = 8,
+    /// 9: a stop of UMSTEIGB, or of a call in FPLAN, is not in BAHNHOF.
     StopUnknown = 9,
+    /// 10: a bit field of FPLAN is neither 000000 nor in BITFELD.
     BitFieldUnknown = 10,
+    /// 11: the line is of a kind that is not taken.
     OtherLineKind = 11,
+    /// 12: the line stands before the first *Z line, so that it belongs to no service.
     NoServiceYet = 12,
+    /// 13: the service has over 200 calls, 50 *G, 50 *A VE or 100 other *A lines. The line is the first over.
     TooManyLines = 13,
+    /// 14: the service has fewer than two calls. The line is its *Z line, as for 17 to 19.
     UnderTwoCalls = 14,
+    /// 15: a call has no time where it needs one, or one that is earlier than the one stated before.
     Times = 15,
+    /// 16: an end of the range is not found on the route, or its two ends are in the wrong order.
     RangeNotOnRoute = 16,
+    /// 17: a leg is not covered by exactly one *G line.
     Categories = 17,
+    /// 18: a leg is not covered by exactly one *A VE line.
     OperatingDays = 18,
+    /// 19: on some day the legs that are operated form two or more separate stretches.
     TwoStretches = 19,
+    /// 20: the delivery is right, but its table needs more words than were lent.
     TableTooShort = 20,
 }
 
@@ -122,6 +147,7 @@ impl fmt::Display for Offence {
 /// A refused delivery. Its text begins as the program's line does: `refused N file F line L`.
 #[derive(Clone, Copy, Debug, PartialEq, Eq)]
 pub struct LoadRefusal {
+    /// What is wrong: the first offence, in document 01's order.
     pub offence: Offence,
     /// The file to mend; `None` for [`Offence::TableTooShort`] only.
     pub file: Option<File>,
@@ -144,38 +170,41 @@ impl fmt::Display for LoadRefusal {
 
 impl Error for LoadRefusal {}
 
-/// Why a question is refused.
+/// Why a question is refused. 31 to 36 cannot occur on the unaltered table of an accepted delivery: that is proved.
 #[derive(Clone, Copy, Debug, PartialEq, Eq)]
 pub enum Refusal {
-    /// 21
+    /// 21: the words are not a table.
     NotATable,
-    /// 22
+    /// 22: there is no such date from 01.01.1900 to 31.12.2199.
     NoSuchDate,
-    /// 23
+    /// 23: the date is outside the period of the table.
     OutsidePeriod,
-    /// 24
+    /// 24: the service index is not below the number of services.
     NoSuchService,
-    /// 25
+    /// 25: the repeat number is over the service's repeats.
     NoSuchRepeat,
-    /// 26
+    /// 26: a class is over 13.
     ClassOver13,
-    /// 27
+    /// 27: the stop is not in the table.
     StopUnknown,
-    /// 28
+    /// 28: the bit field is not in the table.
     NoSuchBitField,
-    /// 29, with the words that the rows need
-    RowsTooShort { needed: u32 },
-    /// 31
+    /// 29: the rows lent are too short for the walk.
+    RowsTooShort {
+        /// The words that the rows need.
+        needed: u32,
+    },
+    /// 31: the bit field of a leg's operating days is not in the table.
     BitFieldUnknown,
-    /// 32
+    /// 32: the stop of a call is not in the table.
     CallStopUnknown,
-    /// 33
+    /// 33: the leg that leaves a call is not covered by exactly one *G range.
     Categories,
-    /// 34
+    /// 34: a leg is not covered by exactly one range of operating days.
     OperatingDays,
-    /// 35
+    /// 35: the legs that are operated on the date form two or more separate stretches.
     TwoStretches,
-    /// 36
+    /// 36: a call has no time where the run needs one, or one that is earlier than the one needed before.
     Times,
 }
 

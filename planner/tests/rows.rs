@@ -1,6 +1,6 @@
-//! A walk through its typed rows.
+//! A walk through its typed rows, and those of document 01's checked examples that no theorem proves.
 
-use estelunya_planner::{load, Date, Files, Refusal, Table, Walk};
+use estelunya_planner::{load, Date, File, Files, LoadRefusal, Offence, Refusal, Table, Walk};
 
 const FPLAN: &str = "\
 *Z 00007 FERRY_       002 030                             %
@@ -13,18 +13,23 @@ const FPLAN: &str = "\
 
 const NEW_YEAR: Date = Date { day: 31, month: 12, year: 2025 };
 
-fn words() -> Vec<u32> {
-    let files = Files {
-        eckdaten: b"31.12.2025\n31.12.2025\nOne night",
-        bitfeld: b"",
-        bahnhof: b"1000011     A\n1000022     B\n1000033     C",
-        umsteigb: b"9999999  2  3\n1000022  4 15",
-        fplan: FPLAN.as_bytes(),
-    };
+const ONE_NIGHT: Files<'static> = Files {
+    eckdaten: b"31.12.2025\n31.12.2025\nOne night",
+    bitfeld: b"",
+    bahnhof: b"1000011     A\n1000022     B\n1000033     C",
+    umsteigb: b"9999999  2  3\n1000022  4 15",
+    fplan: FPLAN.as_bytes(),
+};
+
+fn table_of(files: &Files<'_>) -> Result<Vec<u32>, LoadRefusal> {
     let mut words = vec![0; 100];
-    let loaded = load(&files, &mut words).unwrap();
+    let loaded = load(files, &mut words)?;
     words.truncate(loaded.words as usize);
-    words
+    Ok(words)
+}
+
+fn words() -> Vec<u32> {
+    table_of(&ONE_NIGHT).unwrap()
 }
 
 #[test]
@@ -70,4 +75,53 @@ fn refused() {
     );
     assert_eq!(Table::new(&words[1..]).interchange(1, 0, 0), Err(Refusal::NotATable));
     assert_eq!(lent, [9; 20]);
+}
+
+// "380 days pass, 381 answer 5": at line 2. 01.01.2025 to 31.12.2025 are 365 days.
+#[test]
+fn longest_period() {
+    let until = |end: &str| {
+        let eckdaten = format!("01.01.2025\n{end}\nA long year");
+        table_of(&Files { eckdaten: eckdaten.as_bytes(), ..ONE_NIGHT })
+    };
+    assert_eq!(until("15.01.2026").unwrap()[2], 380);
+    let refusal = until("16.01.2026").unwrap_err();
+    assert_eq!(
+        (refusal.offence.number(), refusal.offence, refusal.file, refusal.line),
+        (5, Offence::NoSuchDate, Some(File::Eckdaten), 2)
+    );
+}
+
+// "Repeats 023, offset 010: 24 runs, the last 230 minutes late."
+#[test]
+fn last_repeat() {
+    let fplan = FPLAN.replace("002 030", "023 010");
+    let words = table_of(&Files { fplan: fplan.as_bytes(), ..ONE_NIGHT }).unwrap();
+    let table = Table::new(&words);
+    let departure = |repeat| -> Result<Option<u32>, Refusal> {
+        let mut lent = [0; 21];
+        match table.walk(0, repeat, NEW_YEAR, &mut lent)? {
+            Walk::Rows(rows) => Ok(rows.iter().next().and_then(|first| first.departure())),
+            Walk::NotRunning => Ok(None),
+        }
+    };
+    let runs: Vec<u32> = (0..24).map(|repeat| departure(repeat).unwrap().unwrap()).collect();
+    assert_eq!((runs.len(), runs[23] - runs[0]), (24, 230));
+    assert_eq!(departure(24), Err(Refusal::NoSuchRepeat));
+    assert_eq!(Refusal::NoSuchRepeat.number(), 25);
+}
+
+// "60 passes in UMSTEIGB 9-10, 61 answers 4."
+#[test]
+fn longest_interchange() {
+    let first_time = |time: &str| {
+        let umsteigb = format!("9999999 {time}  3");
+        table_of(&Files { umsteigb: umsteigb.as_bytes(), ..ONE_NIGHT })
+    };
+    assert_eq!(Table::new(&first_time("60").unwrap()).interchange(1_000_011, 1, 1), Ok(60));
+    let refusal = first_time("61").unwrap_err();
+    assert_eq!(
+        (refusal.offence.number(), refusal.offence, refusal.file, refusal.line),
+        (4, Offence::Form, Some(File::Umsteigb), 1)
+    );
 }

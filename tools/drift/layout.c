@@ -34,7 +34,7 @@ const size_t drift_layout[] = {
 const size_t drift_layout_len = sizeof drift_layout / sizeof drift_layout[0];
 
 const uint32_t drift_constants[] = {
-    ESTELUNYA_ROW_WORDS, ESTELUNYA_ARRIVAL, ESTELUNYA_DEPARTURE, ESTELUNYA_NO_ALIGHTING, ESTELUNYA_NO_BOARDING,
+    ESTELUNYA_ROW_WORDS, ESTELUNYA_MOST_ROW_WORDS, ESTELUNYA_ARRIVAL, ESTELUNYA_DEPARTURE, ESTELUNYA_NO_ALIGHTING, ESTELUNYA_NO_BOARDING,
 };
 
 /* Nothing given, nothing lent. */

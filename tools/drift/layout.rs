@@ -6,7 +6,7 @@ use std::ptr::addr_of;
 use estelunya_planner::raw::{
     estelunya_day, estelunya_interchange, estelunya_load, estelunya_walk, DayResult, InterchangeResult, LoadResult, WalkResult,
 };
-use estelunya_planner::ROW_WORDS;
+use estelunya_planner::{MOST_ROW_WORDS, ROW_WORDS};
 
 type Bytes = *const u8;
 type Words = *const u32;
@@ -25,7 +25,7 @@ extern "C" {
     static drift_walk: Walk;
     static drift_layout: [usize; 15];
     static drift_layout_len: usize;
-    static drift_constants: [u32; 5];
+    static drift_constants: [u32; 6];
     fn drift_load_null() -> LoadResult;
     fn drift_day_null() -> DayResult;
     fn drift_interchange_null() -> InterchangeResult;
@@ -63,7 +63,7 @@ fn layouts() {
     unsafe {
         assert_eq!(drift_layout_len, here.len());
         assert_eq!(drift_layout[..], here);
-        assert_eq!(drift_constants, [ROW_WORDS as u32, 1, 2, 4, 8]);
+        assert_eq!(drift_constants, [ROW_WORDS as u32, MOST_ROW_WORDS as u32, 1, 2, 4, 8]);
     }
 }
 

@@ -1,4 +1,5 @@
-//! Times the linked archive beside the independent reader on generated deliveries: the least of three turns each.
+//! Times the linked archive beside the independent reader on generated deliveries: the least of three turns each, the calls
+//! alone. What is lent is made, and what is asked is drawn, before the clock starts.
 //!
 //!     bench MIB ..
 //!
@@ -50,7 +51,7 @@ fn bench(mib: f64) {
     let [number, _, line, words] = Reader.load(files, &mut []);
     assert_eq!((number, line), (20, 0));
     let load = |boundary: &dyn Boundary| {
-        let mut table = vec![0; words as usize];
+        let mut table = vec![u32::MAX; words as usize];
         let (answer, time) = timed(|| boundary.load(files, &mut table));
         table.extend(answer);
         (table, time)
@@ -99,12 +100,21 @@ fn show(what: &str, archive: Duration, reader: Duration, times: u32) {
     println!("  {:<12} {:>12.3} {:>12.3} {:>8.2}", what, each(archive), each(reader), ratio);
 }
 
-/// A question and its answer, drawn by a generator that both boundaries start alike.
-type Ask = fn(&dyn Boundary, &[u32], &mut Rng) -> Vec<u32>;
+/// Draws a question, and gives its answer and the time of the call. Rows are lent to a walk.
+type Ask = fn(&dyn Boundary, &[u32], &mut Rng, &mut [u32]) -> (Vec<u32>, Duration);
 
+/// All answers with the words lent, and the time of all calls; both boundaries start the generator alike.
 fn asked(boundary: &dyn Boundary, table: &[u32], ask: Ask) -> (Vec<u32>, Duration) {
-    let mut rng = Rng::new(2);
-    timed(|| (0..QUESTIONS).flat_map(|_| ask(boundary, table, &mut rng)).collect())
+    let (mut rng, mut rows) = (Rng::new(2), vec![0; ROW_ROOM]);
+    let (mut given, mut total) = (Vec::new(), Duration::ZERO);
+    for _ in 0..QUESTIONS {
+        rows.fill(u32::MAX);
+        let (answer, time) = ask(boundary, table, &mut rng, &mut rows);
+        given.extend(answer);
+        given.extend(&rows);
+        total += time;
+    }
+    (given, total)
 }
 
 fn date(rng: &mut Rng, table: &[u32]) -> [u32; 3] {
@@ -112,17 +122,20 @@ fn date(rng: &mut Rng, table: &[u32]) -> [u32; 3] {
     [day, month, year]
 }
 
-fn walk(boundary: &dyn Boundary, table: &[u32], rng: &mut Rng) -> Vec<u32> {
-    let mut rows = vec![0; ROW_ROOM];
-    let answer = boundary.walk(table, rng.below(table[6]), rng.below(4), date(rng, table), &mut rows);
-    rows.extend(answer);
-    rows
+fn walk(boundary: &dyn Boundary, table: &[u32], rng: &mut Rng, rows: &mut [u32]) -> (Vec<u32>, Duration) {
+    let (service, repeat, date) = (rng.below(table[6]), rng.below(4), date(rng, table));
+    let (answer, time) = timed(|| boundary.walk(table, service, repeat, date, rows));
+    (answer.to_vec(), time)
 }
 
-fn day(boundary: &dyn Boundary, table: &[u32], rng: &mut Rng) -> Vec<u32> {
-    boundary.day(table, date(rng, table), rng.below(table[3] + 1)).to_vec()
+fn day(boundary: &dyn Boundary, table: &[u32], rng: &mut Rng, _: &mut [u32]) -> (Vec<u32>, Duration) {
+    let (date, field) = (date(rng, table), rng.below(table[3] + 1));
+    let (answer, time) = timed(|| boundary.day(table, date, field));
+    (answer.to_vec(), time)
 }
 
-fn interchange(boundary: &dyn Boundary, table: &[u32], rng: &mut Rng) -> Vec<u32> {
-    boundary.interchange(table, 1_000_001 + rng.below(table[4]), [rng.below(4), 1]).to_vec()
+fn interchange(boundary: &dyn Boundary, table: &[u32], rng: &mut Rng, _: &mut [u32]) -> (Vec<u32>, Duration) {
+    let (stop, classes) = (1_000_001 + rng.below(table[4]), [rng.below(4), 1]);
+    let (answer, time) = timed(|| boundary.interchange(table, stop, classes));
+    (answer.to_vec(), time)
 }

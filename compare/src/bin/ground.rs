@@ -2,9 +2,10 @@
 //!
 //!     ground [SEED [ROUNDS]]              compares everything, with about so many random inputs
 //!     ground again NAME HEX NUMBER..      asks one question again, as a difference was printed
+//!     ground at SEED ROUNDS PART INDEX    the same for a long question, by its place
 
 use compare::ground::question::{number, parse, three, told};
-use compare::ground::{compare, expected, Answer, Question, Tally, What};
+use compare::ground::{compare, expected, Answer, Draw, Question, Tally, What};
 
 #[repr(C)]
 struct Step {
@@ -134,10 +135,31 @@ fn ask_again(words: &[String]) -> bool {
     }
 }
 
-fn compare_all(seed: u64, rounds: u32) -> bool {
-    println!("ground: seed {}, {} rounds", seed, rounds);
-    let mut tally = Tally::new(library, seed);
-    compare(&mut tally, seed, rounds);
+fn ask_at(words: &[String]) -> bool {
+    let place = match words {
+        [seed, rounds, part, index] => match (seed.parse(), rounds.parse(), index.parse()) {
+            (Ok(seed), Ok(rounds), Ok(index)) => Some((Draw { seed, rounds }, part, index)),
+            _ => None,
+        },
+        _ => None,
+    };
+    let (draw, part, index) = match place {
+        Some(place) => place,
+        None => {
+            eprintln!("ground at SEED ROUNDS PART INDEX");
+            return false;
+        }
+    };
+    let mut tally = Tally::new(library, draw).only(part, index);
+    compare(&mut tally);
+    println!("ground: {} cases, {} differences", tally.cases(), tally.differences());
+    tally.cases() == 1 && tally.differences() == 0
+}
+
+fn compare_all(draw: Draw) -> bool {
+    println!("ground: seed {}, {} rounds", draw.seed, draw.rounds);
+    let mut tally = Tally::new(library, draw);
+    compare(&mut tally);
     tally.report()
 }
 
@@ -145,10 +167,11 @@ fn main() {
     let words: Vec<String> = std::env::args().skip(1).collect();
     let agreed = match words.first().map(String::as_str) {
         Some("again") => ask_again(&words[1..]),
+        Some("at") => ask_at(&words[1..]),
         _ => {
             let word = |at: usize, other: u64| words.get(at).map_or(Some(other), |word| word.parse().ok());
             match (word(0, 1), word(1, 1_000_000)) {
-                (Some(seed), Some(rounds)) => compare_all(seed, rounds as u32),
+                (Some(seed), Some(rounds)) => compare_all(Draw { seed, rounds: rounds as u32 }),
                 _ => {
                     eprintln!("ground [SEED [ROUNDS]]");
                     false

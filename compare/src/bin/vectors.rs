@@ -16,8 +16,8 @@
 //!     rows WORD ...                   (after a walk that lists rows)
 //!     end
 //!
-//! A table's record has `words WORD ...` in place of the lines from `file` to `table`. The column is document 02's
-//! No. 6: 0 unless the number is 4.
+//! A table's record has `words WORD ...` in place of the lines from `file` to `table`. The column is that of a broken
+//! form, which a later request asks for (document 02, No. 6): 0 unless the number is 4.
 
 use compare::generate::{damaged, damaged_table, question, valid, Case, Question, Rng, Size};
 use compare::reader::{day, interchange, load, refused_column, walk, Changed, DayAnswer, Loaded, Walked};

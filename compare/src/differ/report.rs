@@ -22,7 +22,7 @@ pub fn report(seed: u64, index: u64, difference: &Difference, below: &Path) -> S
     let mut lines = vec![head];
     lines.extend(difference.expected.differs(&difference.found).into_iter().map(|line| format!("  {}", line)));
     lines.push(written);
-    lines.push(format!("run again: delivery {} 1 {}", seed, index));
+    lines.push(format!("run again: tools/planner.sh {} 1 {}", seed, index));
     lines.join("\n")
 }
 

@@ -1,4 +1,5 @@
-//! Damages to the form of one line (refusal 4), each with the column that document 02, No. 6 names.
+//! Damages to the form of one line (refusal 4), each with the column where the form breaks, which a later request asks
+//! for (document 02, No. 6).
 
 use super::rng::Rng;
 use super::sheet::{Row, Sheet, Tag};

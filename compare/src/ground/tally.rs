@@ -8,6 +8,16 @@ pub type Library = fn(&Question) -> Answer;
 /// Differences of one sort of question that are printed; all are counted.
 const SHOWN: u64 = 3;
 
+/// A question with a longer text is asked again by its part and index; a command line has an end.
+const LONGEST: usize = 2_000;
+
+/// What the random inputs are drawn from, and about how many they are.
+#[derive(Clone, Copy, Debug)]
+pub struct Draw {
+    pub seed: u64,
+    pub rounds: u32,
+}
+
 /// The columns of each line kind in which every byte value must be met: the named ones and two more.
 const FORM_COLUMNS: [usize; 8] = [12, 105, 64, 16, 61, 61, 61, 61];
 
@@ -60,15 +70,17 @@ impl Sort {
 
 pub struct Tally {
     library: Library,
-    seed: u64,
+    draw: Draw,
     part: &'static str,
     index: u64,
+    /// The one question that is asked, by part and index; else all are.
+    only: Option<(String, u64)>,
     cases: u64,
     sorts: Vec<Sort>,
 }
 
 impl Tally {
-    pub fn new(library: Library, seed: u64) -> Tally {
+    pub fn new(library: Library, draw: Draw) -> Tally {
         let mut sorts = Vec::new();
         for (what, name, kinds) in WHATS {
             match what {
@@ -83,36 +95,66 @@ impl Tally {
                 _ => sorts.push(Sort::new(name.to_string(), kinds, field_columns(what))),
             }
         }
-        Tally { library, seed, part: "", index: 0, cases: 0, sorts }
+        Tally { library, draw, part: "", index: 0, only: None, cases: 0, sorts }
     }
 
-    pub fn begin(&mut self, part: &'static str) {
+    /// Asks this question alone.
+    pub fn only(self, part: &str, index: u64) -> Tally {
+        Tally { only: Some((part.to_string(), index)), ..self }
+    }
+
+    pub fn begin(&mut self, part: &'static str) -> Draw {
         self.part = part;
         self.index = 0;
+        self.draw
     }
 
     /// Asks the library and the reader.
     pub fn ask(&mut self, question: Question) {
-        self.hold(question, expected::answer(&question));
+        self.take(&question, || expected::answer(&question));
     }
 
     /// Asks the library where the reader's answer is known.
     pub fn hold(&mut self, question: Question, expected: Answer) {
-        let got = (self.library)(&question);
-        let sort = &mut self.sorts[sort_of(&question)];
+        self.take(&question, || expected);
+    }
+
+    /// Compares the answers, unless another question alone is asked.
+    fn take(&mut self, question: &Question, expected: impl FnOnce() -> Answer) {
+        let asked = self.only.as_ref().map_or(true, |(part, index)| part == self.part && *index == self.index);
+        if asked {
+            self.compare(question, expected());
+        }
+        self.index += 1;
+    }
+
+    fn compare(&mut self, question: &Question, expected: Answer) {
+        let got = (self.library)(question);
+        let at = sort_of(question);
         if got != expected {
-            sort.differences += 1;
-            if sort.differences <= SHOWN {
-                println!("difference: seed {} part {} index {}: {}", self.seed, self.part, self.index, question.text());
-                println!("  reader  {:?}\n  library {:?}", expected, got);
+            self.sorts[at].differences += 1;
+            if self.sorts[at].differences <= SHOWN {
+                self.show(question, &expected, &got);
             }
         }
-        sort.note(question.kind_of(&expected), field(&question));
+        let sort = &mut self.sorts[at];
+        sort.note(question.kind_of(&expected), field(question));
         if question.what == What::Form && expected[0] != 0 {
             sort.broken[(expected[0] as usize).min(199)] = true;
         }
         self.cases += 1;
-        self.index += 1;
+    }
+
+    /// Prints a difference, with the command that asks the question again.
+    fn show(&self, question: &Question, expected: &Answer, got: &Answer) {
+        let Draw { seed, rounds } = self.draw;
+        println!("difference: seed {} part {} index {}", seed, self.part, self.index);
+        println!("  reader  {:?}\n  library {:?}", expected, got);
+        let again = match question.text() {
+            text if text.len() <= LONGEST => format!("again {}", text),
+            _ => format!("at {} {} {} {}", seed, rounds, self.part, self.index),
+        };
+        println!("  ask again: tools/host.sh run probe ground {}", again);
     }
 
     pub fn cases(&self) -> u64 {

@@ -1,5 +1,6 @@
 //! The form of each kind of line (refusal 4), and the column where it breaks: `None` if the form holds, else the
-//! column from 1 of the leftmost field or unnamed column that breaks it (document 02, No. 6).
+//! column from 1 of the leftmost field or unnamed column that breaks it, which a later request asks for (document 02,
+//! No. 6).
 
 use super::fields::{
     all_blank, column, count, date, detail, digits, digits_or_blank, hex_words, kind, no_blank, range_end,
@@ -93,7 +94,7 @@ pub fn form_z(line: &[u8]) -> Option<usize> {
         field(23, digits_or_blank(line, 23, 25).is_some()),
         unnamed(line, 26, 26),
         field(27, digits_or_blank(line, 27, 29).is_some()),
-        // No. 6: "for repeats and offset that do not fit each other, 27"
+        // that request: "for repeats and offset that do not fit each other, 27"
         field(27, repeats_and_offset(line).is_some()),
         unnamed(line, 30, 58),
         percent(line),

@@ -84,7 +84,7 @@ pub fn load(files: [&[u8]; 5], lent: &mut [u32]) -> Loaded {
     Loaded::Accepted { words: used }
 }
 
-/// Document 02, No. 6: the column of a refusal 4, and 0 for every other answer.
+/// The column of a broken form (refusal 4), which a later request asks for (document 02, No. 6); 0 for every other answer.
 pub fn refused_column(files: [&[u8]; 5], loaded: Loaded) -> usize {
     match loaded {
         Loaded::Refused { number: 4, file, line, .. } => {

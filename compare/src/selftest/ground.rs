@@ -1,13 +1,13 @@
 //! The comparison of the ground itself: it agrees with itself, leaves nothing out, and lets no wrong answer pass.
 
 use crate::ground::question::{parse, WHATS};
-use crate::ground::{compare, expected, Answer, Library, Question, Tally};
+use crate::ground::{compare, expected, Answer, Draw, Library, Question, Tally};
 
-const ROUNDS: u32 = 1_000;
+const DRAW: Draw = Draw { seed: 1, rounds: 1_000 };
 
 fn compared(library: Library) -> Tally {
-    let mut tally = Tally::new(library, 1);
-    compare(&mut tally, 1, ROUNDS);
+    let mut tally = Tally::new(library, DRAW);
+    compare(&mut tally);
     tally
 }
 
@@ -33,6 +33,15 @@ fn agrees_with_itself_and_leaves_nothing_out() {
 fn lets_no_wrong_answer_pass() {
     let tally = compared(wrong);
     assert_eq!(tally.differences(), tally.cases());
+}
+
+#[test]
+fn asks_one_alone() {
+    for (part, index, cases) in [("files", 5_000, 1), ("bits", 0, 1), ("bits", u64::MAX, 0), ("rows", 0, 0)] {
+        let mut tally = Tally::new(wrong, DRAW).only(part, index);
+        compare(&mut tally);
+        assert_eq!((tally.cases(), tally.differences()), (cases, cases));
+    }
 }
 
 #[test]

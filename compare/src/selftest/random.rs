@@ -3,6 +3,7 @@
 use std::collections::BTreeMap;
 
 use super::expected::{expected_table, expected_walk};
+use crate::differ::{rng_of, senseless};
 use crate::generate::bend_table::{BENDS, NO_TABLES, POKES};
 use crate::generate::plan::date_of;
 use crate::generate::raw_table::parts;
@@ -22,6 +23,28 @@ fn show(title: &str, histogram: &Histogram) {
     println!("{}: {} cases", title, histogram.values().sum::<u32>());
     for (answer, times) in histogram {
         println!("  {:<24} {:>7}", answer, times);
+    }
+}
+
+/// A turn of a test, told if something fails in it.
+struct Turn {
+    seed: u64,
+    index: u32,
+}
+
+impl Drop for Turn {
+    fn drop(&mut self) {
+        if std::thread::panicking() {
+            eprintln!("this was turn {} of seed {}", self.index, self.seed);
+        }
+    }
+}
+
+/// Runs so many turns. Each has its own generator, so that one that fails runs again alone.
+fn turns(seed: u64, count: u32, mut work: impl FnMut(&mut Rng, u32)) {
+    for index in 0..count {
+        let _told = Turn { seed, index };
+        work(&mut rng_of(seed, u64::from(index)), index);
     }
 }
 
@@ -70,17 +93,16 @@ fn key(loaded: Loaded) -> String {
 
 #[test]
 fn loads() {
-    let mut rng = Rng::new(1);
     let mut histogram = Histogram::new();
-    for turn in 0..200_000 {
-        let case = mixed(&mut rng, turn);
+    turns(1, 200_000, |rng, turn| {
+        let case = mixed(rng, turn);
         let (loaded, table) = run(&case);
         note(&mut histogram, key(loaded));
         match case.aim {
             Some(aim) => check_aim(&case, &aim, loaded),
             None => check_valid(&case, loaded, &table),
         }
-    }
+    });
     show("loads", &histogram);
     for number in 2..=20 {
         let prefix = format!("refused {:02}", number);
@@ -91,15 +113,14 @@ fn loads() {
 
 #[test]
 fn lengths() {
-    let mut rng = Rng::new(2);
-    for _ in 0..12 {
-        let case = oversized(&mut rng);
+    turns(2, 12, |rng, _| {
+        let case = oversized(rng);
         let (loaded, _) = run(&case);
         match case.aim {
             Some(aim) => check_aim(&case, &aim, loaded),
             None => assert!(matches!(loaded, Loaded::Accepted { .. })),
         }
-    }
+    });
 }
 
 /// Every day with every repeat; where there are many repeats, every day with the run itself, and each repeat on a day.
@@ -114,15 +135,14 @@ fn days_and_repeats(rng: &mut Rng, days: u32, repeats: u32) -> Vec<(u32, u32)> {
 /// A walk on the table of a delivery without damage is refused for no service, repeat and date of its own.
 #[test]
 fn walks() {
-    let mut rng = Rng::new(3);
     let mut histogram = Histogram::new();
-    for turn in 0..1_500 {
-        let case = valid(&mut rng, if turn % 100 == 0 { Size::Large } else { Size::Medium });
+    turns(3, 1_500, |rng, turn| {
+        let case = valid(rng, if turn % 100 == 0 { Size::Large } else { Size::Medium });
         let (_, table) = run(&case);
         let (plan, _) = case.plan.as_ref().unwrap();
         for (s, service) in plan.services.iter().enumerate() {
             let repeats = service.repeats.map_or(0, |(repeats, _)| repeats);
-            for (day, repeat) in days_and_repeats(&mut rng, plan.days, repeats) {
+            for (day, repeat) in days_and_repeats(rng, plan.days, repeats) {
                 let (d, m, y) = date_of(plan.first_day + day);
                 let expected = expected_walk(plan, s, repeat, day);
                 let mut rows = vec![LENT; expected.len() + 3];
@@ -135,7 +155,7 @@ fn walks() {
                 assert_eq!(rows[expected.len()..], [LENT; 3]);
             }
         }
-    }
+    });
     show("walks of planned services", &histogram);
 }
 
@@ -168,17 +188,16 @@ fn answer(words: &[u32], question: Question) -> String {
 
 #[test]
 fn questions() {
-    let mut rng = Rng::new(4);
     let mut histogram = Histogram::new();
-    for turn in 0..40_000 {
-        let case = valid(&mut rng, if turn % 4 == 0 { Size::Medium } else { Size::Small });
+    turns(4, 40_000, |rng, turn| {
+        let case = valid(rng, if turn % 4 == 0 { Size::Medium } else { Size::Small });
         let (_, table) = run(&case);
-        let words = if turn % 4 == 1 { table } else { damaged_table(&mut rng, &table) };
+        let words = if turn % 4 == 1 { table } else { damaged_table(rng, &table) };
         for _ in 0..5 {
-            let question = question(&mut rng, &words);
+            let question = question(rng, &words);
             note(&mut histogram, answer(&words, question));
         }
-    }
+    });
     show("questions", &histogram);
     for number in (21..=36).filter(|number| *number != 30) {
         let suffix = format!("refused {}", number);
@@ -190,36 +209,33 @@ fn questions() {
 /// Each condition of 21 in turn, and each damage that keeps a table.
 #[test]
 fn tables_or_not() {
-    let mut rng = Rng::new(5);
-    for _ in 0..2_000 {
-        let case = valid(&mut rng, Size::Small);
+    turns(5, 2_000, |rng, _| {
+        let case = valid(rng, Size::Small);
         let (_, table) = run(&case);
         for bend in BENDS {
             let mut raw = parts(&table);
-            bend(&mut rng, &mut raw);
+            bend(rng, &mut raw);
             assert!(is_table(&raw.words()));
         }
         for (i, bend) in NO_TABLES.iter().enumerate() {
             let mut raw = parts(&table);
-            let done = bend(&mut rng, &mut raw).is_some();
+            let done = bend(rng, &mut raw).is_some();
             assert_eq!(is_table(&raw.words()), !done, "no table {}", i);
         }
         for (i, poke) in POKES.iter().enumerate() {
             let mut words = table.clone();
-            let done = poke(&mut rng, &mut words).is_some();
+            let done = poke(rng, &mut words).is_some();
             assert_eq!(is_table(&words), !done, "poke {}", i);
         }
-    }
+    });
 }
 
 /// Words of no sense at all bring 21 and no panic.
 #[test]
 fn any_words() {
-    let mut rng = Rng::new(6);
-    for _ in 0..20_000 {
-        let length = rng.index(40);
-        let words: Vec<u32> = (0..length).map(|_| rng.draw() as u32 >> rng.pick(&[0, 16, 28])).collect();
-        let question = question(&mut rng, &words);
+    turns(6, 20_000, |rng, _| {
+        let words = senseless(rng);
+        let question = question(rng, &words);
         answer(&words, question);
-    }
+    });
 }

@@ -1,11 +1,11 @@
--- A loop that fills twelve words, the word at k with f k: one law for every f. Assumes nothing.
-use mathlib.Core.Path.{_≡_, _∙_}
+-- A loop that fills twelve words, the word at k with f k: one law for every f, and for twelve words that are copied. Assumes nothing.
+use mathlib.Core.Path.{_≡_, refl, sym, _∙_}
 use mathlib.Core.List.{List}
 use Prim.Native.Nat.{ℕ, _+_, _≤_, _<_}
 use native.Mathlib.Nat.{not-suc-le-zero}
 use native.Mathlib.Omega.{arith}
-use lib.ListN.{length, getD, set, length-set}
-use lib.Seq.{getD-set-same, getD-set-other}
+use lib.ListN.{length, getD, take, drop, set, length-drop, length-set}
+use lib.Seq.{getD-drop, getD-take, getD-set-same, getD-set-other, ext-getD, length-take-le}
 use borrow.Author.Count.{below-more}
 
 -- the first i of the twelve words of r
@@ -24,3 +24,18 @@ filled-next f r i x h e v =
       twelve = simp length-set (v .twelve);
       each = below-more _ _ (λ k lt. getD-set-other r i k x 0 (λ q. omega arith) ∙ v .each k lt) (getD-set-same r i x 0 (omega arith) ∙ e);
     }
+
+-- ---- twelve words copied from a place on
+
+-- the word k places on
+abbrev pub wordFrom : List ℕ → ℕ → ℕ → ℕ
+wordFrom w p k = getD w (p + k) 0
+
+pub twelve-next : (w r : List ℕ) (p i : ℕ) → i < 12 → Filled (wordFrom w p) r i → Filled (wordFrom w p) (set r i (getD w (p + i) 0)) (i + 1)
+twelve-next w r p i h v = filled-next (wordFrom w p) r i (getD w (p + i) 0) h refl v
+
+pub twelve-done : (w r : List ℕ) (p i : ℕ) → p + 12 ≤ length w → 12 ≤ i → Filled (wordFrom w p) r i → r ≡ take 12 (drop p w)
+twelve-done w r p i l h v =
+    ext-getD 0 r (take 12 (drop p w)) (v .twelve ∙ sym (length-take-le 12 (drop p w) (rw length-drop (omega arith)))) (λ k lt.
+    let b : k < 12 = omega (arith, v .twelve) in
+    v .each k (omega arith) ∙ sym (getD-take 12 (drop p w) k 0 b ∙ getD-drop p w k 0))

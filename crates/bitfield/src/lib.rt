@@ -121,7 +121,7 @@ pub fn without(a: [u32; 12], b: [u32; 12]) -> [u32; 12]
     r
 }
 
-// ---- helpers
+// ---- inner functions
 
 // The word of eight hex digits.
 fn hex_word(p: &[u8]) -> u32

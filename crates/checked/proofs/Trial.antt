@@ -15,6 +15,7 @@ use Rattle.timetable.specs.Questions.{idle, rows, journey, walkOf, walkedBy, wa
 use Rattle.timetable.specs.declared.Loaded.the-variants.{Accepted}
 use Rattle.timetable.specs.declared.Walked.{Walked}
 use Rattle.timetable.specs.declared.Walked.the-variants.{Listed, NotRunning}
+use Rattle.timetable.proofs.Trial.{words as exampleWords}
 use Rattle.whole.specs.Promise.{Demand3, Asked, Walk}
 use Rattle.whole.proofs.Accepted.{written-is, walk-accepted}
 use Rattle.whole.proofs.Demand3.{demand3, demand3-rows}
@@ -32,6 +33,11 @@ accepted = refl
 pub words : tableWords (delivered trial) ≡ trialWords
 unfolding computing
 words = refl
+
+-- the worked examples of the questions are asked of these words
+pub example-words : trialWords ≡ exampleWords
+unfolding trialWords
+example-words = refl
 
 words-66 : length trialWords ≡ 66
 unfolding trialWords

@@ -80,7 +80,7 @@ pub fn column_at(line: &[u8], c: usize) -> u8
 pub fn byte_at(p: &[u8], i: usize) -> u8
     ensures { λ r. ⌜ r ≡ getD (now (p .entry)) i 32 ⌝ }
 {
-    if i < p.len() { p[i] } else { 32 }
+    if i < p.len() { p[i] } else { b' ' }
 }
 
 // Whether every one of the w bytes is of the class.
@@ -125,7 +125,7 @@ fn count_of(p: &[u8], w: usize) -> bool
 {
     let mut i = 0;
     while i < w {
-        if byte_at(p, i) != 32 {
+        if byte_at(p, i) != b' ' {
             return every_from(p, i, w, Class::Digit);
         }
         i += 1;
@@ -160,7 +160,7 @@ fn is_of(class: Class, b: u8) -> bool
     match class {
         Class::Digit => is_digit(b),
         Class::Hex => is_hex(b),
-        Class::Filled => b != 32,
+        Class::Filled => b != b' ',
         Class::Byte(m) => b == m,
     }
 }
@@ -169,7 +169,7 @@ pub fn is_digit(b: u8) -> bool
     ensures { λ r. ⌜ r ≡ isDigit b ⌝ }
 {
     match b {
-        48..=57 => true,
+        b'0'..=b'9' => true,
         _ => false,
     }
 }
@@ -178,8 +178,8 @@ pub fn is_hex(b: u8) -> bool
     ensures { λ r. ⌜ r ≡ isHex b ⌝ }
 {
     match b {
-        48..=57 => true,
-        65..=70 => true,
+        b'0'..=b'9' => true,
+        b'A'..=b'F' => true,
         _ => false,
     }
 }
@@ -189,18 +189,21 @@ pub fn digit_value(b: u8) -> u32
     ensures { λ r. ⌜ r ≡ digitValue b ⌝ }
 {
     match b {
-        48..=57 => (b - 48) as u32,
+        b'0'..=b'9' => (b - b'0') as u32,
         _ => 0,
     }
 }
+
+// What is taken from "A" to "F" for their values 10 to 15.
+const TEN_BEFORE_A: u8 = b'A' - 10;
 
 // The value of a hex digit, 0 for another byte.
 pub fn hex_value(b: u8) -> u32
     ensures { λ r. ⌜ r ≡ hexValue b ⌝ }
 {
     match b {
-        48..=57 => (b - 48) as u32,
-        65..=70 => (b - 55) as u32,
+        b'0'..=b'9' => (b - b'0') as u32,
+        b'A'..=b'F' => (b - TEN_BEFORE_A) as u32,
         _ => 0,
     }
 }

@@ -17,35 +17,6 @@ pub enum FirstRange {
 
 // ---- 17 and 18: legs covered exactly once
 
-// How many of n ranges cover a leg.
-pub fn covering(w: &[u32], n: u32, width: usize, leg: u32) -> u32
-    requires { ⌜ 2 ≤ width ⌝ }
-    requires { ⌜ n * width ≤ length (now w) ⌝ }
-    ensures { λ r. ⌜ r ≡ countIf (covers leg) (rangesIn width n (now (w .entry))) ⌝ }
-{
-    let mut count: u32 = 0;
-    let mut left = n;
-    let mut at: usize = 0;
-    while 0 < left {
-        let here = covers_at(w, at, width, leg);
-        at += width;
-        left -= 1;
-        if here {
-            count += 1;
-        }
-    }
-    count
-}
-
-// Whether exactly one of n ranges covers a leg.
-pub fn covered_once(w: &[u32], n: u32, width: usize, leg: u32) -> bool
-    requires { ⌜ 2 ≤ width ⌝ }
-    requires { ⌜ n * width ≤ length (now w) ⌝ }
-    ensures { λ r. ⌜ r ≡ onceIn width n (now (w .entry)) leg ⌝ }
-{
-    covering(w, n, width, leg) == 1
-}
-
 // Whether each leg is covered by exactly one of n ranges.
 pub fn each_once(w: &[u32], n: u32, width: usize, legs: u32) -> bool
     requires { ⌜ 2 ≤ width ⌝ }
@@ -61,6 +32,15 @@ pub fn each_once(w: &[u32], n: u32, width: usize, legs: u32) -> bool
         }
     }
     true
+}
+
+// Whether exactly one of n ranges covers a leg.
+pub fn covered_once(w: &[u32], n: u32, width: usize, leg: u32) -> bool
+    requires { ⌜ 2 ≤ width ⌝ }
+    requires { ⌜ n * width ≤ length (now w) ⌝ }
+    ensures { λ r. ⌜ r ≡ onceIn width n (now (w .entry)) leg ⌝ }
+{
+    covering(w, n, width, leg) == 1
 }
 
 // Where the first of n ranges that covers a leg stands.
@@ -81,25 +61,40 @@ pub fn covering_place(w: &[u32], n: u32, width: usize, leg: u32) -> FirstRange
     FirstRange::Nowhere
 }
 
+// How many of n ranges cover a leg.
+fn covering(w: &[u32], n: u32, width: usize, leg: u32) -> u32
+    requires { ⌜ 2 ≤ width ⌝ }
+    requires { ⌜ n * width ≤ length (now w) ⌝ }
+    ensures { λ r. ⌜ r ≡ countIf (covers leg) (rangesIn width n (now (w .entry))) ⌝ }
+{
+    let mut count: u32 = 0;
+    let mut left = n;
+    let mut at: usize = 0;
+    while 0 < left {
+        let here = covers_at(w, at, width, leg);
+        at += width;
+        left -= 1;
+        if here {
+            count += 1;
+        }
+    }
+    count
+}
+
 // ---- 19: stretches, all days at once
 
-// The days of the first of n ranges (bit field, from, to) that covers a leg; `bits` has twelve words for each range.
-pub fn leg_days(w: &[u32], n: u32, bits: &[u32], leg: u32) -> [u32; 12]
+// Whether on some day of the period the operated legs form two or more stretches.
+pub fn two_stretches(w: &[u32], n: u32, bits: &[u32], legs: u32, days: u32) -> bool
     requires { ⌜ n * 3 ≤ length (now w) ⌝ }
     requires { ⌜ n * 12 ≤ length (now bits) ⌝ }
-    ensures { λ r. ⌜ ((k : ℕ) → k < 384 → bit r k ≡ legBit leg n (now (w .entry)) (now (bits .entry)) k) ⌝ }
+    requires { ⌜ days ≤ 380 ⌝ }
+    ensures { λ r. ⌜ r ≡ tornIn legs days n (now (w .entry)) (now (bits .entry)) ⌝ }
 {
-    let FirstRange::At(place) = covering_place(w, n, timetable::DAYS_WORDS, leg) else {
-        return bitfield::no_bits();
-    };
-    if w[place] == 0 {
-        return bitfield::all_bits();
-    }
-    twelve_at(bits, place * 4)
+    bitfield::some_day(days_in_two_stretches(w, n, bits, legs), days)
 }
 
 // The days on which the operated legs form two or more stretches: a leg runs after one that ran and one that did not.
-pub fn broken_days(w: &[u32], n: u32, bits: &[u32], legs: u32) -> [u32; 12]
+fn days_in_two_stretches(w: &[u32], n: u32, bits: &[u32], legs: u32) -> [u32; 12]
     requires { ⌜ n * 3 ≤ length (now w) ⌝ }
     requires { ⌜ n * 12 ≤ length (now bits) ⌝ }
     ensures { λ r. ⌜ ((k : ℕ) → k < 384 → bit r k ≡ brokenOn legs n (now (w .entry)) (now (bits .entry)) k) ⌝ }
@@ -122,14 +117,20 @@ pub fn broken_days(w: &[u32], n: u32, bits: &[u32], legs: u32) -> [u32; 12]
     broken
 }
 
-// Whether on some day of the period the operated legs form two or more stretches.
-pub fn torn_days(w: &[u32], n: u32, bits: &[u32], legs: u32, days: u32) -> bool
+// The days of the first of n ranges (bit field, from, to) that covers a leg; `bits` has twelve words for each range.
+fn leg_days(w: &[u32], n: u32, bits: &[u32], leg: u32) -> [u32; 12]
     requires { ⌜ n * 3 ≤ length (now w) ⌝ }
     requires { ⌜ n * 12 ≤ length (now bits) ⌝ }
-    requires { ⌜ days ≤ 380 ⌝ }
-    ensures { λ r. ⌜ r ≡ tornIn legs days n (now (w .entry)) (now (bits .entry)) ⌝ }
+    ensures { λ r. ⌜ ((k : ℕ) → k < 384 → bit r k ≡ legBit leg n (now (w .entry)) (now (bits .entry)) k) ⌝ }
 {
-    bitfield::some_day(broken_days(w, n, bits, legs), days)
+    let FirstRange::At(place) = covering_place(w, n, timetable::DAYS_WORDS, leg) else {
+        return bitfield::no_bits();
+    };
+    if w[place] == 0 {
+        return bitfield::all_bits();
+    }
+    // a range's three words stand at `place`, so its twelve of bits at four times that
+    twelve_at(bits, place * 4)
 }
 
 // ---- helpers
@@ -152,13 +153,13 @@ fn covers_at(w: &[u32], at: usize, width: usize, leg: u32) -> bool
 }
 
 // The twelve words from a place on, as one value.
-pub fn twelve_at(b: &[u32], at: usize) -> [u32; 12]
+fn twelve_at(b: &[u32], at: usize) -> [u32; 12]
     requires { ⌜ at + 12 ≤ length (now b) ⌝ }
     ensures { λ r. ⌜ r ≡ take 12 (drop at (now (b .entry))) ⌝ }
 {
     let mut r = [0u32; 12];
     let mut i: usize = 0;
-    while i < 12 {
+    while i < timetable::BIT_WORDS {
         r[i] = b[at + i];
         i += 1;
     }

@@ -1,4 +1,5 @@
--- Demand 3 of the exported functions: what a caller of `estelunya_load` and `estelunya_walk` holds in hand. Assumes nothing.
+-- What a caller of the exported functions holds in hand: that a number of 0 is no refusal, and demand 3 of `estelunya_load` and `estelunya_walk`.
+-- Assumes nothing.
 use mathlib.Core.Path.{_≡_, refl, sym, ap, _∙_}
 use mathlib.Core.List.{List}
 use Prim.Native.Nat.{ℕ, _+_, _-_, _*_, _≤_}
@@ -6,16 +7,21 @@ use native.Mathlib.Omega.{arith}
 use lib.ListN.{length}
 use Rattle.timetable.specs.Delivery.{Files, Service}
 use Rattle.timetable.specs.Load.{delivered, loaded, written}
-use Rattle.timetable.specs.Questions.{rowSize, walked, walkRows}
+use Rattle.timetable.specs.Questions.{rowSize, dayAsked, interchangeAsked, walked, walkRows}
+use Rattle.timetable.specs.declared.DayAnswer.{DayAnswer}
+use Rattle.timetable.specs.declared.DayAnswer.the-variants.{Refused as DayRefused}
+use Rattle.timetable.specs.declared.InterchangeAnswer.{InterchangeAnswer}
+use Rattle.timetable.specs.declared.InterchangeAnswer.the-variants.{Refused as InterchangeRefused}
 use Rattle.timetable.specs.declared.Loaded.{Loaded}
 use Rattle.timetable.specs.declared.Loaded.the-variants.{Accepted, Refused}
 use Rattle.timetable.specs.declared.Walked.{Walked}
+use Rattle.timetable.specs.declared.Walked.the-variants.{Refused as WalkRefused}
 use Rattle.whole.specs.Promise.{RunsNowhere, Asked, Walk, not-running, runs}
 use Rattle.whole.proofs.Demand3.{demand3-promised}
-use Rattle.whole.proofs.Numbers.{load-numbered}
+use Rattle.whole.proofs.Numbers.{load-numbered, day-numbered, interchange-numbered, walk-numbered}
 use Rattle.estelunya.specs.declared.LoadResult.{LoadResult}
 use Rattle.estelunya.specs.declared.WalkResult.{WalkResult}
-use Rattle.estelunya.specs.Answers.{loadResult, walkResult}
+use Rattle.estelunya.specs.Answers.{loadResult, dayResult, interchangeResult, walkResult}
 
 -- an answer numbered 0 is an acceptance, with the words used
 pub accepted : (f : Files) (room : ℕ) → loadResult (loaded f room) .number ≡ 0 → loaded f room ≡ Accepted (loadResult (loaded f room) .words)
@@ -24,6 +30,16 @@ accepted f room e = go (loaded f room) refl e
     go : (a : Loaded) → loaded f room ≡ a → loadResult a .number ≡ 0 → a ≡ Accepted (loadResult a .words)
     go (Accepted used) q e = refl
     go (Refused number file line needed) q e = let h = load-numbered f room number file line needed q in absurd (omega (arith, h, e))
+
+-- and so with the questions: an answer numbered 0 is no refusal
+pub day-answered : (w : List ℕ) (d m y field number : ℕ) → dayResult (dayAsked w d m y field) .number ≡ 0 → dayAsked w d m y field ≡ DayRefused number → ⊥
+day-answered w d m y field number e q = omega (arith, day-numbered w d m y field number q, ap (λ (a : DayAnswer). dayResult a .number) q, e)
+
+pub interchange-answered : (w : List ℕ) (stop a b number : ℕ) → interchangeResult (interchangeAsked w stop a b) .number ≡ 0 → interchangeAsked w stop a b ≡ InterchangeRefused number → ⊥
+interchange-answered w stop a b number e q = omega (arith, interchange-numbered w stop a b number q, ap (λ (x : InterchangeAnswer). interchangeResult x .number) q, e)
+
+pub walk-answered : (w : List ℕ) (i r d m y room number needed : ℕ) → walkResult (walked w i r d m y room) .number ≡ 0 → walked w i r d m y room ≡ WalkRefused number needed → ⊥
+walk-answered w i r d m y room number needed e q = omega (arith, walk-numbered w i r d m y room number needed q, ap (λ (a : Walked). walkResult a .number) q, e)
 
 -- the answer of a walk and its rows, as they cross the boundary: those of a run that demand 3 allows
 pub record Walks (f : Files) (s : Service) (r k : ℕ) (lent : List ℕ) (x : WalkResult) (v : List ℕ) : Type 0 where

@@ -1,24 +1,64 @@
 // The program: reads the five files by name from its directory, up to 8,192 bytes each, loads them into a table of 4,096 words, and says what came of it.
 use libc::STDOUT_FILENO;
+use timetable::BIT_FIELDS_AT;
+use timetable::INTERCHANGES_AT;
 use timetable::Loaded;
+use timetable::PERIOD_DAYS_AT;
+use timetable::SERVICES_AT;
+use timetable::STOPS_AT;
 ghost use lib.ListN.{length};
 ghost use mathlib.Core.Path.{_≡_};
 ghost use Rattle.io.specs.Counts.{Counts};
 
-// One byte more than a file may have: a count of 8,193 says that the file is longer.
-fn room() -> [u8; 8193]
+// One byte more than a file may have: a count of all of them says that the file is unread.
+const ROOM_BYTES: usize = 8193;
+
+const TABLE_WORDS: usize = 4096;
+
+fn main() {
+    let mut eckdaten = room();
+    let mut bitfeld = room();
+    let mut bahnhof = room();
+    let mut umsteigb = room();
+    let mut fplan = room();
+    let eckdaten_bytes = read_named(b"ECKDATEN", &mut eckdaten);
+    let bitfeld_bytes = read_named(b"BITFELD", &mut bitfeld);
+    let bahnhof_bytes = read_named(b"BAHNHOF", &mut bahnhof);
+    let umsteigb_bytes = read_named(b"UMSTEIGB", &mut umsteigb);
+    let fplan_bytes = read_named(b"FPLAN", &mut fplan);
+    let unread = first_unread(
+        eckdaten_bytes,
+        bitfeld_bytes,
+        bahnhof_bytes,
+        umsteigb_bytes,
+        fplan_bytes,
+    );
+    if unread != 0 {
+        say(b"unread file ", unread);
+        end_line();
+        return;
+    }
+    let mut table = [0u32; TABLE_WORDS];
+    let answer = load::load(
+        &eckdaten[..eckdaten_bytes],
+        &bitfeld[..bitfeld_bytes],
+        &bahnhof[..bahnhof_bytes],
+        &umsteigb[..umsteigb_bytes],
+        &fplan[..fplan_bytes],
+        &mut table,
+    );
+    tell(answer, &table);
+}
+
+// ---- reading
+
+fn room() -> [u8; ROOM_BYTES]
     ensures { λ r. ⌜ 8193 ≡ length r ⌝ }
 {
-    [0; 8193]
+    [0; ROOM_BYTES]
 }
 
-fn all(buf: &[u8]) -> usize
-    ensures { λ r. ⌜ Counts r (now (buf .entry)) ⌝ }
-{
-    buf.len()
-}
-
-// Reads the file that path names into buf; buf's whole length also where it cannot be opened.
+// Reads the file that path names into buf; all of buf counts where it cannot be opened or read, or is longer.
 fn read_named(path: &[u8], buf: &mut [u8]) -> usize
     ensures { λ r. ⌜ Counts r (now (buf .exit)) ⌝ }
 {
@@ -27,65 +67,63 @@ fn read_named(path: &[u8], buf: &mut [u8]) -> usize
         return all(buf);
     }
     let n = io::read_full(fd, buf);
+    let ended = at_end(fd);
     libc::close(fd);
-    n
+    if ended {
+        return n;
+    }
+    all(buf)
 }
 
-fn wide(x: u32) -> u64 {
-    x as u64
+// Whether a file was read to its end: `read_full` stops at an error as it stops there, and one more read tells them apart.
+fn at_end(fd: i32) -> bool {
+    let mut byte = [0u8; 1];
+    libc::read(fd, &mut byte) == 0
 }
 
-fn say(text: &[u8], number: u64) {
-    io::write_all(STDOUT_FILENO, text);
-    io::print_decimal(STDOUT_FILENO, number);
+fn all(buf: &[u8]) -> usize
+    ensures { λ r. ⌜ Counts r (now (buf .entry)) ⌝ }
+{
+    buf.len()
 }
 
-fn unread(file: u64) {
-    say(b"unread file ", file);
-    io::write_all(STDOUT_FILENO, b"\n");
+// The first file whose count is that of an unread one, or 0.
+fn first_unread(
+    eckdaten: usize,
+    bitfeld: usize,
+    bahnhof: usize,
+    umsteigb: usize,
+    fplan: usize,
+) -> u32 {
+    if eckdaten == ROOM_BYTES {
+        return 1;
+    }
+    if bitfeld == ROOM_BYTES {
+        return 2;
+    }
+    if bahnhof == ROOM_BYTES {
+        return 3;
+    }
+    if umsteigb == ROOM_BYTES {
+        return 4;
+    }
+    if fplan == ROOM_BYTES {
+        return 5;
+    }
+    0
 }
 
-fn main() {
-    let mut a = room();
-    let mut b = room();
-    let mut c = room();
-    let mut d = room();
-    let mut e = room();
-    let mut table = [0u32; 4096];
-    let an = read_named(b"ECKDATEN", &mut a);
-    if an == 8193 {
-        unread(1);
-        return;
-    }
-    let bn = read_named(b"BITFELD", &mut b);
-    if bn == 8193 {
-        unread(2);
-        return;
-    }
-    let cn = read_named(b"BAHNHOF", &mut c);
-    if cn == 8193 {
-        unread(3);
-        return;
-    }
-    let dn = read_named(b"UMSTEIGB", &mut d);
-    if dn == 8193 {
-        unread(4);
-        return;
-    }
-    let en = read_named(b"FPLAN", &mut e);
-    if en == 8193 {
-        unread(5);
-        return;
-    }
-    let answer = load::load(&a[..an], &b[..bn], &c[..cn], &d[..dn], &e[..en], &mut table);
+// ---- telling
+
+fn tell(answer: Loaded, table: &[u32; TABLE_WORDS]) {
     match answer {
         Loaded::Accepted(used) => {
-            say(b"accepted days ", wide(table[2]));
-            say(b" bitfields ", wide(table[3]));
-            say(b" stops ", wide(table[4]));
-            say(b" interchange ", wide(table[5]));
-            say(b" services ", wide(table[6]));
-            say(b" words ", wide(used));
+            say(b"accepted days ", table[PERIOD_DAYS_AT]);
+            say(b" bitfields ", table[BIT_FIELDS_AT]);
+            say(b" stops ", table[STOPS_AT]);
+            say(b" interchange ", table[INTERCHANGES_AT]);
+            say(b" services ", table[SERVICES_AT]);
+            say(b" words ", used);
         }
         Loaded::Refused {
             number,
@@ -93,10 +131,19 @@ fn main() {
             line,
             needed,
         } => {
-            say(b"refused ", wide(number));
-            say(b" file ", wide(file));
-            say(b" line ", wide(line));
+            say(b"refused ", number);
+            say(b" file ", file);
+            say(b" line ", line);
         }
     }
+    end_line();
+}
+
+fn say(text: &[u8], number: u32) {
+    io::write_all(STDOUT_FILENO, text);
+    io::print_decimal(STDOUT_FILENO, number as u64);
+}
+
+fn end_line() {
     io::write_all(STDOUT_FILENO, b"\n");
 }

@@ -69,14 +69,14 @@ pub fn detail_in(line: &[u8], a: usize, b: usize) -> Detail
 fn time_of(p: &[u8]) -> Time
     ensures { λ r. ⌜ r ≡ time (now (p .entry)) ⌝ }
 {
-    if columns::every_of(p, 6, Class::Byte(32)) {
+    if columns::every_of(p, 6, Class::Byte(b' ')) {
         return Time::Absent;
     }
     let sign = columns::byte_at(p, 0);
     let rest = columns::part(p, 2, 6);
     match sign {
-        32 => clock_of(rest, false),
-        45 => clock_of(rest, true),
+        b' ' => clock_of(rest, false),
+        b'-' => clock_of(rest, true),
         _ => Time::NoTime,
     }
 }
@@ -101,7 +101,7 @@ fn clock_of(p: &[u8], barred: bool) -> Time
 fn range_end_of(p: &[u8]) -> RangeEnd
     ensures { λ r. ⌜ r ≡ rangeEnd (now (p .entry)) ⌝ }
 {
-    if columns::every_of(p, 7, Class::Byte(32)) {
+    if columns::every_of(p, 7, Class::Byte(b' ')) {
         return RangeEnd::Outer;
     }
     if columns::every_of(p, 7, Class::Digit) {
@@ -156,8 +156,8 @@ fn hash_of(p: &[u8], w: usize) -> Hash
     let mut i = 0;
     while i < w {
         let b = columns::byte_at(p, i);
-        if b != 32 {
-            if b == 35 {
+        if b != b' ' {
+            if b == b'#' {
                 return after_hash(p, i + 1, w);
             }
             return Hash::NoNumber;
@@ -194,7 +194,7 @@ fn hash_digits(p: &[u8], from: usize, w: usize) -> Hash
             n = n * 10 + columns::digit_value(b);
             i += 1;
         } else {
-            if columns::every_from(p, i, w, Class::Byte(32)) {
+            if columns::every_from(p, i, w, Class::Byte(b' ')) {
                 return Hash::Numbered(n);
             }
             return Hash::NoNumber;

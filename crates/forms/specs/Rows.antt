@@ -1,4 +1,4 @@
--- The code's tables: a row is one number, from * 2 ^ 48 + to * 2 ^ 16 + the rule's number * 2 ^ 8 + what goes with the rule.
+-- The code's tables: a row is one number, from * 2 ^ 48 + to * 2 ^ 16 + what goes with the rule * 2 ^ 8 + the rule's number.
 -- Nobody has to believe this file: `forms::form_of` is promised over it, and the form of each line kind over `Columns`.
 -- Assumes nothing.
 use Prim.Native.Nat.{ℕ, _/_, _%_}
@@ -33,10 +33,10 @@ abbrev pub toOf : ℕ → ℕ
 toOf x = x / 65536 % 4294967296
 
 abbrev pub ruleNumber : ℕ → ℕ
-ruleNumber x = x / 256 % 256
+ruleNumber x = x % 256
 
 abbrev pub withRule : ℕ → ℕ
-withRule x = x % 256
+withRule x = x / 256 % 256
 
 abbrev pub rowOf : ℕ → Row
 rowOf x = columns (fromOf x) (toOf x) (ruleOf (ruleNumber x) (withRule x))

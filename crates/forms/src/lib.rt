@@ -31,53 +31,54 @@ pub enum Form {
     Broken(usize),
 }
 
-// ---- the tables. A row is one number: from * FROM + to * TO + the rule + what goes with it.
+// ---- the tables. A row is one number: from * FROM + to * TO + the rule + what goes with it * WITH.
 
 const FROM: u64 = 281474976710656;
 
 const TO: u64 = 65536;
 
-const RULE: u64 = 256;
+const WITH: u64 = 256;
 
 // To the line's end: no file is longer.
 const END: u64 = 16777216 * TO;
 
-const FREE: u64 = 0 * RULE;
+// The rules.
+const FREE: u64 = 0;
 
-const DIGITS: u64 = 1 * RULE;
+const DIGITS: u64 = 1;
 
-const DIGITS_OR_BLANK: u64 = 2 * RULE;
+const DIGITS_OR_BLANK: u64 = 2;
 
-const HEX_DIGITS: u64 = 3 * RULE;
+const HEX_DIGITS: u64 = 3;
 
-const NOT_ALL_BLANK: u64 = 4 * RULE;
+const NOT_ALL_BLANK: u64 = 4;
 
-const FIRST_NOT_BLANK: u64 = 5 * RULE;
+const FIRST_NOT_BLANK: u64 = 5;
 
-const NON_BLANK: u64 = 6 * RULE;
+const NON_BLANK: u64 = 6;
 
-const NON_BLANK_OR_BLANK: u64 = 7 * RULE;
+const NON_BLANK_OR_BLANK: u64 = 7;
 
-// with: the highest count
-const COUNT: u64 = 8 * RULE;
+// with the highest count
+const COUNT: u64 = 8;
 
-const DATE: u64 = 9 * RULE;
+const DATE: u64 = 9;
 
-const TIME: u64 = 10 * RULE;
+const TIME: u64 = 10;
 
-const RANGE_END: u64 = 11 * RULE;
+const RANGE_END: u64 = 11;
 
-// with: the range end's first column
-const DETAIL_OF: u64 = 12 * RULE;
+// with the range end's first column
+const DETAIL_OF: u64 = 12;
 
-// with: the repeats' first column
-const OFFSET_OF: u64 = 13 * RULE;
+// with the repeats' first column
+const OFFSET_OF: u64 = 13;
 
-// with: the byte
-const BYTE_OR_BLANK: u64 = 14 * RULE;
+// with the byte
+const BYTE_OR_BLANK: u64 = 14;
 
-// with: the byte
-const BYTE: u64 = 15 * RULE;
+// with the byte
+const BYTE: u64 = 15;
 
 const DATE_LINE: [u64; 2] = [1 * FROM + 10 * TO + DATE, 11 * FROM + END + FREE];
 
@@ -92,8 +93,8 @@ const STOP: [u64; 4] = [
 
 const INTERCHANGE: [u64; 4] = [
     1 * FROM + 7 * TO + DIGITS,
-    9 * FROM + 10 * TO + COUNT + 60,
-    12 * FROM + 13 * TO + COUNT + 99,
+    9 * FROM + 10 * TO + COUNT + 60 * WITH,
+    12 * FROM + 13 * TO + COUNT + 99 * WITH,
     15 * FROM + END + FREE,
 ];
 
@@ -102,8 +103,8 @@ const SERVICE: [u64; 7] = [
     4 * FROM + 8 * TO + DIGITS,
     10 * FROM + 15 * TO + NON_BLANK,
     23 * FROM + 25 * TO + DIGITS_OR_BLANK,
-    27 * FROM + 29 * TO + OFFSET_OF + 23,
-    59 * FROM + 59 * TO + BYTE + 37,
+    27 * FROM + 29 * TO + OFFSET_OF + 23 * WITH,
+    59 * FROM + 59 * TO + BYTE + b'%' as u64 * WITH,
     60 * FROM + END + FREE,
 ];
 
@@ -112,9 +113,9 @@ const CATEGORY: [u64; 8] = [
     4 * FROM + 6 * TO + FIRST_NOT_BLANK,
     8 * FROM + 14 * TO + RANGE_END,
     16 * FROM + 22 * TO + RANGE_END,
-    24 * FROM + 29 * TO + DETAIL_OF + 8,
-    31 * FROM + 36 * TO + DETAIL_OF + 16,
-    59 * FROM + 59 * TO + BYTE + 37,
+    24 * FROM + 29 * TO + DETAIL_OF + 8 * WITH,
+    31 * FROM + 36 * TO + DETAIL_OF + 16 * WITH,
+    59 * FROM + 59 * TO + BYTE + b'%' as u64 * WITH,
     60 * FROM + END + FREE,
 ];
 
@@ -124,9 +125,9 @@ const ATTRIBUTE: [u64; 9] = [
     7 * FROM + 13 * TO + RANGE_END,
     15 * FROM + 21 * TO + RANGE_END,
     23 * FROM + 28 * TO + DIGITS_OR_BLANK,
-    30 * FROM + 35 * TO + DETAIL_OF + 7,
-    37 * FROM + 42 * TO + DETAIL_OF + 15,
-    59 * FROM + 59 * TO + BYTE + 37,
+    30 * FROM + 35 * TO + DETAIL_OF + 7 * WITH,
+    37 * FROM + 42 * TO + DETAIL_OF + 15 * WITH,
+    59 * FROM + 59 * TO + BYTE + b'%' as u64 * WITH,
     60 * FROM + END + FREE,
 ];
 
@@ -137,8 +138,8 @@ const CALL: [u64; 9] = [
     37 * FROM + 42 * TO + TIME,
     44 * FROM + 48 * TO + DIGITS_OR_BLANK,
     50 * FROM + 55 * TO + NON_BLANK_OR_BLANK,
-    57 * FROM + 57 * TO + BYTE_OR_BLANK + 88,
-    59 * FROM + 59 * TO + BYTE + 37,
+    57 * FROM + 57 * TO + BYTE_OR_BLANK + b'X' as u64 * WITH,
+    59 * FROM + 59 * TO + BYTE + b'%' as u64 * WITH,
     60 * FROM + END + FREE,
 ];
 
@@ -151,8 +152,8 @@ pub fn kind_of(line: &[u8]) -> Kind
     let b = columns::column_at(line, 2);
     let c = columns::column_at(line, 3);
     match a {
-        42 => starred_kind(b, c),
-        48..=57 => Kind::Schedule,
+        b'*' => starred_kind(b, c),
+        b'0'..=b'9' => Kind::Schedule,
         _ => Kind::Other,
     }
 }
@@ -161,13 +162,13 @@ pub fn kind_of(line: &[u8]) -> Kind
 fn starred_kind(b: u8, c: u8) -> Kind
     ensures { λ r. ⌜ r ≡ starred b c ⌝ }
 {
-    if c != 32 {
+    if c != b' ' {
         return Kind::Other;
     }
     match b {
-        90 => Kind::Opening,
-        71 => Kind::Category,
-        65 => Kind::Attribute,
+        b'Z' => Kind::Opening,
+        b'G' => Kind::Category,
+        b'A' => Kind::Attribute,
         _ => Kind::Other,
     }
 }
@@ -251,8 +252,8 @@ fn packed_row(line: &[u8], done: usize, x: u64) -> Form
         done,
         (x / FROM) as usize,
         row_end(x),
-        (x / RULE % 256) as u32,
-        (x % RULE) as u32,
+        x % WITH,
+        (x / WITH % 256) as u32,
     )
 }
 
@@ -264,7 +265,7 @@ fn row_end(x: u64) -> usize
 }
 
 // The same with the row taken apart: columns `from` to `to`, rule k with m.
-fn row_form(line: &[u8], done: usize, from: usize, to: usize, k: u32, m: u32) -> Form
+fn row_form(line: &[u8], done: usize, from: usize, to: usize, k: u64, m: u32) -> Form
     requires { ⌜ m < 256 ⌝ }
     ensures { λ r. ⌜ r ≡ rowForm done (record { from = from; to = to; rule = ruleOf k m }) (now (line .entry)) ⌝ }
 {
@@ -287,7 +288,7 @@ fn unnamed_form(line: &[u8], done: usize, to: usize) -> Form
         if line.len() <= i {
             return Form::Fits;
         }
-        if line[i] != 32 {
+        if line[i] != b' ' {
             return Form::Broken(i + 1);
         }
         i += 1;
@@ -304,26 +305,27 @@ fn less_one(c: usize) -> usize
 // ---- the rules
 
 // Whether columns a to b fit rule k with m.
-fn fits_rule(line: &[u8], a: usize, b: usize, k: u32, m: u32) -> bool
+fn fits_rule(line: &[u8], a: usize, b: usize, k: u64, m: u32) -> bool
     requires { ⌜ m < 256 ⌝ }
     ensures { λ r. ⌜ r ≡ ruleOf k m (now (line .entry)) (C.columns a b (now (line .entry))) ⌝ }
 {
     match k {
-        0 => true,
-        1 => columns::every_in(line, a, b, Class::Digit),
-        2 => blank_or(line, a, b, Class::Digit),
-        3 => columns::every_in(line, a, b, Class::Hex),
-        4 => !columns::every_in(line, a, b, Class::Byte(32)),
-        5 => first_filled(line, a, b),
-        6 => columns::every_in(line, a, b, Class::Filled),
-        7 => blank_or(line, a, b, Class::Filled),
-        8 => columns::count_in(line, a, b, m),
-        9 => fits_date(line, a, b),
-        10 => is_time(fields::time_in(line, a, b)),
-        11 => is_end(fields::range_end_in(line, a, b)),
-        12 => fits_detail(line, a, b, m),
-        13 => fits_offset(line, a, b, m),
-        14 => blank_or(line, a, b, Class::Byte(m as u8)),
+        FREE => true,
+        DIGITS => columns::every_in(line, a, b, Class::Digit),
+        DIGITS_OR_BLANK => blank_or(line, a, b, Class::Digit),
+        HEX_DIGITS => columns::every_in(line, a, b, Class::Hex),
+        NOT_ALL_BLANK => !columns::every_in(line, a, b, Class::Byte(b' ')),
+        FIRST_NOT_BLANK => first_filled(line, a, b),
+        NON_BLANK => columns::every_in(line, a, b, Class::Filled),
+        NON_BLANK_OR_BLANK => blank_or(line, a, b, Class::Filled),
+        COUNT => columns::count_in(line, a, b, m),
+        DATE => fits_date(line, a, b),
+        TIME => is_time(fields::time_in(line, a, b)),
+        RANGE_END => is_end(fields::range_end_in(line, a, b)),
+        DETAIL_OF => fits_detail(line, a, b, m),
+        OFFSET_OF => fits_offset(line, a, b, m),
+        BYTE_OR_BLANK => blank_or(line, a, b, Class::Byte(m as u8)),
+        // BYTE
         _ => columns::every_in(line, a, b, Class::Byte(m as u8)),
     }
 }
@@ -332,7 +334,7 @@ fn fits_rule(line: &[u8], a: usize, b: usize, k: u32, m: u32) -> bool
 fn blank_or(line: &[u8], a: usize, b: usize, class: Class) -> bool
     ensures { λ r. ⌜ r ≡ (blank (C.columns a b (now (line .entry))) || every (isOf class) (C.columns a b (now (line .entry)))) ⌝ }
 {
-    if columns::every_in(line, a, b, Class::Byte(32)) {
+    if columns::every_in(line, a, b, Class::Byte(b' ')) {
         return true;
     }
     columns::every_in(line, a, b, class)
@@ -342,7 +344,7 @@ fn blank_or(line: &[u8], a: usize, b: usize, class: Class) -> bool
 fn first_filled(line: &[u8], a: usize, b: usize) -> bool
     ensures { λ r. ⌜ r ≡ not (C.isBlank (getD (C.columns a b (now (line .entry))) 0 32)) ⌝ }
 {
-    columns::byte_at(columns::part(line, a, b), 0) != 32
+    columns::byte_at(columns::part(line, a, b), 0) != b' '
 }
 
 fn fits_date(line: &[u8], a: usize, b: usize) -> bool
@@ -356,9 +358,9 @@ fn is_date(p: &[u8]) -> bool
     ensures { λ r. ⌜ r ≡ date (now (p .entry)) (now (p .entry)) ⌝ }
 {
     if columns::every_in(p, 1, 2, Class::Digit) {
-        if columns::column_at(p, 3) == 46 {
+        if columns::column_at(p, 3) == b'.' {
             if columns::every_in(p, 4, 5, Class::Digit) {
-                if columns::column_at(p, 6) == 46 {
+                if columns::column_at(p, 6) == b'.' {
                     return columns::every_in(p, 7, 10, Class::Digit);
                 }
             }
@@ -385,14 +387,14 @@ fn fits_offset(line: &[u8], a: usize, b: usize, c: u32) -> bool
 {
     let from = c as usize;
     let to = (c + 2) as usize;
-    if columns::every_in(line, from, to, Class::Byte(32)) {
-        return columns::every_in(line, a, b, Class::Byte(32));
+    if columns::every_in(line, from, to, Class::Byte(b' ')) {
+        return columns::every_in(line, a, b, Class::Byte(b' '));
     }
     if columns::every_in(line, a, b, Class::Digit) {
-        if columns::every_in(line, from, to, Class::Byte(48)) {
+        if columns::every_in(line, from, to, Class::Byte(b'0')) {
             return true;
         }
-        return !columns::every_in(line, a, b, Class::Byte(48));
+        return !columns::every_in(line, a, b, Class::Byte(b'0'));
     }
     false
 }

@@ -1,23 +1,23 @@
--- Laws of the parts of a service's words. Assumes nothing.
+-- Laws of the parts of a service's words after its calls. Assumes nothing.
 use mathlib.Core.Path.{_≡_, refl, sym, ap, _∙_}
-use mathlib.Core.List.{List, [], _∷_, _++_, append-assoc, append-nil}
+use mathlib.Core.List.{List, [], _∷_, _++_}
 use mathlib.Core.Option.{Option, none, some}
-use mathlib.Core.Bool.{Bool, true, false}
+use mathlib.Core.Bool.{true, false}
 use mathlib.Core.Logic.{⊎-elim}
 use denote.Enum.Declared.{tagOf}
 use types.Run.{OneOf}
-use Prim.Native.Nat.{ℕ, zero, suc, _+_, _-_, _*_, _≤_, _<_}
-use native.Mathlib.Nat.{add-zero, add-assoc}
+use Prim.Native.Nat.{ℕ, _+_, _-_, _≤_, _<_}
+use native.Mathlib.Nat.{add-zero}
 use native.Mathlib.Omega.{arith}
 use lib.ListN.{length, take, drop, length-append}
 use Rattle.base.specs.Lists.{gathered}
 use Rattle.base.proofs.Laws.{tests}
-use Rattle.lines.specs.Lines.{Line, linesFrom, cutAt}
+use Rattle.lines.specs.Lines.{linesFrom, cutAt}
 use Rattle.lines.specs.declared.Cut.{Cut}
 use Rattle.lines.proofs.Laws.{cutting, lines-none, walk}
 use Rattle.words.specs.Words.{write}
 use Rattle.words.proofs.Laws.{write-none, write-write}
-use Rattle.timetable.specs.Plan.{toldIn, asCall, asCategory, asDays, asExtra}
+use Rattle.timetable.specs.Plan.{toldIn, asCategory, asDays, asExtra}
 use Rattle.timetable.specs.declared.Call.{Call}
 use Rattle.timetable.specs.Delivery.{Legs}
 use Rattle.timetable.specs.Ranges.{legsOf}
@@ -35,23 +35,14 @@ use Rattle.route.specs.declared.Found.{Found}
 use Rattle.route.specs.declared.Found.the-variants.{Between, Missing}
 use Rattle.gather.specs.declared.Given.{Given}
 use Rattle.gather.specs.declared.Given.the-variants.{Nothing, Three, Four}
-use Rattle.gather.specs.declared.Part.the-variants.{Calls as CallPart, Categories, Days as DayPart, Extras}
+use Rattle.gather.specs.declared.Part.the-variants.{Categories, DayRanges, Extras}
 use Rattle.gather.specs.declared.Part.{Part}
+use Rattle.gather.proofs.Calls.{len-trans}
 use Rattle.gather.specs.Parts.{toldWords, partWords, givenWords, threeOf, fourOf}
 
 -- ---- what a line gives, for `search gives`
 
 -- a line of another kind gives nothing to a part: its tag is another
-nothing-called : (t : Told) → OneOf (0 ∷ 1 ∷ 2 ∷ 3 ∷ 4 ∷ 5 ∷ 6 ∷ []) (tagOf the-type t) → asCall t ≡ []
-nothing-called Skip k = refl
-nothing-called Other k = refl
-nothing-called Broken k = refl
-nothing-called (Opens o) k = refl
-nothing-called (Category g) k = refl
-nothing-called (Days v) k = refl
-nothing-called (Extra a) k = refl
-nothing-called (Calls c) k = absurd (⊎-elim (λ w. omega arith) (⊎-elim (λ w. omega arith) (⊎-elim (λ w. omega arith) (⊎-elim (λ w. omega arith) (⊎-elim (λ w. omega arith) (⊎-elim (λ w. omega arith) (λ w. omega arith)))))) k)
-
 nothing-named : (t : Told) → OneOf (0 ∷ 1 ∷ 2 ∷ 3 ∷ 5 ∷ 6 ∷ 7 ∷ []) (tagOf the-type t) → asCategory t ≡ []
 nothing-named Skip k = refl
 nothing-named Other k = refl
@@ -83,25 +74,17 @@ nothing-coded (Extra a) k = absurd (⊎-elim (λ w. omega arith) (⊎-elim (λ w
 nothing-coded (Calls c) k = refl
 
 module _ (t : Told) where
-  pub no-call : OneOf (0 ∷ 1 ∷ 2 ∷ 3 ∷ 4 ∷ 5 ∷ 6 ∷ []) (tagOf the-type t) → [] ≡ toldWords CallPart [] t
-  unfolding gathered
-  no-call k = rw (nothing-called t k)
-
   pub no-category : (cs : List Call) → OneOf (0 ∷ 1 ∷ 2 ∷ 3 ∷ 5 ∷ 6 ∷ 7 ∷ []) (tagOf the-type t) → [] ≡ toldWords Categories cs t
   unfolding gathered
   no-category cs k = rw (nothing-named t k)
 
-  pub no-days : (cs : List Call) → OneOf (0 ∷ 1 ∷ 2 ∷ 3 ∷ 4 ∷ 6 ∷ 7 ∷ []) (tagOf the-type t) → [] ≡ toldWords DayPart cs t
+  pub no-day-range : (cs : List Call) → OneOf (0 ∷ 1 ∷ 2 ∷ 3 ∷ 4 ∷ 6 ∷ 7 ∷ []) (tagOf the-type t) → [] ≡ toldWords DayRanges cs t
   unfolding gathered
-  no-days cs k = rw (nothing-dated t k)
+  no-day-range cs k = rw (nothing-dated t k)
 
   pub no-extra : (cs : List Call) → OneOf (0 ∷ 1 ∷ 2 ∷ 3 ∷ 4 ∷ 5 ∷ 7 ∷ []) (tagOf the-type t) → [] ≡ toldWords Extras cs t
   unfolding gathered
   no-extra cs k = rw (nothing-coded t k)
-
-  pub call-gives : (c : Call) → t ≡ Calls c → c .stop ∷ c .arrival ∷ c .departure ∷ c .flags ∷ [] ≡ toldWords CallPart [] t
-  unfolding gathered
-  call-gives c e = rw e
 
 pub three-between : (f : Found) (a b : RouteIndex) (x : ℕ) → f ≡ Between a b → x ∷ a .0 ∷ b .0 ∷ [] ≡ threeOf x f
 three-between f a b x e = rw e
@@ -128,9 +111,9 @@ module _ (cs : List Call) (t : Told) (f : Found) (r : Given) where
       go (Between from to) = refl
       go Missing = refl
 
-  pub days-gives : (v : DaysLine) → t ≡ Days v → f ≡ foundOf (legsOf false cs (v .ends)) → givenWords r ≡ threeOf (v .field) f → givenWords r ≡ toldWords DayPart cs t
+  pub day-range-gives : (v : DaysLine) → t ≡ Days v → f ≡ foundOf (legsOf false cs (v .ends)) → givenWords r ≡ threeOf (v .field) f → givenWords r ≡ toldWords DayRanges cs t
   unfolding gathered unfound
-  days-gives v e d k = k ∙ sym (ap (toldWords DayPart cs) e ∙ ap (λ (o : Option Legs). gathered dayWords (withLegs (λ (x : Legs). record { field = v .field; legs = x }) o ++ [])) (found-legs (legsOf false cs (v .ends)) f d) ∙ go f)
+  day-range-gives v e d k = k ∙ sym (ap (toldWords DayRanges cs) e ∙ ap (λ (o : Option Legs). gathered dayWords (withLegs (λ (x : Legs). record { field = v .field; legs = x }) o ++ [])) (found-legs (legsOf false cs (v .ends)) f d) ∙ go f)
     where
       go : (f : Found) → gathered dayWords (withLegs (λ (x : Legs). record { field = v .field; legs = x }) (unfound f) ++ []) ≡ threeOf (v .field) f
       go (Between from to) = refl
@@ -164,9 +147,9 @@ module _ (g : Given) (t : List ℕ) (q : ℕ) where
     pub put-four : (t′ : List ℕ) → t′ ≡ write t q (x ∷ y ∷ z ∷ u ∷ []) → (q + 4 ≡ q + length (givenWords g)) × (t′ ≡ write t q (givenWords g))
     put-four t′ k = rw e (refl, k)
 
-pub ruleset putting = (tests, put-nothing, three-room, put-three, four-room, put-four)
+pub ruleset putting = (tests, three-room, four-room)
 
--- ---- the loop of `part_into`, for `search puts`: x is what is said at the line cut at place p; all is the words of the whole part
+-- ---- the loop of `part_into`, for `search puts`: x is what is said at the line cut at place p; m is how many words the whole part has
 
 module _ (part : Part) (cs : List Call) (b : List ℕ) (p n : ℕ) (r : Cut) (h : p < length b) (e : r ≡ cutAt b p n)
     (x : Told) (d : x ≡ toldIn (take (r .stop - p) (drop p b))) (g : Given) (k : givenWords g ≡ toldWords part cs x) where
@@ -200,9 +183,6 @@ module _ (part : Part) (cs : List Call) (b : List ℕ) (p n : ℕ) (h : length b
   unfolding partWords
   put-done t w q v = sym (write-none t q) ∙ (rw (lines-none b p n h) at v)
 
-pub len-trans : (t′ t t₀ : List ℕ) → length t′ ≡ length t → length t ≡ length t₀ → length t′ ≡ length t₀
-len-trans t′ t t₀ a b = a ∙ b
-
-pub ruleset gives = (tests, category-gives, days-gives, extra-gives)
+pub ruleset gives = (tests, category-gives, day-range-gives, extra-gives)
 
 pub ruleset puts = (tests, walk, put-room, put-count, put-again, put-last, put-done, len-trans)

@@ -1,9 +1,10 @@
--- The parts of a service's words, line by line: what a line gives to each of them, by the definitions of the crate timetable. Assumes nothing.
+-- The parts of a service's words after its calls, line by line: what a line gives to each of them, by the definitions of the crate
+-- timetable. Assumes nothing.
 use Prim.Native.Nat.{ℕ, _+_}
 use mathlib.Core.List.{List, [], _∷_, _++_}
 use Rattle.base.specs.Lists.{gathered}
 use Rattle.lines.specs.Lines.{Line}
-use Rattle.timetable.specs.Plan.{toldIn, asCall, asCategory, asDays, asExtra}
+use Rattle.timetable.specs.Plan.{toldIn, asCategory, asDays, asExtra}
 use Rattle.timetable.specs.Service.{categoryRange, dayRange, extraRange}
 use lib.ListN.{length}
 use Rattle.timetable.specs.Delivery.{Service}
@@ -13,19 +14,17 @@ use Rattle.gather.specs.declared.Sizes.{Sizes}
 use Rattle.gather.specs.declared.RangeEnds.{RangeEnds}
 use Rattle.timetable.specs.declared.Call.{Call}
 use Rattle.timetable.specs.declared.Told.{Told}
-use Rattle.fields.specs.declared.RouteIndex.{RouteIndex}
 use Rattle.route.specs.declared.Found.{Found}
 use Rattle.route.specs.declared.Found.the-variants.{Between, Missing}
 use Rattle.gather.specs.declared.Given.{Given}
 use Rattle.gather.specs.declared.Given.the-variants.{Nothing, Three, Four}
 use Rattle.gather.specs.declared.Part.{Part}
-use Rattle.gather.specs.declared.Part.the-variants.{Calls, Categories, Days, Extras}
+use Rattle.gather.specs.declared.Part.the-variants.{Categories, DayRanges, Extras}
 
 -- the words that what a line says gives to a part, where cs are the service's calls
 abbrev pub toldWords : Part → List Call → Told → List ℕ
-toldWords Calls cs t = gathered callWords (asCall t)
 toldWords Categories cs t = gathered categoryWords (gathered (categoryRange cs) (asCategory t))
-toldWords Days cs t = gathered dayWords (gathered (dayRange cs) (asDays t))
+toldWords DayRanges cs t = gathered dayWords (gathered (dayRange cs) (asDays t))
 toldWords Extras cs t = gathered extraWords (gathered (extraRange cs) (asExtra t))
 
 -- the words of a part
@@ -33,18 +32,16 @@ unfoldable pub partWords : Part → List Call → List Line → List ℕ
 partWords p cs [] = []
 partWords p cs (l ∷ ls) = toldWords p cs (toldIn (l .text)) ++ partWords p cs ls
 
--- the words of the *A ranges, and of all ranges; and where each kind ends if they begin at place q
-abbrev pub attributeWords : List Call → List Line → List ℕ
-attributeWords cs ls = partWords Days cs ls ++ partWords Extras cs ls
-
+-- the words of all parts, and where each ends if they begin at place q
 abbrev pub rangeWords : List Call → List Line → List ℕ
-rangeWords cs ls = partWords Categories cs ls ++ attributeWords cs ls
-
-abbrev pub attributeEnds : ℕ → List Call → List Line → RangeEnds
-attributeEnds q cs ls = record { categories = q; days = q + length (partWords Days cs ls); extras = q + length (partWords Days cs ls) + length (partWords Extras cs ls) }
+rangeWords cs ls = partWords Categories cs ls ++ (partWords DayRanges cs ls ++ partWords Extras cs ls)
 
 abbrev pub rangeEnds : ℕ → List Call → List Line → RangeEnds
-rangeEnds q cs ls = attributeEnds (q + length (partWords Categories cs ls)) cs ls
+rangeEnds q cs ls = record {
+  categories = q + length (partWords Categories cs ls);
+  «day_ranges» = q + length (partWords Categories cs ls) + length (partWords DayRanges cs ls);
+  extras = q + length (partWords Categories cs ls) + length (partWords DayRanges cs ls) + length (partWords Extras cs ls);
+}
 
 -- ---- what the code hands on for them
 
@@ -68,8 +65,8 @@ abbrev pub bodyWords : Service → List ℕ
 bodyWords s = gathered callWords (s .calls) ++ (gathered categoryWords (s .categories) ++ (gathered dayWords (s .days) ++ gathered extraWords (s .extras)))
 
 abbrev pub sizesOf : Service → Sizes
-sizesOf s = record { calls = length (s .calls); categories = length (s .categories); days = length (s .days); extras = length (s .extras); words = length (serviceWords s) }
+sizesOf s = record { calls = length (s .calls); categories = length (s .categories); «day_ranges» = length (s .days); extras = length (s .extras); words = length (serviceWords s) }
 
 abbrev pub headBy : Sizes → Opening → ℕ → List ℕ
 headBy z o line =
-    z .words ∷ o .number ∷ o .high ∷ o .low ∷ o .repeats ∷ o .offset ∷ z .calls ∷ z .categories ∷ z .days ∷ z .extras ∷ line ∷ []
+    z .words ∷ o .number ∷ o .high ∷ o .low ∷ o .repeats ∷ o .offset ∷ z .calls ∷ z .categories ∷ z .«day_ranges» ∷ z .extras ∷ line ∷ []

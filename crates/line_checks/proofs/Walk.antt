@@ -10,7 +10,7 @@ use lib.ListN.{length, take, drop, length-append}
 use lib.Dec.{ltb, eqb}
 use borrow.Author.Tests.{eq-eqb, ne-eqb, ltb-true, eqb-true}
 use Rattle.base.specs.Lists.{gathered}
-use Rattle.base.proofs.Laws.{tests}
+use Rattle.base.proofs.Laws.{apart, tests}
 use Rattle.lines.specs.Lines.{Line, linesFrom, cutAt}
 use Rattle.lines.specs.declared.Cut.{Cut}
 use Rattle.lines.proofs.Laws.{cutting, lines-none, walk}
@@ -20,6 +20,7 @@ use Rattle.timetable.specs.Plan.{toldIn, tolds, asCall, asCategory, asDays, asE
 use Rattle.timetable.specs.Checks.{toldOffence, ownOffence}
 use Rattle.timetable.specs.declared.Told.{Told}
 use Rattle.timetable.specs.declared.Told.the-variants.{Skip, Other, Broken, Opens, Category, Days, Extra, Calls}
+use Rattle.timetable.proofs.Lines.{said-more}
 use Rattle.line_checks.specs.Own.{countsOf, counted, Within, offenceAfter, ownBy}
 use Rattle.line_checks.specs.declared.Counts.{Counts}
 use Rattle.line_checks.specs.declared.Own.{Own}
@@ -27,22 +28,11 @@ use Rattle.line_checks.specs.declared.Own.the-variants.{Fine, Wrong}
 
 -- ---- one more line
 
-tolds-more : (before : List Line) (l : Line) → tolds (before ++ (l ∷ [])) ≡ tolds before ++ (toldIn (l .text) ∷ [])
-unfolding tolds
-tolds-more [] l = refl
-tolds-more (k ∷ before) l = ap (λ (r : List Told). toldIn (k .text) ∷ r) (tolds-more before l)
-
-module _ {X : Type 0} (say : Told → List X) where
-  said-last : (ts : List Told) (t : Told) → length (gathered say (ts ++ (t ∷ []))) ≡ length (gathered say ts) + length (say t)
-  unfolding gathered
-  said-last [] t = omega (arith, ap length (append-nil (say t)))
-  said-last (u ∷ ts) t = omega (arith, length-append (say u) (gathered say (ts ++ (t ∷ []))), length-append (say u) (gathered say ts), said-last ts t)
-
-  said-more : (before : List Line) (l : Line) → length (gathered say (tolds (before ++ (l ∷ [])))) ≡ length (gathered say (tolds before)) + length (say (toldIn (l .text)))
-  said-more before l = ap (λ (ts : List Told). length (gathered say ts)) (tolds-more before l) ∙ said-last (tolds before) (toldIn (l .text))
+said-length : {X : Type 0} (say : Told → List X) (before : List Line) (l : Line) → length (gathered say (tolds (before ++ (l ∷ [])))) ≡ length (gathered say (tolds before)) + length (say (toldIn (l .text)))
+said-length say before l = ap length (said-more say before l) ∙ length-append (gathered say (tolds before)) (say (toldIn (l .text)))
 
 counts-more : (before : List Line) (l : Line) → countsOf (before ++ (l ∷ [])) ≡ counted (countsOf before) (toldIn (l .text))
-counts-more before l = rw (said-more asCall before l, said-more asCategory before l, said-more asDays before l, said-more asExtra before l) refl
+counts-more before l = rw (said-length asCall before l, said-length asCategory before l, said-length asDays before l, said-length asExtra before l) refl
 
 module _ (fields : List BitField) (stops : List StopRecord) where
   -- the lines before matter only by their counts
@@ -100,7 +90,7 @@ module _ (fields : List BitField) (stops : List StopRecord) where
       go : (t : Bool) → eqb (offenceAfter fields stops k (toldIn (l .text))) 0 ≡ t → cond t (ownFrom (counted k (toldIn (l .text))) ls) (Wrong (offenceAfter fields stops k (toldIn (l .text))) (l .no)) ≡ Fine n
           → (Within (counted k (toldIn (l .text))) → ownFrom (counted k (toldIn (l .text))) ls ≡ Fine n → Within n) → Within n
       go true q e ih = ih (within-more k (toldIn (l .text)) w (sym (eqb-true _ 0 q))) e
-      go false q e ih = absurd (let z : _≡_ {A = ℕ} 0 1 = cc in omega arith)
+      go false q e ih = apart (cc)
 
   pub own-start : (ls : List Line) → ownFrom (record { calls = 0; categories = 0; days = 0; extras = 0 }) ls ≡ ownBy (first (ownOffence fields stops) [] ls) (countsOf ls)
   unfolding tolds gathered
@@ -114,7 +104,7 @@ module _ (fields : List BitField) (stops : List StopRecord) where
     where
       go : (o : Option Offence) → first (ownOffence fields stops) [] ls ≡ o → ownBy o (countsOf ls) ≡ Fine k → Within k → (first (ownOffence fields stops) [] ls ≡ none) × (countsOf ls ≡ k) × Within k
       go none q e w = (q, cc, w)
-      go (some o) q e w = absurd (let z : _≡_ {A = ℕ} 0 1 = cc in omega arith)
+      go (some o) q e w = apart (cc)
 
 -- ---- the loop of `own_checks`, for `search owned`: x is what the line says that is cut at place p, o its offence; q is what all lines answer
 

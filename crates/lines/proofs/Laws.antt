@@ -1,15 +1,15 @@
--- Laws for those who walk a file by `line_at`: what a cut says of the lines from a place on, how many lines there are, and their numbers.
+-- Laws for those who walk a file by `line_at`: what a cut says of the lines from a place on, and how many lines there are.
 -- What holds of a part of a file is in Parts.antt (`lines-parts`, `part-lines`, `LineStart`). Assumes nothing.
-use mathlib.Core.Path.{_≡_, refl, ap, sym, _∙_}
-use mathlib.Core.List.{List, [], _∷_, map}
-use Prim.Native.Nat.{ℕ, zero, suc, _+_, _-_, _≤_, _<_}
-use native.Mathlib.Nat.{add-sub-cancel-left, add-zero}
+use mathlib.Core.Path.{_≡_, refl, ap, _∙_}
+use mathlib.Core.List.{List, [], _∷_}
+use Prim.Native.Nat.{ℕ, suc, _+_, _-_, _≤_, _<_}
+use native.Mathlib.Nat.{add-sub-cancel-left}
 use native.Mathlib.Omega.{arith}
 use native.Mathlib.Decide.{decLt}
-use lib.ListN.{length, getD, take, drop, drop-of-length-le, length-drop}
+use lib.ListN.{length, take, drop, drop-of-length-le, length-drop}
 use lib.Seq.{drop-drop, length-take-le, take-take}
 use borrow.Author.Tests.{lt-ltb, le-ltb}
-use Rattle.lines.specs.Lines.{toLF, pieces, noCR, Line, numbered, linesFrom, linesOf, cutAt}
+use Rattle.lines.specs.Lines.{toLF, pieces, noCR, numbered, linesFrom, cutAt}
 use Rattle.lines.specs.declared.Cut.{Cut}
 use Rattle.lines.proofs.Pieces.{toLF-le, pieces-step, pieces-le, noCR-take}
 
@@ -101,12 +101,6 @@ module _ (f : List ℕ) (at n : ℕ) (r : Cut) (h : at < length f) (e : r ≡ cu
   pub cut-inside : r .next ≤ length f
   cut-inside = cutting f at n r h e .inside
 
-  pub cut-count : r .no ≡ n + 1
-  cut-count = cutting f at n r h e .count
-
-  pub cut-step : linesFrom n at (drop at f) ≡ record { no = n; start = at; text = take (r .stop - at) (drop at f) } ∷ linesFrom (r .no) (r .next) (drop (r .next) f)
-  cut-step = cutting f at n r h e .step
-
   -- the measure of a walk falls
   pub cut-less : length f - r .next < length f - at
   cut-less = omega (arith, cutting f at n r h e)
@@ -129,7 +123,7 @@ pub ruleset walk = (cut-low, cut-high, cut-past, cut-inside, cut-less, cut-numbe
 pub lines-none : (f : List ℕ) (at n : ℕ) → length f ≤ at → linesFrom n at (drop at f) ≡ []
 lines-none f at n h = rw (drop-of-length-le f h) (lines-nil n at)
 
--- ---- how many lines, and their numbers
+-- ---- how many lines
 
 length-numbered : (n at : ℕ) (ps : List (List ℕ)) → length (numbered n at ps) ≡ length ps
 unfolding numbered
@@ -144,32 +138,3 @@ length-lines n at s = length-numbered n at (pieces s)
 -- no more lines than bytes
 pub lines-le : (n at : ℕ) (s : List ℕ) → length (linesFrom n at s) ≤ length s
 lines-le n at s = rw (length-lines n at s) (pieces-le s)
-
-number-of : (n at : ℕ) (ps : List (List ℕ)) (k : ℕ) (d : Line) → k < length (numbered n at ps) → getD (numbered n at ps) k d .no ≡ n + k
-unfolding numbered
-number-of n at [] k d h = absurd (omega arith)
-number-of n at (p ∷ ps) zero d h = sym (add-zero n)
-number-of n at (p ∷ ps) (suc k) d h = number-of (n + 1) (at + length p + 1) ps k d (omega arith) ∙ omega arith
-
-pub line-number-from : (n at : ℕ) (s : List ℕ) (k : ℕ) (d : Line) → k < length (linesFrom n at s) → getD (linesFrom n at s) k d .no ≡ n + k
-unfolding linesFrom
-line-number-from n at s k d h = number-of n at (pieces s) k d h
-
--- "Lines count from 1."
-pub line-number : (f : List ℕ) (k : ℕ) (d : Line) → k < length (linesOf f) → getD (linesOf f) k d .no ≡ k + 1
-line-number f k d h = line-number-from 1 0 f k d h ∙ omega arith
-
--- ---- numbers and texts do not depend on the place where the text starts
-
--- the line with its place forgotten
-abbrev pub unplaced : Line → Line
-unplaced l = record { no = l .no; start = 0; text = l .text }
-
-unplaced-pieces : (n at bt : ℕ) (ps : List (List ℕ)) → map unplaced (numbered n at ps) ≡ map unplaced (numbered n bt ps)
-unfolding numbered
-unplaced-pieces n at bt [] = refl
-unplaced-pieces n at bt (p ∷ ps) = ap (λ (ls : List Line). record { no = n; start = 0; text = noCR p } ∷ ls) (unplaced-pieces (n + 1) (at + length p + 1) (bt + length p + 1) ps)
-
-pub text-start : (n at bt : ℕ) (s : List ℕ) → map unplaced (linesFrom n at s) ≡ map unplaced (linesFrom n bt s)
-unfolding linesFrom
-text-start n at bt s = unplaced-pieces n at bt (pieces s)

@@ -8,7 +8,7 @@ use native.Mathlib.Omega.{arith}
 use lib.ListN.{length}
 use lib.Dec.{ltb, eqb}
 use borrow.Author.Tests.{ltb-false, eqb-true, eq-eqb, ne-eqb}
-use Rattle.base.proofs.Laws.{tests}
+use Rattle.base.proofs.Laws.{apart, tests}
 use Rattle.lines.specs.Lines.{linesOf}
 use Rattle.timetable.specs.Delivery.{filesOf}
 use Rattle.timetable.specs.Offences.{Offence, _<|>_, when}
@@ -190,6 +190,6 @@ module _ (e b s u p : List ℕ) where
     where
       go : (t : Bool) → eqb long 0 ≡ t → cond t (fromPeriod e b s u p) (some (1, long, 0)) ≡ none → (long ≡ 0) × (fromPeriod e b s u p ≡ none)
       go true q v = (eqb-true long 0 q, v)
-      go false q v = let z : _≡_ {A = ℕ} 0 1 = cc in absurd (omega arith)
+      go false q v = apart (cc)
 
 pub ruleset lengths = (tests, longs, is-long, not-long, short-fields, short-stops, short-records, short-plan)

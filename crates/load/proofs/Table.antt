@@ -8,24 +8,24 @@ use native.Mathlib.Omega.{arith}
 use lib.ListN.{length, drop, length-append, length-map}
 use lib.Dec.{ltb}
 use Rattle.base.specs.Lists.{gathered}
-use Rattle.base.proofs.Laws.{tests}
+use Rattle.base.proofs.Laws.{apart, tests}
 use Rattle.lines.specs.Lines.{linesOf}
 use Rattle.words.specs.Words.{write}
 use Rattle.words.proofs.Laws.{write-front}
 use Rattle.timetable.specs.Delivery.{filesOf}
-use Rattle.timetable.specs.Offences.{Offence, _<|>_}
 use Rattle.timetable.specs.Files.{held-in, periodIn, periodFirst, bitFieldOf, bitFieldsFirst, stopOf, stopsFirst, interchangeOf, interchangesFirst}
 use Rattle.timetable.specs.Service.{blocks, serviceOf}
 use Rattle.timetable.specs.Checks.{planFirst}
 use Rattle.timetable.specs.Load.{Where, inFile, delivered, offence, bitFieldWords, stopWords, interchangeWords, serviceWords, sections, tableWords, onto, loadedBy, loaded, writtenBy, written}
 use Rattle.timetable.specs.declared.Loaded.{Loaded}
 use Rattle.timetable.specs.declared.Loaded.the-variants.{Accepted, Refused}
+use Rattle.timetable.proofs.Offences.{then-none, in-none}
 use Rattle.blocks.specs.Blocks.{headOffence}
 use Rattle.sections.specs.declared.Section.the-variants.{BitFields, Stops, Interchanges}
 use Rattle.section_words.specs.Words.{sectionWords}
 use Rattle.section_words.proofs.Words.{words-fields, words-stops, words-records, length-fields, length-stops, length-records}
 use Rattle.plan_words.specs.Services.{blockWords, fewCalls}
-use Rattle.plan_words.proofs.Few.{then-none, head-none, few-calls}
+use Rattle.plan_words.proofs.Few.{head-none, few-calls}
 use Rattle.table_words.specs.declared.Header.{Header}
 use Rattle.table_words.specs.Words.{headerWords, fromBitFields, fromStops as wordsStops, fromInterchanges, roomFor}
 use Rattle.load.specs.declared.Delivered.{Delivered}
@@ -41,18 +41,14 @@ module _ (o : Option Where) (g : Header) (d : Delivered) (e : d ≡ deliveredBy 
     where
       go : (o : Option Where) → deliveredBy o g ≡ Wrong a f l → o ≡ some (a, f, l)
       go (some x) v = let p : x .0 ≡ a = cc in let q : x .1 ≡ f = cc in let r : x .2 ≡ l = cc in rw (← p, ← q, ← r) refl
-      go none v = let z : _≡_ {A = ℕ} 0 1 = cc in absurd (omega arith)
+      go none v = apart (cc)
 
   holds-is : (h : Header) → d ≡ Holds h → (o ≡ none) × (g ≡ h)
   holds-is h y = go o (sym e ∙ y)
     where
       go : (o : Option Where) → deliveredBy o g ≡ Holds h → (o ≡ none) × (g ≡ h)
       go none v = (refl, cc)
-      go (some x) v = let z : _≡_ {A = ℕ} 0 1 = cc in absurd (omega arith)
-
-in-none : (f : ℕ) (o : Option Offence) → inFile f o ≡ none → o ≡ none
-in-none f none e = refl
-in-none f (some x) e = let z : _≡_ {A = ℕ} 0 1 = cc in absurd (omega arith)
+      go (some x) v = apart (cc)
 
 -- ---- the words
 

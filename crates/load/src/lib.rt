@@ -3,7 +3,12 @@ use period::PeriodRead;
 use plan::Planned;
 use sections::Scan;
 use table_words::Header;
+use timetable::BIT_FIELD_WORDS;
+use timetable::HEADER_WORDS;
+use timetable::INTERCHANGE_WORDS;
 use timetable::Loaded;
+use timetable::MOST_FILE_BYTES;
+use timetable::STOP_WORDS;
 ghost use mathlib.Core.Path.{_≡_};
 ghost use Prim.Native.Nat.{_≤_};
 ghost use lib.ListN.{length};
@@ -77,15 +82,18 @@ fn check_delivery(
 
 // ---- lengths
 
-// The first file of over 16,777,216 bytes, or 0.
-fn too_long(e: usize, b: usize, s: usize, u: usize, p: usize) -> u32
-    ensures { λ r. ⌜ r ≡ longIn e b s u p ⌝ }
+// The first file of over 16,777,216 bytes, by the sizes of the five, or 0.
+fn too_long(eckdaten: usize, bitfeld: usize, bahnhof: usize, umsteigb: usize, fplan: usize) -> u32
+    ensures { λ r. ⌜ r ≡ longIn eckdaten bitfeld bahnhof umsteigb fplan ⌝ }
 {
     earlier(
-        long_at(1, e),
+        long_at(1, eckdaten),
         earlier(
-            long_at(2, b),
-            earlier(long_at(3, s), earlier(long_at(4, u), long_at(5, p))),
+            long_at(2, bitfeld),
+            earlier(
+                long_at(3, bahnhof),
+                earlier(long_at(4, umsteigb), long_at(5, fplan)),
+            ),
         ),
     )
 }
@@ -93,9 +101,10 @@ fn too_long(e: usize, b: usize, s: usize, u: usize, p: usize) -> u32
 fn long_at(file: u32, size: usize) -> u32
     ensures { λ r. ⌜ r ≡ longAt file size ⌝ }
 {
-    if 16777216 < size { file } else { 0 }
+    if MOST_FILE_BYTES < size { file } else { 0 }
 }
 
+// The first of two files that is not 0.
 fn earlier(a: u32, b: u32) -> u32
     ensures { λ r. ⌜ r ≡ orNumber a b ⌝ }
 {
@@ -185,7 +194,7 @@ fn from_stops(
             file: 3,
             line,
         },
-        Scan::Records { count, next } => from_records(
+        Scan::Records { count, next } => from_interchanges(
             start,
             days,
             fields,
@@ -199,7 +208,7 @@ fn from_stops(
 }
 
 // Files 4 and 5.
-fn from_records(
+fn from_interchanges(
     start: u32,
     days: u32,
     fields: u32,
@@ -267,6 +276,7 @@ fn from_plan(
     }
 }
 
+// The table's header, from what was counted.
 fn header_of(
     start: u32,
     days: u32,
@@ -279,7 +289,10 @@ fn header_of(
     requires { ⌜ (fields ≤ 16777216) × (stops ≤ 16777216) × (interchanges ≤ 16777216) × (words ≤ 251658240) ⌝ }
     ensures { λ r. ⌜ r ≡ headerBy start days fields stops interchanges services words ⌝ }
 {
-    let first = 8 + 13 * fields + 3 * stops + 3 * interchanges;
+    let first = HEADER_WORDS as u32
+        + BIT_FIELD_WORDS as u32 * fields
+        + STOP_WORDS as u32 * stops
+        + INTERCHANGE_WORDS as u32 * interchanges;
     Header {
         words: first + words,
         start,

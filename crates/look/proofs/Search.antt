@@ -14,7 +14,7 @@ use borrow.Author.Tests.{eq-eqb, ne-eqb}
 use Rattle.base.specs.Lists.{find, some-of}
 use Rattle.base.proofs.Laws.{tests}
 use Rattle.timetable.specs.Table.{rowsIn}
-use Rattle.table.proofs.Rows.{stride-turn}
+use Rattle.timetable.proofs.Rows.{stride-turn}
 use Rattle.table.proofs.Records.{first-word}
 use Rattle.look.specs.Look.{placeOf}
 use Rattle.look.specs.declared.Found.{Found}

@@ -5,21 +5,21 @@ use mathlib.Core.Bool.{true, false}
 use mathlib.Core.Option.{Option, none}
 use Prim.Native.Nat.{ℕ, _+_, _*_, _^_, _≤_, _<_}
 use native.Mathlib.Omega.{arith}
-use lib.ListN.{length, getD, take, drop, set, length-drop}
-use lib.Seq.{drop-drop, getD-drop, getD-take, ext-getD, length-take-le}
+use lib.ListN.{length, getD, take, drop}
+use lib.Seq.{drop-drop, getD-drop}
 use lib.Dec.{eqb}
 use borrow.Author.Tests.{eq-eqb, ne-eqb}
 use Rattle.base.specs.Lists.{find}
 use Rattle.base.proofs.Laws.{tests}
 use Rattle.bitfield.specs.BitField.{bit, runsOn}
-use Rattle.bitfield.proofs.Fill.{Filled, filled-none, filled-next}
+use Rattle.bitfield.proofs.Fill.{filled-none, twelve-next, twelve-done}
 use Rattle.timetable.specs.Delivery.{BitField, StopRecord, Interchange}
 use Rattle.timetable.specs.Files.{hasStop}
 use Rattle.timetable.specs.Checks.{fieldKnown, runsBy, fieldRuns}
 use Rattle.timetable.specs.Table.{rowsIn, bitFieldAt, stopAt, interchangeAt, tableOf}
 use Rattle.timetable.specs.Questions.{interchangeBy, interchangeAtStop}
+use Rattle.timetable.proofs.Rows.{one-row}
 use Rattle.table.specs.Whole.{Whole}
-use Rattle.table.proofs.Rows.{one-row}
 use Rattle.table.proofs.Whole.{whole-says, sections-fit, fields-are, stops-are, interchanges-are}
 use Rattle.look.specs.Look.{placeOf, timesOf}
 use Rattle.look.specs.declared.Found.{Found}
@@ -29,20 +29,7 @@ use Rattle.look.proofs.Search.{readAt, isAt, find-there, some-there, pl
 
 -- ---- twelve words from a place on, for `search words`
 
--- the word k places on
-abbrev pub wordFrom : List ℕ → ℕ → ℕ → ℕ
-wordFrom w p k = getD w (p + k) 0
-
-pub words-next : (w r : List ℕ) (p i : ℕ) → i < 12 → Filled (wordFrom w p) r i → Filled (wordFrom w p) (set r i (getD w (p + i) 0)) (i + 1)
-words-next w r p i h v = filled-next (wordFrom w p) r i (getD w (p + i) 0) h refl v
-
-pub words-done : (w r : List ℕ) (p i : ℕ) → p + 12 ≤ length w → 12 ≤ i → Filled (wordFrom w p) r i → r ≡ take 12 (drop p w)
-words-done w r p i l h v =
-    ext-getD 0 r (take 12 (drop p w)) (v .twelve ∙ sym (length-take-le 12 (drop p w) (rw length-drop (omega arith)))) (λ k lt.
-    let b : k < 12 = omega (arith, v .twelve) in
-    v .each k (omega arith) ∙ sym (getD-take 12 (drop p w) k 0 b ∙ getD-drop p w k 0))
-
-pub ruleset words = (tests, filled-none, words-next, words-done)
+pub ruleset words = (tests, filled-none, twelve-next, twelve-done)
 
 -- ---- the header of a whole table, and where its sections begin
 

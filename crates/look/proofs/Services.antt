@@ -6,14 +6,14 @@ use mathlib.Core.Bool.{true}
 use mathlib.Core.Option.{none, some}
 use Prim.Native.Nat.{ℕ, zero, suc, _+_, _-_, _*_, _^_, _≤_, _<_}
 use native.Mathlib.Omega.{arith}
-use lib.ListN.{length, getD, take, drop, length-drop, getElem?}
+use lib.ListN.{length, getD, drop, length-drop, getElem?}
 use lib.Seq.{drop-drop}
 use Rattle.base.proofs.Laws.{tests}
 use Rattle.base.proofs.Loops.{and-true}
 use Rattle.timetable.specs.Table.{word, serviceAt, servicesIn, tableOf, recordSound, recordsSound}
 use Rattle.table.specs.Whole.{Whole}
 use Rattle.table.proofs.Says.{Sizes, record-says}
-use Rattle.table.proofs.Records.{first-word, one-record, rest-is}
+use Rattle.table.proofs.Records.{first-word, one-record, rest-from}
 use Rattle.table.proofs.Whole.{whole-says, services-are, services-sound}
 use Rattle.look.specs.Look.{recordPlace, servicePlace}
 
@@ -123,7 +123,4 @@ module _ (w : List ℕ) (i p : ℕ) (q : p ≡ servicePlace w i) where
   pub front-scaled : Whole w → i < getD w 6 0 → length w * 4 < 2 ^ 63 → p * 4 < 2 ^ 64
   front-scaled h b l = omega (arith, front-within h b)
 
-  pub front-is : take (length w - p) (drop p w) ≡ drop (servicePlace w i) w
-  front-is = rw q (rest-is w (servicePlace w i))
-
-pub ruleset front = (tests, front-within, front-scaled, front-is)
+pub ruleset front = (tests, front-within, front-scaled, rest-from)

@@ -2,9 +2,16 @@
 // `dated` answers on any words; the others ask for a whole table (`table::used_words`).
 use calendar::Date;
 use timetable::BIT_FIELD_WORDS;
+use timetable::BIT_FIELDS_AT;
+use timetable::BIT_WORDS;
+use timetable::FIRST_DAY_AT;
+use timetable::FIRST_SERVICE_AT;
 use timetable::HEADER_WORDS;
 use timetable::INTERCHANGE_WORDS;
+use timetable::INTERCHANGES_AT;
+use timetable::PERIOD_DAYS_AT;
 use timetable::STOP_WORDS;
+use timetable::STOPS_AT;
 ghost use mathlib.Core.Path.{_≡_};
 ghost use Prim.Native.Nat.{ℕ, _+_, _*_, _≤_, _<_};
 ghost use lib.ListN.{length, drop, take};
@@ -26,7 +33,7 @@ pub enum PeriodDay {
 // A bit field: whether there is one of that number, and its days.
 pub struct Field {
     pub known: bool,
-    pub words: [u32; 12],
+    pub words: [u32; BIT_WORDS],
 }
 
 // The two times of an interchange record.
@@ -50,7 +57,11 @@ pub fn dated(w: &[u32], day: u32, month: u32, year: u32) -> PeriodDay
     if !table::is_table(w) {
         return PeriodDay::Refused(21);
     }
-    in_period(w[1], w[2], calendar::day_of(day, month, year))
+    in_period(
+        w[FIRST_DAY_AT],
+        w[PERIOD_DAYS_AT],
+        calendar::day_of(day, month, year),
+    )
 }
 
 // The day of a period of n days from start on that a date is.
@@ -81,7 +92,7 @@ pub fn field_words(w: &[u32], number: u32) -> Field
         let words = bitfield::all_bits();
         return Field { known: true, words };
     }
-    let found = find(w, HEADER_WORDS, w[3], BIT_FIELD_WORDS, number);
+    let found = find(w, HEADER_WORDS, w[BIT_FIELDS_AT], BIT_FIELD_WORDS, number);
     let Found::At(p) = found else {
         let words = bitfield::no_bits();
         return Field {
@@ -103,13 +114,13 @@ pub fn field_runs(field: Field, d: u32) -> bool
 }
 
 // The twelve words from a place on.
-fn words_at(w: &[u32], p: usize) -> [u32; 12]
+fn words_at(w: &[u32], p: usize) -> [u32; BIT_WORDS]
     requires { ⌜ p + 12 ≤ length (now w) ⌝ }
     ensures { λ r. ⌜ r ≡ take 12 (drop p (now (w .entry))) ⌝ }
 {
-    let mut r = [0u32; 12];
+    let mut r = [0u32; BIT_WORDS];
     let mut i: usize = 0;
-    while i < 12 {
+    while i < BIT_WORDS {
         r[i] = w[p + i];
         i += 1;
     }
@@ -122,7 +133,7 @@ pub fn stop_known(w: &[u32], stop: u32) -> bool
     requires { ⌜ Whole (now w) ⌝ }
     ensures { λ r. ⌜ r ≡ hasStop stop (tableOf (now (w .entry)) .stops) ⌝ }
 {
-    let found = find(w, stops_place(w), w[4], STOP_WORDS, stop);
+    let found = find(w, stops_place(w), w[STOPS_AT], STOP_WORDS, stop);
     match found {
         Found::At(p) => true,
         Found::Nothing => false,
@@ -135,7 +146,7 @@ pub fn interchange_at(w: &[u32], stop: u32) -> Times
     ensures { λ r. ⌜ r ≡ timesOf (interchangeAtStop (tableOf (now (w .entry))) stop) ⌝ }
 {
     let first = interchanges_place(w);
-    let found = find(w, first, w[5], INTERCHANGE_WORDS, stop);
+    let found = find(w, first, w[INTERCHANGES_AT], INTERCHANGE_WORDS, stop);
     match found {
         Found::At(p) => times_at(w, p),
         Found::Nothing => times_at(w, first),
@@ -158,7 +169,7 @@ fn stops_place(w: &[u32]) -> usize
     requires { ⌜ Whole (now w) ⌝ }
     ensures { λ r. ⌜ r ≡ headerSize + bitFieldSize * word (now (w .entry)) 3 ⌝ }
 {
-    HEADER_WORDS + BIT_FIELD_WORDS * table::size(w[3])
+    HEADER_WORDS + BIT_FIELD_WORDS * table::size(w[BIT_FIELDS_AT])
 }
 
 // Where the interchange records begin.
@@ -166,7 +177,7 @@ fn interchanges_place(w: &[u32]) -> usize
     requires { ⌜ Whole (now w) ⌝ }
     ensures { λ r. ⌜ r ≡ headerSize + bitFieldSize * word (now (w .entry)) 3 + stopSize * word (now (w .entry)) 4 ⌝ }
 {
-    stops_place(w) + STOP_WORDS * table::size(w[4])
+    stops_place(w) + STOP_WORDS * table::size(w[STOPS_AT])
 }
 
 // ---- services
@@ -176,7 +187,7 @@ pub fn service_place(w: &[u32], i: u32) -> usize
     requires { ⌜ Whole (now w) × (i < word (now w) 6) ⌝ }
     ensures { λ r. ⌜ r ≡ servicePlace (now (w .entry)) i ⌝ }
 {
-    let mut p = table::size(w[7]);
+    let mut p = table::size(w[FIRST_SERVICE_AT]);
     let mut k = i;
     while 0 < k {
         p += table::size(w[p]);

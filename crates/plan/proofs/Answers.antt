@@ -2,7 +2,7 @@
 use mathlib.Core.Path.{_≡_, refl, sym, _∙_}
 use mathlib.Core.Option.{Option, none, some}
 use Prim.Native.Nat.{ℕ}
-use native.Mathlib.Omega.{arith}
+use Rattle.base.proofs.Laws.{apart}
 use Rattle.timetable.specs.Offences.{Offence}
 use Rattle.service.specs.Answers.{checkedBy}
 use Rattle.service.specs.declared.Checked.{Checked}
@@ -17,14 +17,14 @@ module _ (o : Option Offence) (n : ℕ) (c : Checked) (e : c ≡ checkedBy o n) 
     where
       go : (o : Option Offence) → checkedBy o n ≡ Offends a b → o ≡ some (a, b)
       go (some x) v = let f : x .0 ≡ a = cc in let g : x .1 ≡ b = cc in rw (← f, ← g) refl
-      go none v = let z : _≡_ {A = ℕ} 0 1 = cc in absurd (omega arith)
+      go none v = apart (cc)
 
   pub takes-all : (m : ℕ) → c ≡ Takes m → (o ≡ none) × (m ≡ n)
   takes-all m y = go o (sym e ∙ y)
     where
       go : (o : Option Offence) → checkedBy o n ≡ Takes m → (o ≡ none) × (m ≡ n)
       go none v = (refl, cc)
-      go (some x) v = let z : _≡_ {A = ℕ} 0 1 = cc in absurd (omega arith)
+      go (some x) v = apart (cc)
 
 -- for callers
 module _ (o : Option Offence) (n w : ℕ) (r : Planned) (e : r ≡ plannedBy o n w) where
@@ -33,11 +33,11 @@ module _ (o : Option Offence) (n w : ℕ) (r : Planned) (e : r ≡ plannedBy o n
     where
       go : (o : Option Offence) → plannedBy o n w ≡ Wrong a b → o ≡ some (a, b)
       go (some x) v = let f : x .0 ≡ a = cc in let g : x .1 ≡ b = cc in rw (← f, ← g) refl
-      go none v = let z : _≡_ {A = ℕ} 0 1 = cc in absurd (omega arith)
+      go none v = apart (cc)
 
   pub services-are : (a b : ℕ) → r ≡ Services a b → (o ≡ none) × (n ≡ a) × (w ≡ b)
   services-are a b y = go o (sym e ∙ y)
     where
       go : (o : Option Offence) → plannedBy o n w ≡ Services a b → (o ≡ none) × (n ≡ a) × (w ≡ b)
       go none v = (refl, cc, cc)
-      go (some x) v = let z : _≡_ {A = ℕ} 0 1 = cc in absurd (omega arith)
+      go (some x) v = apart (cc)

@@ -12,7 +12,7 @@ use Rattle.base.specs.Lists.{every, gathered}
 use Rattle.base.proofs.Laws.{by-ltb}
 use Rattle.lines.specs.Lines.{Line}
 use Rattle.timetable.specs.Delivery.{BitField, StopRecord}
-use Rattle.timetable.specs.Offences.{Offence, orElse, _<|>_, first}
+use Rattle.timetable.specs.Offences.{orElse, _<|>_, first}
 use Rattle.timetable.specs.Plan.{toldIn, tolds, asCall, callsOf}
 use Rattle.timetable.specs.Service.{blocks}
 use Rattle.timetable.specs.Checks.{toldOffence, ownOffence, serviceFirst, servicesFirst, planFirst}

@@ -1,28 +1,29 @@
 -- A file gives no more than fifteen words for each of its bytes, so that every count fits. Assumes nothing.
-use mathlib.Core.Path.{_≡_, refl, sym, ap, _∙_}
+use mathlib.Core.Path.{ap}
 use mathlib.Core.List.{List, [], _∷_, _++_, map}
 use mathlib.Core.Bool.{Bool, true, false, cond}
 use mathlib.Core.Option.{Option, none, some}
-use Prim.Native.Nat.{ℕ, suc, _+_, _-_, _*_, _≤_, _<_}
+use Prim.Native.Nat.{ℕ, suc, _+_, _-_, _*_, _≤_}
 use native.Mathlib.Omega.{arith}
-use lib.ListN.{length, take, drop, length-append, length-drop}
+use lib.ListN.{length, drop, length-append, length-drop}
 use Rattle.base.specs.Lists.{gathered}
-use Rattle.lines.specs.Lines.{Line, linesFrom, linesOf}
+use Rattle.lines.specs.Lines.{Line, linesFrom}
 use Rattle.lines.proofs.Laws.{lines-le}
 use Rattle.timetable.specs.Delivery.{Legs, CategoryRange, DayRange, ExtraRange}
-use Rattle.timetable.specs.Plan.{toldIn, opens, callsOf, categoryLines, daysLines, extraLines}
+use Rattle.timetable.specs.Plan.{toldIn, tolds, asCall, opens, callsOf, categoryLines, daysLines, extraLines}
 use Rattle.timetable.specs.Ranges.{legsOf}
 use Rattle.timetable.specs.Service.{withLegs, categoryRange, dayRange, extraRange, headLines, blocks, serviceOf}
 use Rattle.timetable.specs.Load.{callWords, categoryWords, dayWords, extraWords, serviceWords}
 use Rattle.timetable.specs.declared.Call.{Call}
 use Rattle.timetable.specs.declared.Told.{Told}
-use Rattle.timetable.specs.declared.Told.the-variants.{Skip, Other, Broken, Opens, Category, Days as DaysTold, Extra, Calls as CallsTold}
+use Rattle.timetable.specs.declared.Told.the-variants.{Skip, Other, Broken, Opens, Category, Days, Extra, Calls}
 use Rattle.gather.specs.Parts.{toldWords, partWords, bodyWords}
-use Rattle.gather.specs.declared.Part.the-variants.{Calls, Categories, Days, Extras}
-use Rattle.gather.proofs.Whole.{words-size, calls-part, categories-part, days-part, extras-part}
+use Rattle.gather.specs.declared.Part.the-variants.{Categories, DayRanges, Extras}
+use Rattle.gather.proofs.Calls.{calls-size}
+use Rattle.gather.proofs.Whole.{words-size, categories-part, days-part, extras-part}
 use Rattle.plan_words.specs.Services.{blockWords}
 
--- ---- a line gives at most four words, to all parts together
+-- ---- a line gives at most four words, to the calls and all ranges together
 
 category-le : (mk : Legs → CategoryRange) (o : Option Legs) → length (gathered categoryWords (withLegs mk o ++ [])) ≤ 4
 unfolding gathered
@@ -39,19 +40,19 @@ unfolding gathered
 extra-le mk none = omega arith
 extra-le mk (some g) = omega arith
 
-told-le : (cs : List Call) (t : Told) → length (toldWords Calls cs t) + (length (toldWords Categories cs t) + (length (toldWords Days cs t) + length (toldWords Extras cs t))) ≤ 4
+told-le : (cs : List Call) (t : Told) → 4 * length (asCall t) + (length (toldWords Categories cs t) + (length (toldWords DayRanges cs t) + length (toldWords Extras cs t))) ≤ 4
 unfolding gathered
 told-le cs Skip = omega arith
 told-le cs Other = omega arith
 told-le cs Broken = omega arith
 told-le cs (Opens o) = omega arith
 told-le cs (Category g) = omega (arith, category-le (λ (x : Legs). record { name = g .name; legs = x }) (legsOf false cs (g .ends)))
-told-le cs (DaysTold v) = omega (arith, day-le (λ (x : Legs). record { field = v .field; legs = x }) (legsOf false cs (v .ends)))
+told-le cs (Days v) = omega (arith, day-le (λ (x : Legs). record { field = v .field; legs = x }) (legsOf false cs (v .ends)))
 told-le cs (Extra a) = omega (arith, extra-le (λ (x : Legs). record { code = a .code; field = a .field; legs = x }) (legsOf true cs (a .ends)))
-told-le cs (CallsTold c) = omega arith
+told-le cs (Calls c) = omega arith
 
-parts-le : (cs : List Call) (ls : List Line) → length (partWords Calls cs ls) + (length (partWords Categories cs ls) + (length (partWords Days cs ls) + length (partWords Extras cs ls))) ≤ 4 * length ls
-unfolding partWords
+parts-le : (cs : List Call) (ls : List Line) → 4 * length (callsOf ls) + (length (partWords Categories cs ls) + (length (partWords DayRanges cs ls) + length (partWords Extras cs ls))) ≤ 4 * length ls
+unfolding partWords tolds gathered
 parts-le cs [] = omega arith
 parts-le cs (l ∷ ls) =
     let t = toldIn (l .text) in
@@ -59,9 +60,9 @@ parts-le cs (l ∷ ls) =
       arith,
       told-le cs t,
       parts-le cs ls,
-      length-append (toldWords Calls cs t) (partWords Calls cs ls),
+      length-append (asCall t) (callsOf ls),
       length-append (toldWords Categories cs t) (partWords Categories cs ls),
-      length-append (toldWords Days cs t) (partWords Days cs ls),
+      length-append (toldWords DayRanges cs t) (partWords DayRanges cs ls),
       length-append (toldWords Extras cs t) (partWords Extras cs ls),
     )
 
@@ -77,7 +78,7 @@ body-le ls =
     omega (
       arith,
       parts-le cs ls,
-      ap length (calls-part cs ls),
+      calls-size cs,
       ap length (categories-part cs ls),
       ap length (days-part cs ls),
       ap length (extras-part cs ls),

@@ -1,15 +1,17 @@
 -- Places of calls on a route: what a turn of each search does, and what a range's end comes to. Assumes nothing.
 use mathlib.Core.Path.{_≡_, refl, sym, ap, _∙_}
 use mathlib.Core.List.{List, [], _∷_, _++_, append-nil}
-use mathlib.Core.Bool.{Bool, true, false, cond}
+use mathlib.Core.Bool.{Bool, true, false, cond, _&&_}
 use mathlib.Core.Option.{Option, some}
-use Prim.Native.Nat.{ℕ, zero, suc, _+_, _-_, _*_, _<_, _≤_}
+use Prim.Native.Nat.{ℕ, zero, suc, _+_, _-_, _*_, _%_, _<_, _≤_}
 use native.Mathlib.Nat.{add-zero, sub-zero, zero-add}
 use native.Mathlib.Omega.{arith}
 use lib.ListN.{length, getD, getElem?, drop}
 use lib.Seq.{getD-drop}
 use lib.Dec.{eqb}
+use borrow.Author.Tests.{eq-eqb, ne-eqb}
 use Rattle.base.proofs.Laws.{tests}
+use Rattle.fields.specs.declared.RouteIndex.{RouteIndex}
 use Rattle.fields.specs.declared.StopNumber.{StopNumber}
 use Rattle.timetable.specs.Ranges.{places, firstPlace, lastPlace, callsAt}
 use Rattle.timetable.specs.Table.{rowsIn, callAt}
@@ -61,6 +63,27 @@ module _ (b : Bool) (x : ℕ) (xs : List ℕ) (here : ℕ) (e : here ≡ cond b 
           let d : k - here ≡ k = omega (arith, e) in
           rw d refl
 
+-- ---- a call at stop x against stop n, for `search stops`: b says whether they are the same
+
+module _ (x n : ℕ) (b : Bool) (e : b ≡ eqb x n) where
+  pub one-appearance : b ≡ true → _≡_ {A = ℕ} 1 (cond (eqb x n) 1 0)
+  one-appearance h = rw (← e, h) refl
+
+  pub no-appearance : b ≡ false → _≡_ {A = ℕ} 0 (cond (eqb x n) 1 0)
+  no-appearance h = rw (← e, h) refl
+
+  module _ (stated time m : ℕ) where
+    pub timed-stated : b ≡ true → stated % 2 ≡ 1 → eqb time m ≡ (eqb x n && (eqb (stated % 2) 1 && eqb time m))
+    timed-stated h k = rw (← e, h, eq-eqb (stated % 2) 1 k) refl
+
+    pub timed-not : b ≡ true → (stated % 2 ≡ 1 → ⊥) → false ≡ (eqb x n && (eqb (stated % 2) 1 && eqb time m))
+    timed-not h k = rw (← e, h, ne-eqb (stated % 2) 1 k) refl
+
+    pub timed-elsewhere : b ≡ false → false ≡ (eqb x n && (eqb (stated % 2) 1 && eqb time m))
+    timed-elsewhere h = rw (← e, h) refl
+
+pub ruleset stops = (tests, one-appearance, no-appearance, timed-stated, timed-not, timed-elsewhere)
+
 -- ---- the call whose words start at a place
 
 pub call-at : (w : List ℕ) (at : ℕ) → callAt (drop at w) ≡ record { stop = getD w at 0; arrival = getD w (at + 1) 0; departure = getD w (at + 2) 0; flags = getD w (at + 3) 0 }
@@ -103,15 +126,15 @@ places-last t w n at b p e =
 -- ---- the needs of the searches; b says whether the call at hand is sought
 
 -- no call passed is sought: the places from the call at hand on are all places, ks
-module _ (t : Call → Bool) (w : List ℕ) (c i at : ℕ) (ks : List ℕ) (v : placesFrom t w c i at ≡ ks) where
-  pub first-again : (b : Bool) → i < c → b ≡ t (callAt (drop at w)) → b ≡ false → placesFrom t w c (i + 1) (at + 4) ≡ ks
-  first-again b h e f = sym (places-turn t w c i at false h (sym f ∙ e)) ∙ v
+module _ (t : Call → Bool) (w : List ℕ) (c at : ℕ) (i : RouteIndex) (ks : List ℕ) (v : placesFrom t w c (i .0) at ≡ ks) where
+  pub first-again : (b : Bool) → i .0 < c → b ≡ t (callAt (drop at w)) → b ≡ false → placesFrom t w c (i .0 + 1) (at + 4) ≡ ks
+  first-again b h e f = sym (places-turn t w c (i .0) at false h (sym f ∙ e)) ∙ v
 
-  pub first-out : (b : Bool) → i < c → b ≡ t (callAt (drop at w)) → b ≡ true → At (record { 0 = i }) ≡ placeOf (firstPlace ks)
-  first-out b h e f = ap (λ (l : List ℕ). placeOf (firstPlace l)) (sym (places-turn t w c i at true h (sym f ∙ e)) ∙ v)
+  pub first-out : (b : Bool) → i .0 < c → b ≡ t (callAt (drop at w)) → b ≡ true → At i ≡ placeOf (firstPlace ks)
+  first-out b h e f = ap (λ (l : List ℕ). placeOf (firstPlace l)) (sym (places-turn t w c (i .0) at true h (sym f ∙ e)) ∙ v)
 
-  pub first-done : c ≤ i → Nowhere ≡ placeOf (firstPlace ks)
-  first-done h = ap (λ (l : List ℕ). placeOf (firstPlace l)) (sym (places-none t w c i at h) ∙ v)
+  pub first-done : c ≤ i .0 → Nowhere ≡ placeOf (firstPlace ks)
+  first-done h = ap (λ (l : List ℕ). placeOf (firstPlace l)) (sym (places-none t w c (i .0) at h) ∙ v)
 
 pub ruleset firsts = (tests, places-all, first-again, first-out, first-done)
 
@@ -138,22 +161,22 @@ module _ (t : Call → Bool) (w : List ℕ) (left at : ℕ) (o : Option ℕ) (v 
 pub ruleset lasts = (tests, last-again, last-out, last-done)
 
 -- of the places from the call at hand on the one behind `before` others is o
-module _ (n : StopNumber) (w : List ℕ) (c i at before : ℕ) (o : Option ℕ) (v : getElem? (placesFrom (callsAt n) w c i at) before ≡ o) where
+module _ (n : StopNumber) (w : List ℕ) (c at before : ℕ) (i : RouteIndex) (o : Option ℕ) (v : getElem? (placesFrom (callsAt n) w c (i .0) at) before ≡ o) where
   abbrev rest : List ℕ
-  rest = placesFrom (callsAt n) w c (i + 1) (at + 4)
+  rest = placesFrom (callsAt n) w c (i .0 + 1) (at + 4)
 
-  turn : i < c → getElem? (cond (eqb (getD w at 0) (n .0)) (i ∷ rest) rest) before ≡ o
+  turn : i .0 < c → getElem? (cond (eqb (getD w at 0) (n .0)) (i .0 ∷ rest) rest) before ≡ o
   turn h =
-      ap (λ (l : List ℕ). getElem? l before) (sym (places-turn (callsAt n) w c i at (eqb (getD w at 0) (n .0)) h (ap (callsAt n) (sym (call-at w at))))) ∙ v
+      ap (λ (l : List ℕ). getElem? l before) (sym (places-turn (callsAt n) w c (i .0) at (eqb (getD w at 0) (n .0)) h (ap (callsAt n) (sym (call-at w at))))) ∙ v
 
-  pub nth-again : (here : ℕ) → i < c → here ≡ cond (eqb (getD w at 0) (n .0)) 1 0 → here ≤ before → getElem? (placesFrom (callsAt n) w c (i + 1) (at + 4)) (before - here) ≡ o
-  nth-again here h e l = sym (nth-behind (eqb (getD w at 0) (n .0)) i rest here e before l) ∙ turn h
+  pub nth-again : (here : ℕ) → i .0 < c → here ≡ cond (eqb (getD w at 0) (n .0)) 1 0 → here ≤ before → getElem? (placesFrom (callsAt n) w c (i .0 + 1) (at + 4)) (before - here) ≡ o
+  nth-again here h e l = sym (nth-behind (eqb (getD w at 0) (n .0)) (i .0) rest here e before l) ∙ turn h
 
-  pub nth-out : (here : ℕ) → i < c → here ≡ cond (eqb (getD w at 0) (n .0)) 1 0 → before < here → At (record { 0 = i }) ≡ placeOf o
-  nth-out here h e l = ap placeOf (sym (nth-front (eqb (getD w at 0) (n .0)) i rest here e before l) ∙ turn h)
+  pub nth-out : (here : ℕ) → i .0 < c → here ≡ cond (eqb (getD w at 0) (n .0)) 1 0 → before < here → At i ≡ placeOf o
+  nth-out here h e l = ap placeOf (sym (nth-front (eqb (getD w at 0) (n .0)) (i .0) rest here e before l) ∙ turn h)
 
-  pub nth-done : c ≤ i → Nowhere ≡ placeOf o
-  nth-done h = ap placeOf (ap (λ (l : List ℕ). getElem? l before) (sym (places-none (callsAt n) w c i at h)) ∙ v)
+  pub nth-done : c ≤ i .0 → Nowhere ≡ placeOf o
+  nth-done h = ap placeOf (ap (λ (l : List ℕ). getElem? l before) (sym (places-none (callsAt n) w c (i .0) at h)) ∙ v)
 
 pub nth-start : (n : StopNumber) (k : ℕ) (w : List ℕ) (c : ℕ) → getElem? (placesFrom (callsAt n) w c 0 0) k ≡ getElem? (places (callsAt n) 0 (callsIn c w)) k
 nth-start n k w c = ap (λ (l : List ℕ). getElem? l k) (places-all (callsAt n) w c)

@@ -4,6 +4,7 @@ use fields::Detail;
 use fields::RangeEnd;
 use fields::RouteIndex;
 use fields::StopNumber;
+use timetable::CALL_WORDS;
 use timetable::End;
 use timetable::Ends;
 ghost use mathlib.Core.Path.{_≡_};
@@ -17,14 +18,14 @@ ghost use Rattle.timetable.specs.Table.{callAt};
 ghost use Rattle.route.specs.Route.{callsIn, meets, placeOf, foundOf};
 
 // Which calls are sought: those at a stop, those that depart there at a time, or those that arrive there at one.
-pub enum Sought {
+enum Sought {
     Calling(StopNumber),
     Departing(StopNumber, u32),
     Arriving(StopNumber, u32),
 }
 
 // A call of the route, or that there is none.
-pub enum Place {
+enum Place {
     At(RouteIndex),
     Nowhere,
 }
@@ -50,38 +51,38 @@ pub fn legs_of(w: &[u32], c: u32, e: Ends, loose: bool) -> Found
     let Place::At(to) = to_place(w, c, t) else {
         return Found::Missing;
     };
-    if in_order(loose, from.0, to.0) {
+    if in_order(loose, from, to) {
         return Found::Between(from, to);
     }
     Found::Missing
 }
 
-fn in_order(loose: bool, f: u32, t: u32) -> bool
-    ensures { λ r. ⌜ r ≡ inOrder loose f t ⌝ }
+fn in_order(loose: bool, from: RouteIndex, to: RouteIndex) -> bool
+    ensures { λ r. ⌜ r ≡ inOrder loose (from .0) (to .0) ⌝ }
 {
     if loose {
-        return f <= t;
+        return from.0 <= to.0;
     }
-    f < t
+    from.0 < to.0
 }
 
 // ---- its ends
 
-pub fn from_place(w: &[u32], c: u32, e: End) -> Place
+fn from_place(w: &[u32], c: u32, e: End) -> Place
     requires { ⌜ c * 4 ≤ length (now w) ⌝ }
     ensures { λ r. ⌜ r ≡ placeOf (fromPlace (callsIn c (now (w .entry))) e) ⌝ }
 {
     let p = e.place;
     let d = e.detail;
     match p {
-        RangeEnd::Outer => on_route(c, 0),
-        RangeEnd::Index(i) => on_route(c, i.0),
+        RangeEnd::Outer => on_route(c, RouteIndex(0)),
+        RangeEnd::Index(i) => on_route(c, i),
         RangeEnd::Stop(n) => from_stop(w, c, n, d),
         RangeEnd::NoEnd => Place::Nowhere,
     }
 }
 
-pub fn to_place(w: &[u32], c: u32, e: End) -> Place
+fn to_place(w: &[u32], c: u32, e: End) -> Place
     requires { ⌜ c * 4 ≤ length (now w) ⌝ }
     ensures { λ r. ⌜ r ≡ placeOf (toPlace (callsIn c (now (w .entry))) e) ⌝ }
 {
@@ -89,18 +90,18 @@ pub fn to_place(w: &[u32], c: u32, e: End) -> Place
     let d = e.detail;
     match p {
         RangeEnd::Outer => last_call(c),
-        RangeEnd::Index(i) => on_route(c, i.0),
+        RangeEnd::Index(i) => on_route(c, i),
         RangeEnd::Stop(n) => to_stop(w, c, n, d),
         RangeEnd::NoEnd => Place::Nowhere,
     }
 }
 
-// A place that the route has.
-fn on_route(c: u32, k: u32) -> Place
-    ensures { λ r. ⌜ r ≡ placeOf (cond (ltb k c) (some k) none) ⌝ }
+// An index that a route of c calls has.
+fn on_route(c: u32, i: RouteIndex) -> Place
+    ensures { λ r. ⌜ r ≡ placeOf (cond (ltb (i .0) c) (some (i .0)) none) ⌝ }
 {
-    if k < c {
-        return Place::At(RouteIndex(k));
+    if i.0 < c {
+        return Place::At(i);
     }
     Place::Nowhere
 }
@@ -157,14 +158,14 @@ fn first_place(w: &[u32], c: u32, s: Sought) -> Place
     requires { ⌜ c * 4 ≤ length (now w) ⌝ }
     ensures { λ r. ⌜ r ≡ placeOf (firstPlace (places (meets s) 0 (callsIn c (now (w .entry))))) ⌝ }
 {
-    let mut i: u32 = 0;
+    let mut i = RouteIndex(0);
     let mut at: usize = 0;
-    while i < c {
+    while i.0 < c {
         if sought_at(w, at, s) {
-            return Place::At(RouteIndex(i));
+            return Place::At(i);
         }
-        at += 4;
-        i += 1;
+        at += CALL_WORDS;
+        i = RouteIndex(i.0 + 1);
     }
     Place::Nowhere
 }
@@ -174,13 +175,14 @@ fn last_place(w: &[u32], c: u32, s: Sought) -> Place
     requires { ⌜ c * 4 ≤ length (now w) ⌝ }
     ensures { λ r. ⌜ r ≡ placeOf (lastPlace (places (meets s) 0 (callsIn c (now (w .entry))))) ⌝ }
 {
-    let mut left = c;
+    // past the last call
+    let mut i = RouteIndex(c);
     let mut at = calls_end(c);
-    while 0 < left {
-        at -= 4;
-        left -= 1;
+    while 0 < i.0 {
+        at -= CALL_WORDS;
+        i = RouteIndex(i.0 - 1);
         if sought_at(w, at, s) {
-            return Place::At(RouteIndex(left));
+            return Place::At(i);
         }
     }
     Place::Nowhere
@@ -191,35 +193,37 @@ fn nth_place(w: &[u32], c: u32, n: StopNumber, k: Appearance) -> Place
     requires { ⌜ c * 4 ≤ length (now w) ⌝ }
     ensures { λ r. ⌜ r ≡ placeOf (getElem? (places (callsAt n) 0 (callsIn c (now (w .entry)))) (k .0)) ⌝ }
 {
-    let mut before: u32 = k.0;
-    let mut index: u32 = 0;
+    // its appearances from here on that come before the one sought
+    let mut before = k;
+    let mut index = RouteIndex(0);
     let mut at: usize = 0;
-    while index < c {
-        let here = appears(w[at], n);
-        if before < here {
-            return Place::At(RouteIndex(index));
+    while index.0 < c {
+        let here = appearances(StopNumber(w[at]), n);
+        if before.0 < here.0 {
+            return Place::At(index);
         }
-        before -= here;
-        at += 4;
-        index += 1;
+        before = Appearance(before.0 - here.0);
+        at += CALL_WORDS;
+        index = RouteIndex(index.0 + 1);
     }
     Place::Nowhere
 }
 
-// How many appearances of stop n a call is: one, or none.
-fn appears(stop: u32, n: StopNumber) -> u32
-    ensures { λ r. ⌜ r ≡ cond (eqb stop (n .0)) 1 0 ⌝ }
+// How many appearances of stop n a call at `stop` is: one, or none.
+fn appearances(stop: StopNumber, n: StopNumber) -> Appearance
+    ensures { λ r. ⌜ r .0 ≡ cond (eqb (stop .0) (n .0)) 1 0 ⌝ }
 {
-    if stop == n.0 {
-        return 1;
+    if same_stop(stop, n) {
+        return Appearance(1);
     }
-    0
+    Appearance(0)
 }
 
+// Where the words of c calls end.
 fn calls_end(c: u32) -> usize
     ensures { λ r. ⌜ r ≡ c * 4 ⌝ }
 {
-    c as usize * 4
+    c as usize * CALL_WORDS
 }
 
 // Whether the call whose words start at a place is sought.
@@ -227,27 +231,34 @@ fn sought_at(w: &[u32], at: usize, s: Sought) -> bool
     requires { ⌜ at + 4 ≤ length (now w) ⌝ }
     ensures { λ r. ⌜ r ≡ meets s (callAt (drop at (now (w .entry)))) ⌝ }
 {
-    is_sought(s, w[at], w[at + 1], w[at + 2], w[at + 3])
+    is_sought(s, StopNumber(w[at]), w[at + 1], w[at + 2], w[at + 3])
 }
 
-fn is_sought(s: Sought, stop: u32, arrival: u32, departure: u32, flags: u32) -> bool
-    ensures { λ r. ⌜ r ≡ meets s (record { stop = stop; arrival = arrival; departure = departure; flags = flags }) ⌝ }
+fn is_sought(s: Sought, stop: StopNumber, arrival: u32, departure: u32, flags: u32) -> bool
+    ensures { λ r. ⌜ r ≡ meets s (record { stop = stop .0; arrival = arrival; departure = departure; flags = flags }) ⌝ }
 {
     match s {
-        Sought::Calling(n) => stop == n.0,
+        Sought::Calling(n) => same_stop(stop, n),
         Sought::Departing(n, m) => timed(stop, n, flags / 2, departure, m),
         Sought::Arriving(n, m) => timed(stop, n, flags, arrival, m),
     }
 }
 
-// Whether a call is at stop n and its stated time is m; the lowest bit of `stated` says whether it is stated.
-fn timed(stop: u32, n: StopNumber, stated: u32, time: u32, m: u32) -> bool
-    ensures { λ r. ⌜ r ≡ (eqb stop (n .0) && (eqb (stated % 2) 1 && eqb time m)) ⌝ }
+// Whether a call at `stop` is at stop n and its stated time is m; the lowest bit of `stated` says whether it is stated.
+fn timed(stop: StopNumber, n: StopNumber, stated: u32, time: u32, m: u32) -> bool
+    ensures { λ r. ⌜ r ≡ (eqb (stop .0) (n .0) && (eqb (stated % 2) 1 && eqb time m)) ⌝ }
 {
-    if stop == n.0 {
+    if same_stop(stop, n) {
         if stated % 2 == 1 {
             return time == m;
         }
     }
     false
+}
+
+// The one comparison of stop numbers.
+fn same_stop(a: StopNumber, b: StopNumber) -> bool
+    ensures { λ r. ⌜ r ≡ eqb (a .0) (b .0) ⌝ }
+{
+    a.0 == b.0
 }

@@ -2,10 +2,10 @@
 use mathlib.Core.Path.{_≡_, refl, sym, ap, _∙_}
 use mathlib.Core.List.{List}
 use mathlib.Core.Bool.{Bool, true}
-use Prim.Native.Nat.{ℕ, _+_, _*_, _-_, _^_, _≤_, _<_}
+use Prim.Native.Nat.{ℕ, _+_, _*_, _^_, _≤_, _<_}
 use native.Mathlib.Nat.{add-zero}
 use native.Mathlib.Omega.{arith}
-use lib.ListN.{length, getD, take, drop, length-drop}
+use lib.ListN.{length, getD, drop, length-drop}
 use lib.Seq.{getD-drop}
 use lib.Dec.{eqb}
 use Rattle.base.proofs.Laws.{tests}
@@ -15,7 +15,7 @@ use Rattle.timetable.specs.Table.{callAt, categoryAt, categoryPlace, serviceAt,
 use Rattle.timetable.specs.Questions.{nameBy, categoryOn}
 use Rattle.timetable.specs.declared.Call.{Call}
 use Rattle.table.proofs.Says.{record-says, call-inside, call-sound, call-says}
-use Rattle.table.proofs.Records.{rest-is}
+use Rattle.table.proofs.Records.{rest-from}
 use Rattle.cover.specs.Cover.{onceIn, placeFrom}
 use Rattle.cover.specs.declared.FirstRange.{FirstRange}
 use Rattle.cover.specs.declared.FirstRange.the-variants.{At, Nowhere}
@@ -74,9 +74,6 @@ module _ (s : List ℕ) (e : recordSound s ≡ true) where
 pub call-is : (s : List ℕ) (k y : ℕ) (c : Call) → y ≡ k → c ≡ callAt (drop (11 + 4 * y) s) → c ≡ callAt (drop (11 + 4 * k) s)
 call-is s k y c z q = rw z at q
 
-pub categories-are : (s : List ℕ) (p : ℕ) → p ≡ categoryPlace s → take (length s - p) (drop p s) ≡ drop (categoryPlace s) s
-categories-are s p q = rw q (rest-is s (categoryPlace s))
-
 module _ (s g : List ℕ) (leg : ℕ) (q : g ≡ drop (categoryPlace s) s) where
   pub once-is : (x : Bool) → x ≡ onceIn 3 (getD s 7 0) g leg → x ≡ eqb (covering (λ (r : CategoryRange). r .legs) (serviceAt s .categories) leg) 1
   unfolding serviceAt
@@ -95,4 +92,4 @@ module _ (s g : List ℕ) (leg : ℕ) (q : g ≡ drop (categoryPlace s) s) where
         let z : getD (drop p g) 0 0 ≡ getD g p 0 = getD-drop p g 0 0 ∙ ap (λ (i : ℕ). getD g i 0) (add-zero p) in
         sym z ∙ (rw k at named)
 
-pub ruleset held = (tests, record-ends, categories-word, categories-within, categories-scaled, categories-room, category-inside, category-scaled, call-fits, call-arrival, call-departure, call-flags, call-is, categories-are, once-is, category-none, category-there)
+pub ruleset held = (tests, record-ends, categories-word, categories-within, categories-scaled, categories-room, category-inside, category-scaled, call-fits, call-arrival, call-departure, call-flags, call-is, rest-from, once-is, category-none, category-there)

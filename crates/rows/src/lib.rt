@@ -1,7 +1,8 @@
 // The calls of a stretch: what a walk refuses of them (32, 36, 33), and the rows that it lists.
-// `w` is a whole table, `s` its words from the service's record on; the stretch begins at call a and has n legs.
+// `w` is a whole table, `s` its words from the service's record on; the stretch begins at call `start` and has so many `legs`.
 use cover::FirstRange;
 use timetable::CALL_WORDS;
+use timetable::CATEGORIES_AT;
 use timetable::CATEGORY_WORDS;
 use timetable::Call;
 use timetable::ROW_WORDS;
@@ -34,60 +35,60 @@ pub struct Row {
 // ---- 32, 36 and 33
 
 // What the first refused call of the stretch is refused for; 0 for none.
-pub fn calls_refusal(w: &[u32], s: &[u32], a: u32, n: u32) -> u32
+pub fn calls_refusal(w: &[u32], s: &[u32], start: u32, legs: u32) -> u32
     requires { ⌜ Whole (now w) ⌝ }
     requires { ⌜ recordSound (now s) ≡ true ⌝ }
-    requires { ⌜ a + n < word (now s) 6 ⌝ }
-    ensures { λ r. ⌜ noted r ≡ callsRefusal (tableOf (now (w .entry))) (serviceAt (now (s .entry))) a n 0 0 (callsFrom (now (s .entry)) a (n + 1)) ⌝ }
+    requires { ⌜ start + legs < word (now s) 6 ⌝ }
+    ensures { λ r. ⌜ noted r ≡ callsRefusal (tableOf (now (w .entry))) (serviceAt (now (s .entry))) start legs 0 0 (callsFrom (now (s .entry)) start (legs + 1)) ⌝ }
 {
     let mut i: u32 = 0;
     let mut before: u32 = 0;
-    while i <= n {
-        let c = call_of(s, a + i);
-        let number = call_refusal(w, s, a, n, i, before, c);
+    while i <= legs {
+        let call = call_of(s, start + i);
+        let number = call_refusal(w, s, start, legs, i, before, call);
         if number != 0 {
             return number;
         }
-        before = needed_last(n, i, c);
+        before = needed_last(legs, i, call);
         i += 1;
     }
     0
 }
 
 // What a call is refused for: 32 stop unknown, 36 a needed time, 33 its leaving leg without exactly one *G; 0 for nothing.
-fn call_refusal(w: &[u32], s: &[u32], a: u32, n: u32, i: u32, before: u32, c: Call) -> u32
+fn call_refusal(w: &[u32], s: &[u32], start: u32, legs: u32, i: u32, before: u32, call: Call) -> u32
     requires { ⌜ Whole (now w) ⌝ }
     requires { ⌜ recordSound (now s) ≡ true ⌝ }
-    requires { ⌜ (a + n < word (now s) 6) × (i ≤ n) ⌝ }
-    ensures { λ r. ⌜ noted r ≡ callFault (tableOf (now (w .entry))) (serviceAt (now (s .entry))) a n i before c ⌝ }
+    requires { ⌜ (start + legs < word (now s) 6) × (i ≤ legs) ⌝ }
+    ensures { λ r. ⌜ noted r ≡ callFault (tableOf (now (w .entry))) (serviceAt (now (s .entry))) start legs i before call ⌝ }
 {
-    if !look::stop_known(w, c.stop) {
+    if !look::stop_known(w, call.stop) {
         return 32;
     }
-    if !times_needed(n, i, before, c) {
+    if !times_needed(legs, i, before, call) {
         return 36;
     }
-    if n <= i {
+    if legs <= i {
         return 0;
     }
-    if !category_once(s, a + i) {
+    if !category_once(s, start + i) {
         return 33;
     }
     0
 }
 
 // Whether the times that a call needs are stated, and not below the needed one before.
-fn times_needed(n: u32, i: u32, before: u32, c: Call) -> bool
-    ensures { λ r. ⌜ r ≡ timesFine n i before c ⌝ }
+fn times_needed(legs: u32, i: u32, before: u32, call: Call) -> bool
+    ensures { λ r. ⌜ r ≡ timesFine legs i before call ⌝ }
 {
-    if !time_fine(i == 0, c.flags % 2 == 1, before, c.arrival) {
+    if !time_fine(i == 0, call.flags % 2 == 1, before, call.arrival) {
         return false;
     }
     time_fine(
-        i == n,
-        c.flags / 2 % 2 == 1,
-        either(i == 0, before, c.arrival),
-        c.departure,
+        i == legs,
+        call.flags / 2 % 2 == 1,
+        choose(i == 0, before, call.arrival),
+        call.departure,
     )
 }
 
@@ -105,36 +106,37 @@ fn time_fine(free: bool, stated: bool, before: u32, time: u32) -> bool
 }
 
 // The last needed time of a call.
-fn needed_last(n: u32, i: u32, c: Call) -> u32
-    ensures { λ r. ⌜ r ≡ neededLast n i c ⌝ }
+fn needed_last(legs: u32, i: u32, call: Call) -> u32
+    ensures { λ r. ⌜ r ≡ neededLast legs i call ⌝ }
 {
-    either(i == n, c.arrival, c.departure)
+    choose(i == legs, call.arrival, call.departure)
 }
 
-fn either(t: bool, x: u32, y: u32) -> u32
-    ensures { λ r. ⌜ r ≡ cond t x y ⌝ }
+// One of two numbers, by a test.
+fn choose(test: bool, first: u32, second: u32) -> u32
+    ensures { λ r. ⌜ r ≡ cond test first second ⌝ }
 {
-    if t {
-        return x;
+    if test {
+        return first;
     }
-    y
+    second
 }
 
 // ---- the rows
 
 // Writes the rows of the stretch from the front on.
-pub fn rows_into(w: &[u32], s: &[u32], a: u32, n: u32, delay: u32, rows: &mut [u32])
+pub fn rows_into(w: &[u32], s: &[u32], start: u32, legs: u32, delay: u32, rows: &mut [u32])
     requires { ⌜ Whole (now w) ⌝ }
     requires { ⌜ recordSound (now s) ≡ true ⌝ }
-    requires { ⌜ (a + n < word (now s) 6) × (delay ≤ 998001) ⌝ }
-    requires { ⌜ 7 * (n + 1) ≤ length (now rows) ⌝ }
-    ensures { λ _. ⌜ now (rows .exit) ≡ write (now (rows .entry)) 0 (rowsOf (tableOf (now (w .entry))) (serviceAt (now (s .entry))) a n delay 0 (callsFrom (now (s .entry)) a (n + 1))) ⌝ }
+    requires { ⌜ (start + legs < word (now s) 6) × (delay ≤ 998001) ⌝ }
+    requires { ⌜ 7 * (legs + 1) ≤ length (now rows) ⌝ }
+    ensures { λ _. ⌜ now (rows .exit) ≡ write (now (rows .entry)) 0 (rowsOf (tableOf (now (w .entry))) (serviceAt (now (s .entry))) start legs delay 0 (callsFrom (now (s .entry)) start (legs + 1))) ⌝ }
 {
     let mut k: u32 = 0;
     let mut at: usize = 0;
-    while k <= n {
-        let c = call_of(s, a + k);
-        let row = row_of(w, s, a, n, delay, k, c);
+    while k <= legs {
+        let call = call_of(s, start + k);
+        let row = row_of(w, s, start, legs, delay, k, call);
         put_row(rows, at, row);
         at += ROW_WORDS;
         k += 1;
@@ -150,31 +152,32 @@ fn put_row(t: &mut [u32], at: usize, row: Row)
 }
 
 // The row of a call.
-fn row_of(w: &[u32], s: &[u32], a: u32, n: u32, delay: u32, i: u32, c: Call) -> Row
+fn row_of(w: &[u32], s: &[u32], start: u32, legs: u32, delay: u32, i: u32, call: Call) -> Row
     requires { ⌜ Whole (now w) ⌝ }
     requires { ⌜ recordSound (now s) ≡ true ⌝ }
-    requires { ⌜ (a + n < word (now s) 6) × (i ≤ n) × (delay ≤ 998001) ⌝ }
-    requires { ⌜ (c .arrival ≤ 59999) × (c .departure ≤ 59999) × (c .flags ≤ 15) ⌝ }
-    ensures { λ r. ⌜ rowWords r ≡ rowFor (tableOf (now (w .entry))) (serviceAt (now (s .entry))) a n delay i c ⌝ }
+    requires { ⌜ (start + legs < word (now s) 6) × (i ≤ legs) × (delay ≤ 998001) ⌝ }
+    requires { ⌜ (call .arrival ≤ 59999) × (call .departure ≤ 59999) × (call .flags ≤ 15) ⌝ }
+    ensures { λ r. ⌜ rowWords r ≡ rowFor (tableOf (now (w .entry))) (serviceAt (now (s .entry))) start legs delay i call ⌝ }
 {
-    let times = look::interchange_at(w, c.stop);
+    let times = look::interchange_at(w, call.stop);
     Row {
-        stop: c.stop,
-        arrival: either(i == 0, 0, c.arrival + delay),
-        departure: either(i == n, 0, c.departure + delay),
-        flags: row_flags(n, i, c.flags),
-        category: leaving(s, a + i, i == n),
+        stop: call.stop,
+        arrival: choose(i == 0, 0, call.arrival + delay),
+        departure: choose(i == legs, 0, call.departure + delay),
+        flags: row_flags(legs, i, call.flags),
+        category: leaving(s, start + i, i == legs),
         first: times.first,
         second: times.second,
     }
 }
 
 // The flags of a row: of the first call those of its departure only, of the last those of its arrival.
-fn row_flags(n: u32, i: u32, f: u32) -> u32
-    requires { ⌜ f ≤ 15 ⌝ }
-    ensures { λ r. ⌜ r ≡ rowFlags n i f ⌝ }
+fn row_flags(legs: u32, i: u32, flags: u32) -> u32
+    requires { ⌜ flags ≤ 15 ⌝ }
+    ensures { λ r. ⌜ r ≡ rowFlags legs i flags ⌝ }
 {
-    either(i == 0, 0, f % 2 + f / 4 % 2 * 4) + either(i == n, 0, f / 2 % 2 * 2 + f / 8 * 8)
+    choose(i == 0, 0, flags % 2 + flags / 4 % 2 * 4)
+        + choose(i == legs, 0, flags / 2 % 2 * 2 + flags / 8 * 8)
 }
 
 // The category of a leg, 0 after the last call.
@@ -205,7 +208,7 @@ fn category_once(s: &[u32], leg: u32) -> bool
     requires { ⌜ recordSound (now s) ≡ true ⌝ }
     ensures { λ r. ⌜ r ≡ eqb (covering (λ (g : CategoryRange). g .legs) (serviceAt (now (s .entry)) .categories) leg) 1 ⌝ }
 {
-    cover::covered_once(category_words(s), s[7], CATEGORY_WORDS, leg)
+    cover::covered_once(category_words(s), s[CATEGORIES_AT], CATEGORY_WORDS, leg)
 }
 
 // The category of a leg: that of the first *G that covers it, 0 for none.
@@ -214,7 +217,7 @@ fn category_on(s: &[u32], leg: u32) -> u32
     ensures { λ r. ⌜ r ≡ categoryOn (serviceAt (now (s .entry))) leg ⌝ }
 {
     let g = category_words(s);
-    let first = cover::covering_place(g, s[7], CATEGORY_WORDS, leg);
+    let first = cover::covering_place(g, s[CATEGORIES_AT], CATEGORY_WORDS, leg);
     let FirstRange::At(p) = first else {
         return 0;
     };

@@ -6,7 +6,7 @@ use mathlib.Core.Option.{Option}
 use Prim.Native.Nat.{ℕ, _+_, _-_, _*_, _^_, _≤_, _<_}
 use native.Mathlib.Nat.{sub-zero, add-zero}
 use native.Mathlib.Omega.{arith}
-use lib.ListN.{length, getD, take, drop, length-drop}
+use lib.ListN.{length, getD, drop, length-drop}
 use lib.Dec.{eqb}
 use borrow.Author.Tests.{not-true, not-false, ne-eqb}
 use Rattle.base.specs.Lists.{every, some-of, upto, below}
@@ -19,7 +19,7 @@ use Rattle.timetable.specs.Table.{rowsIn, dayAt, dayPlace, serviceAt, recordSou
 use Rattle.timetable.specs.Questions.{legRefusal, firstRefusal}
 use Rattle.table.specs.Whole.{recordEnd}
 use Rattle.table.proofs.Says.{record-says}
-use Rattle.table.proofs.Records.{rest-is}
+use Rattle.table.proofs.Records.{rest-from}
 use Rattle.cover.specs.Cover.{onceIn}
 use Rattle.cover.proofs.Rows.{covering-rows}
 use Rattle.run.specs.Run.{noted, rangeKnown, rangeRuns, gap}
@@ -42,9 +42,6 @@ module _ (s : List ℕ) (e : recordSound s ≡ true) where
 
   pub days-room : (v : List ℕ) → v ≡ drop (dayPlace s) s → getD s 8 0 * 3 ≤ length v
   days-room v q = rw (q, length-drop (dayPlace s) s) (omega (arith, record-ends))
-
-pub days-are : (s : List ℕ) (p : ℕ) → p ≡ dayPlace s → take (length s - p) (drop p s) ≡ drop (dayPlace s) s
-days-are s p q = rw q (rest-is s (dayPlace s))
 
 -- ---- one leg; x says whether it is covered once, y whether its bit field is known
 
@@ -75,7 +72,7 @@ module _ (d : Delivery) (s v : List ℕ) (leg : ℕ) (q : v ≡ drop (dayPlace s
   unfolding rangeRuns serviceAt
   leg-operated k x e = e ∙ rw q
 
-pub ruleset leg = (tests, record-ends, days-word, days-within, days-scaled, days-room, days-are, leg-34, leg-31, leg-fine, leg-operated)
+pub ruleset leg = (tests, record-ends, days-word, days-within, days-scaled, days-room, rest-from, leg-34, leg-31, leg-fine, leg-operated)
 
 -- ---- all legs: the number of the leg at i
 

@@ -2,11 +2,11 @@
 use mathlib.Core.Path.{_≡_, refl, ap, _∙_}
 use mathlib.Core.List.{List}
 use mathlib.Core.Bool.{Bool, true, false, not, _||_}
-use Prim.Native.Nat.{ℕ, zero, suc, _+_, _-_, _*_, _^_, _≤_, _<_}
+use Prim.Native.Nat.{ℕ, zero, suc, _+_, _-_, _≤_, _<_}
 use native.Mathlib.Nat.{add-zero}
 use native.Mathlib.Omega.{arith}
 use lib.ListN.{getD, drop}
-use lib.Seq.{drop-drop, getD-drop}
+use lib.Seq.{getD-drop}
 use borrow.Author.Tests.{lt-leb, le-leb, le-ltb, lt-ltb}
 use Rattle.base.specs.Lists.{every, some-of}
 use Rattle.base.proofs.Laws.{tests}
@@ -14,7 +14,7 @@ use Rattle.bitfield.specs.BitField.{runsOn}
 use Rattle.timetable.specs.Delivery.{BitField, DayRange}
 use Rattle.timetable.specs.Checks.{fieldKnown, fieldRuns}
 use Rattle.timetable.specs.Table.{rowsIn, dayAt}
-use Rattle.table.proofs.Rows.{one-row, rows-again, rows-out, rows-done}
+use Rattle.timetable.proofs.Rows.{room-start, room-now, room-fits, room-next, rows-left, rows-again, rows-out, rows-done}
 use Rattle.run.specs.Run.{rangeKnown, rangeRuns}
 
 -- ---- one range
@@ -66,19 +66,6 @@ pub ruleset ranges = (tests, known-before, known-after, known-on, runs-before, r
 
 -- ---- n ranges: `left` of them stand at p and after it
 
-pub room-start : (n l : ℕ) → n * 3 ≤ l → 0 + n * 3 ≤ l
-room-start n l h = omega arith
-
-module _ (p left l : ℕ) (h : 0 < left) (r : p + left * 3 ≤ l) where
-  pub room-now : p + 3 ≤ l
-  room-now = omega arith
-
-  pub room-fits : l < 2 ^ 64 → p + 3 < 2 ^ 64
-  room-fits k = omega arith
-
-  pub room-next : p + 3 + (left - 1) * 3 ≤ l
-  room-next = omega arith
-
 module _ (fields : List BitField) (leg : ℕ) (v : List ℕ) (p left : ℕ) (x r : Bool) (h : 0 < left) where
   module _ (e : x ≡ rangeKnown fields leg (dayAt (drop p v))) (i : every (rangeKnown fields leg) (rowsIn dayAt 3 left (drop p v)) ≡ r) where
     pub known-again : not x ≡ false → every (rangeKnown fields leg) (rowsIn dayAt 3 (left - 1) (drop (p + 3) v)) ≡ r
@@ -92,7 +79,7 @@ module _ (fields : List BitField) (leg : ℕ) (v : List ℕ) (p left : ℕ) (x r
     unfolding some-of
     runs-here =
         ap (λ (b : Bool). b || some-of (rangeRuns fields k leg) (rowsIn dayAt 3 (left - 1) (drop (p + 3) v))) e
-        ∙ (rw (one-row dayAt 3 left (drop p v) h, drop-drop 3 p v) at i)
+        ∙ (rw (rows-left dayAt 3 left p v h) at i)
 
     pub runs-again : x ≡ false → some-of (rangeRuns fields k leg) (rowsIn dayAt 3 (left - 1) (drop (p + 3) v)) ≡ r
     runs-again n = rw n at runs-here

@@ -1,9 +1,10 @@
 // The legs of a service on a day: what a walk refuses of them (34, 31), and which of them are operated.
 // `w` is a whole table, `s` its words from the service's record on.
+use timetable::DAYS_AT;
 use timetable::DAYS_WORDS;
 ghost use mathlib.Core.Path.{_≡_};
 ghost use mathlib.Core.List.{map};
-ghost use mathlib.Core.Bool.{true, cond, not};
+ghost use mathlib.Core.Bool.{true};
 ghost use Prim.Native.Nat.{_+_, _-_, _*_, _≤_, _<_};
 ghost use lib.ListN.{length, drop};
 ghost use Rattle.base.specs.Lists.{every, some-of, upto, below};
@@ -39,7 +40,7 @@ fn leg_refusal(w: &[u32], s: &[u32], leg: u32) -> u32
     ensures { λ r. ⌜ noted r ≡ legRefusal (tableOf (now (w .entry))) (serviceAt (now (s .entry))) leg ⌝ }
 {
     let v = day_words(s);
-    let n = s[8];
+    let n = s[DAYS_AT];
     if !cover::covered_once(v, n, DAYS_WORDS, leg) {
         return 34;
     }
@@ -101,22 +102,12 @@ pub fn next_leg(w: &[u32], s: &[u32], k: u32, from: u32, legs: u32, on: bool) ->
 {
     let mut leg = from;
     while leg < legs {
-        if like(leg_runs(w, s, leg, k), on) {
+        if leg_runs(w, s, leg, k) == on {
             return leg;
         }
         leg += 1;
     }
     leg
-}
-
-// Whether a test says what is looked for.
-fn like(x: bool, on: bool) -> bool
-    ensures { λ r. ⌜ r ≡ cond on x (not x) ⌝ }
-{
-    if on {
-        return x;
-    }
-    !x
 }
 
 // Whether a leg is operated on day k of the period.
@@ -125,7 +116,7 @@ fn leg_runs(w: &[u32], s: &[u32], leg: u32, k: u32) -> bool
     requires { ⌜ recordSound (now s) ≡ true ⌝ }
     ensures { λ r. ⌜ r ≡ operated (tableOf (now (w .entry)) .fields) (serviceAt (now (s .entry)) .days) k leg ⌝ }
 {
-    ranges_run(w, day_words(s), s[8], leg, k)
+    ranges_run(w, day_words(s), s[DAYS_AT], leg, k)
 }
 
 // Whether one of n ranges covers a leg and runs on day k.

@@ -6,7 +6,7 @@ use native.Mathlib.Nat.{add-zero}
 use native.Mathlib.Omega.{arith}
 use lib.ListN.{length, take, drop, set, length-append, length-set}
 use Rattle.base.specs.Lists.{gathered}
-use Rattle.base.proofs.Laws.{tests}
+use Rattle.base.proofs.Laws.{len-trans, tests}
 use Rattle.columns.specs.Columns.{columns, number}
 use Rattle.lines.specs.Lines.{linesFrom, cutAt}
 use Rattle.lines.specs.declared.Cut.{Cut}
@@ -134,7 +134,4 @@ module _ (f : List ℕ) (at no : ℕ) (h : length f ≤ at) (s : Section) (q : �
   unfolding gathered
   put-done t w v = sym (write-none t q) ∙ (rw (lines-none f at no h) at v)
 
-pub put-kept : (t′ t t₀ : List ℕ) → length t′ ≡ length t → length t ≡ length t₀ → length t′ ≡ length t₀
-put-kept t′ t t₀ a b = a ∙ b
-
-pub ruleset section-puts = (tests, walk, start-small, number-small, put-room, put-count, put-again, put-last, put-done, put-kept)
+pub ruleset section-puts = (tests, walk, start-small, number-small, put-room, put-count, put-again, put-last, put-done, len-trans)

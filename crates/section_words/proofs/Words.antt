@@ -5,6 +5,7 @@ use Prim.Native.Nat.{ℕ, suc, _+_, _*_}
 use native.Mathlib.Nat.{mul-zero, mul-add}
 use lib.ListN.{length, length-append}
 use Rattle.base.specs.Lists.{gathered}
+use Rattle.base.proofs.Lists.{gathered-append}
 use Rattle.columns.specs.Columns.{columns, number}
 use Rattle.lines.specs.Lines.{Line, skipped}
 use Rattle.bitfield.specs.BitField.{hexWords, bitsIn}
@@ -17,7 +18,7 @@ use Rattle.sections.specs.declared.Section.{Section}
 use Rattle.sections.specs.declared.Section.the-variants.{BitFields, Stops, Interchanges}
 use Rattle.sections.specs.declared.Numbered.{Numbered}
 use Rattle.sections.specs.declared.Numbered.the-variants.{Number, Skipped, Broken}
-use Rattle.sections.proofs.Held.{gathered-append, holds, number-is}
+use Rattle.sections.proofs.Held.{holds, number-is}
 use Rattle.sections.proofs.Files.{count-fields, count-stops, count-records}
 use Rattle.section_words.specs.Words.{lineWords, sectionWords}
 

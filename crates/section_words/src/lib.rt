@@ -1,6 +1,10 @@
 // The words that BITFELD, BAHNHOF and UMSTEIGB give to the table.
 use sections::Numbered;
 use sections::Section;
+use timetable::BIT_FIELD_WORDS;
+use timetable::BIT_WORDS;
+use timetable::INTERCHANGE_WORDS;
+use timetable::STOP_WORDS;
 ghost use mathlib.Core.Path.{_≡_};
 ghost use mathlib.Core.List.{[], _∷_};
 ghost use Prim.Native.Nat.{_+_, _≤_};
@@ -49,13 +53,13 @@ fn put_line(section: Section, text: &[u8], start: usize, t: &mut [u32], q: usize
     }
 }
 
-fn put_bit_field(t: &mut [u32], q: usize, number: u32, bits: [u32; 12]) -> usize
+fn put_bit_field(t: &mut [u32], q: usize, number: u32, bits: [u32; BIT_WORDS]) -> usize
     requires { ⌜ q + 13 ≤ length (now t) ⌝ }
     ensures { λ r. ⌜ (r ≡ q + 13) × (now (t .exit) ≡ write (now (t .entry)) q (number ∷ bits)) ⌝ }
 {
     t[q] = number;
     words::put12(t, q + 1, bits);
-    q + 13
+    q + BIT_FIELD_WORDS
 }
 
 fn put_stop(t: &mut [u32], q: usize, number: u32, start: usize, text: &[u8]) -> usize
@@ -64,7 +68,7 @@ fn put_stop(t: &mut [u32], q: usize, number: u32, start: usize, text: &[u8]) -> 
     ensures { λ r. ⌜ (r ≡ q + 3) × (now (t .exit) ≡ write (now (t .entry)) q (number ∷ (start + 12) ∷ nameLength (columns 13 62 (now (text .entry))) ∷ [])) ⌝ }
 {
     words::put3(t, q, number, (start + 12) as u32, name_length(text));
-    q + 3
+    q + STOP_WORDS
 }
 
 fn put_interchange(t: &mut [u32], q: usize, number: u32, text: &[u8]) -> usize
@@ -78,7 +82,7 @@ fn put_interchange(t: &mut [u32], q: usize, number: u32, text: &[u8]) -> usize
         columns::number_in(text, 9, 10),
         columns::number_in(text, 12, 13),
     );
-    q + 3
+    q + INTERCHANGE_WORDS
 }
 
 // The length of the name in columns 13 to 62 without trailing blanks.

@@ -7,7 +7,7 @@ use native.Mathlib.Omega.{arith}
 use lib.ListN.{length, length-map}
 use lib.Dec.{eqb}
 use borrow.Author.Tests.{eq-eqb, ne-eqb}
-use Rattle.base.proofs.Laws.{tests}
+use Rattle.base.proofs.Laws.{apart, tests}
 use Rattle.lines.specs.Lines.{Line}
 use Rattle.timetable.specs.Delivery.{StopRecord}
 use Rattle.timetable.specs.Offences.{Offence, orElse, when, _<|>_, first}
@@ -38,7 +38,7 @@ module _ (o : Option Offence) (k m : ℕ) (r : Scan) (e : r ≡ scanBy o k m) wh
     where
       go : (o : Option Offence) → scanBy o k m ≡ Wrong a b → o ≡ some (a, b)
       go (some x) v = let p : x .0 ≡ a = cc in let q : x .1 ≡ b = cc in rw (← p, ← q) refl
-      go none v = let z : _≡_ {A = ℕ} 0 1 = cc in absurd (omega arith)
+      go none v = apart (cc)
 
   module _ (c n : ℕ) (y : r ≡ Records c n) where
     pub scan-records : (o ≡ none) × (k ≡ c) × (m ≡ n)
@@ -46,7 +46,7 @@ module _ (o : Option Offence) (k m : ℕ) (r : Scan) (e : r ≡ scanBy o k m) wh
       where
         go : (o : Option Offence) → scanBy o k m ≡ Records c n → (o ≡ none) × (k ≡ c) × (m ≡ n)
         go none v = (refl, cc, cc)
-        go (some x) v = let z : _≡_ {A = ℕ} 0 1 = cc in absurd (omega arith)
+        go (some x) v = apart (cc)
 
     -- "2 UMSTEIGB without a record"
     without-record : c < 1 → Wrong 2 n ≡ scanBy (orElse o (when (eqb k 0) 2 m)) k m

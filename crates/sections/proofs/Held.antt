@@ -1,11 +1,12 @@
 -- What lines hold, by what each of them gives: the numbers of a section are those of its records. Assumes nothing.
 use mathlib.Core.Path.{_≡_, refl, ap, sym, _∙_}
-use mathlib.Core.List.{List, [], _∷_, _++_, map, append-assoc}
+use mathlib.Core.List.{List, [], _∷_, _++_, map}
 use mathlib.Core.Bool.{Bool, true, false, cond}
 use Prim.Native.Nat.{ℕ, _+_, _≤_}
 use native.Mathlib.Omega.{arith}
 use lib.ListN.{length, length-append}
 use Rattle.base.specs.Lists.{gathered}
+use Rattle.base.proofs.Laws.{apart}
 use Rattle.columns.specs.Columns.{number}
 use Rattle.lines.specs.Lines.{Line, skipped, noCR, numbered, linesFrom, linesOf, pieces}
 use Rattle.lines.proofs.Laws.{lines-le}
@@ -19,12 +20,7 @@ use Rattle.sections.specs.declared.Section.the-variants.{BitFields, Stop
 use Rattle.sections.specs.declared.Numbered.{Numbered}
 use Rattle.sections.specs.declared.Numbered.the-variants.{Number, Skipped, Broken}
 
--- ---- what elements give, one after the other
-
-pub gathered-append : {X Y : Type 0} (f : X → List Y) (a b : List X) → gathered f (a ++ b) ≡ gathered f a ++ gathered f b
-unfolding gathered
-gathered-append f [] b = refl
-gathered-append f (x ∷ a) b = ap (λ r. f x ++ r) (gathered-append f a b) ∙ sym (append-assoc (f x) (gathered f a) (gathered f b))
+-- ---- what lines give
 
 -- what lines give by their texts does not depend on the number of the first
 pub gathered-any : {Y : Type 0} (f : List ℕ → List Y) (n m at : ℕ) (s : List ℕ) → gathered (λ (l : Line). f (l .text)) (linesFrom n at s) ≡ gathered (λ (l : Line). f (l .text)) (linesFrom m at s)
@@ -107,6 +103,6 @@ module _ {X : Type 0} (x : X) (m : ℕ) where
 
 -- and its number is that in the columns of the number
 pub number-is : (k m : ℕ) (t u : Bool) → cond t Skipped (cond u (Number m) Broken) ≡ Number k → m ≡ k
-number-is k m true u e = let z : _≡_ {A = ℕ} 0 1 = cc in absurd (omega arith)
+number-is k m true u e = apart (cc)
 number-is k m false true e = cc
-number-is k m false false e = let z : _≡_ {A = ℕ} 0 1 = cc in absurd (omega arith)
+number-is k m false false e = apart (cc)

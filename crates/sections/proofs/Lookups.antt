@@ -9,7 +9,7 @@ use lib.ListN.{length, take, drop, replicate}
 use lib.Dec.{eqb}
 use borrow.Author.Tests.{ne-eqb}
 use Rattle.base.specs.Lists.{some-of, find, gathered}
-use Rattle.base.proofs.Laws.{tests}
+use Rattle.base.proofs.Laws.{or-false, tests}
 use Rattle.columns.specs.Columns.{columns, number}
 use Rattle.lines.specs.Lines.{Line, skipped, linesFrom, cutAt}
 use Rattle.lines.specs.declared.Cut.{Cut}
@@ -79,11 +79,7 @@ module _ (n m : Numbered) (e : n ≡ m) (k : ℕ) where
 
   pub is-held : (x : ℕ) → n ≡ Number x → eqb x k ≡ hasNumber k (asNumber m)
   unfolding some-of
-  is-held x y = rw (sym e ∙ y) (go (eqb x k))
-    where
-      go : (t : Bool) → t ≡ (t || false)
-      go true = refl
-      go false = refl
+  is-held x y = rw (sym e ∙ y) (or-false (eqb x k))
 
 -- another number in the columns of the number
 pub is-other : (s : Section) (text : List ℕ) (to x k : ℕ) → to ≡ numberEnd s → x ≡ number (columns 1 to text) → (x ≡ k → ⊥) → false ≡ hasNumber k (asNumber (numberOn s text))

@@ -10,6 +10,7 @@ use lib.ListN.{length, take, drop, length-append, length-take}
 use borrow.Author.Tests.{eq-eqb, ne-eqb}
 use Rattle.base.specs.Lists.{gathered}
 use Rattle.base.proofs.Laws.{tests}
+use Rattle.base.proofs.Lists.{gathered-append}
 use Rattle.lines.specs.Lines.{Line, skipped, linesFrom, linesOf, cutAt}
 use Rattle.lines.specs.declared.Cut.{Cut}
 use Rattle.lines.proofs.Laws.{cutting, lines-none, lines-nil, lines-le, cut-low, cut-high, cut-less}
@@ -25,7 +26,6 @@ use Rattle.sections.specs.declared.Numbered.{Numbered}
 use Rattle.sections.specs.declared.Numbered.the-variants.{Number, Skipped, Broken}
 use Rattle.sections.specs.declared.Scan.{Scan}
 use Rattle.sections.specs.declared.Scan.the-variants.{Records, Wrong}
-use Rattle.sections.proofs.Held.{gathered-append}
 use Rattle.sections.proofs.Walk.{Walked, walked-first, walked-number, walked-before, walked-next}
 
 -- ---- a line's offence, and how many records lines have

@@ -1,5 +1,6 @@
 // BITFELD, BAHNHOF and UMSTEIGB: each line's own checks, and look-ups by number.
 use forms::Form;
+use timetable::BIT_WORDS;
 ghost use mathlib.Core.Path.{_≡_};
 ghost use mathlib.Core.List.{[]};
 ghost use mathlib.Core.Bool.{cond, _||_};
@@ -40,6 +41,7 @@ pub enum Scan {
 
 // ---- the files
 
+// BAHNHOF is not read here: the file itself stands in its place.
 pub fn check_bit_fields(f: &[u8], days: u32) -> Scan
     requires { ⌜ length (now f) ≤ 16777216 ⌝ }
     requires { ⌜ days ≤ 380 ⌝ }
@@ -48,6 +50,7 @@ pub fn check_bit_fields(f: &[u8], days: u32) -> Scan
     scan_section(Section::BitFields, f, days, f)
 }
 
+// Neither the days nor BAHNHOF are read here: 0 and the file itself stand in their places.
 pub fn check_stops(f: &[u8]) -> Scan
     requires { ⌜ length (now f) ≤ 16777216 ⌝ }
     ensures { λ r. ⌜ r ≡ scanBy (stopsFirst (linesOf (now (f .entry)))) (length (stopsIn (now (f .entry)))) (length (linesOf (now (f .entry))) + 1) ⌝ }
@@ -55,7 +58,7 @@ pub fn check_stops(f: &[u8]) -> Scan
     scan_section(Section::Stops, f, 0, f)
 }
 
-// UMSTEIGB has at least one record.
+// UMSTEIGB has at least one record. The days are not read here: 0 stands in their place.
 pub fn check_interchanges(f: &[u8], bahnhof: &[u8]) -> Scan
     requires { ⌜ length (now f) ≤ 16777216 ⌝ }
     ensures { λ r. ⌜ r ≡ scanBy (interchangesFirst (stopsIn (now (bahnhof .entry))) (linesOf (now (f .entry)))) (length (interchangesIn (now (f .entry)))) (length (linesOf (now (f .entry))) + 1) ⌝ }
@@ -73,7 +76,7 @@ pub fn check_interchanges(f: &[u8], bahnhof: &[u8]) -> Scan
     scan
 }
 
-// ---- look-ups, each behind one function; which numbers the lines have does not matter to them
+// ---- look-ups, each behind one function; line numbers do not matter to them, so each line is cut as line 1
 
 // Whether BITFELD, or a part of it, has a bit field of this number.
 pub fn known_field(f: &[u8], number: u32) -> bool
@@ -90,7 +93,7 @@ pub fn known_stop(f: &[u8], number: u32) -> bool
 }
 
 // The twelve words of the first bit field of this number, zeros where there is none.
-pub fn field_bits(f: &[u8], number: u32) -> [u32; 12]
+pub fn field_bits(f: &[u8], number: u32) -> [u32; BIT_WORDS]
     ensures { λ r. ⌜ r ≡ wordsOf number (bitFieldsIn (now (f .entry))) ⌝ }
 {
     let mut at: usize = 0;
@@ -103,7 +106,7 @@ pub fn field_bits(f: &[u8], number: u32) -> [u32; 12]
         }
         at = cut.next;
     }
-    [0u32; 12]
+    [0u32; BIT_WORDS]
 }
 
 // Whether a line of a file, or of a part of it, holds a record of this number.

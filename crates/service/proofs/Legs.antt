@@ -22,7 +22,8 @@ use Rattle.timetable.specs.Load.{callWords, categoryWords, dayWords, extraWords
 use Rattle.timetable.specs.Table.{rowsIn, categoryAt, dayAt}
 use Rattle.gather.specs.Parts.{sizesOf}
 use Rattle.gather.specs.declared.Sizes.{Sizes}
-use Rattle.gather.proofs.Whole.{calls-size, categories-size}
+use Rattle.gather.proofs.Calls.{calls-size}
+use Rattle.gather.proofs.Whole.{categories-size}
 use Rattle.cover.specs.Cover.{onceIn}
 use Rattle.cover.proofs.Rows.{categories-once}
 use Rattle.service.specs.Answers.{checkedBy, legChecks, daysOffence, legsOffence, categoryRows, dayRows}
@@ -56,10 +57,10 @@ module _ (z : Sizes) (w : List ℕ) (fields : List BitField) (days : ℕ) (t : B
       ∙ ap (eachOnce (λ (r : CategoryRange). r .legs) (z .calls - 1)) (part-rows categoryAt category-own w (11 + 4 * z .calls) (z .categories))
 
   pub legs-then : (o : ℕ) → t ≡ true
-      → o ≡ daysOffence fields days (z .calls - 1) (rowsIn dayAt 3 (z .days) (take (11 + 4 * z .calls + 3 * z .categories + 3 * z .days - (11 + 4 * z .calls + 3 * z .categories)) (drop (11 + 4 * z .calls + 3 * z .categories) w)))
+      → o ≡ daysOffence fields days (z .calls - 1) (rowsIn dayAt 3 (z .«day_ranges») (take (11 + 4 * z .calls + 3 * z .categories + 3 * z .«day_ranges» - (11 + 4 * z .calls + 3 * z .categories)) (drop (11 + 4 * z .calls + 3 * z .categories) w)))
       → o ≡ legsOffence fields days (z .calls - 1) (categoryRows z w) (dayRows z w)
   legs-then o y k =
-      k ∙ ap (daysOffence fields days (z .calls - 1)) (part-rows dayAt day-own w (11 + 4 * z .calls + 3 * z .categories) (z .days))
+      k ∙ ap (daysOffence fields days (z .calls - 1)) (part-rows dayAt day-own w (11 + 4 * z .calls + 3 * z .categories) (z .«day_ranges»))
       ∙ ap (λ (s : Bool). cond s (daysOffence fields days (z .calls - 1) (dayRows z w)) 17) (sym y ∙ categories-said)
 
   pub legs-not : t ≡ false → 17 ≡ legsOffence fields days (z .calls - 1) (categoryRows z w) (dayRows z w)

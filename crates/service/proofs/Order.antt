@@ -22,7 +22,7 @@ use Rattle.timetable.specs.Load.{callWords, serviceWords}
 use Rattle.timetable.specs.declared.Call.{Call}
 use Rattle.gather.specs.Parts.{sizesOf}
 use Rattle.gather.specs.declared.Sizes.{Sizes}
-use Rattle.gather.proofs.Whole.{calls-back, calls-held}
+use Rattle.gather.proofs.Calls.{calls-back, calls-held}
 use Rattle.line_checks.specs.Own.{countsOf, Within, ownBy}
 use Rattle.line_checks.specs.declared.Counts.{Counts}
 use Rattle.line_checks.specs.declared.Own.{Own}
@@ -31,9 +31,9 @@ use Rattle.line_checks.proofs.Walk.{fine-none}
 use Rattle.schedule.specs.Schedule.{lineBy}
 use Rattle.schedule.specs.declared.FirstLine.{FirstLine}
 use Rattle.schedule.specs.declared.FirstLine.the-variants.{At, Nowhere}
-use Rattle.service.specs.Answers.{checkedBy, legChecks, daysEnd}
+use Rattle.service.specs.Answers.{checkedBy, legChecks, dayRangesEnd}
 use Rattle.service.specs.declared.Checked.{Checked}
-use Rattle.service.specs.declared.Checked.the-variants.{Takes, Offends}
+use Rattle.service.specs.declared.Checked.the-variants.{Offends}
 use Rattle.service.proofs.Size.{ranges-held, calls-are, words-most}
 use Rattle.service.proofs.Legs.{first-number}
 
@@ -99,13 +99,13 @@ module _ (ls : List Line) (w : Within (countsOf ls)) where
     pub categories-most : z .categories ≤ 50
     categories-most = rw e (omega (arith, ranges-held ls, w .categories))
 
-    pub days-most : z .days ≤ 50
-    days-most = rw e (omega (arith, ranges-held ls, w .days))
+    pub day-ranges-most : z .«day_ranges» ≤ 50
+    day-ranges-most = rw e (omega (arith, ranges-held ls, w .days))
 
-    pub ranges-room : (t t′ : List ℕ) → length t ≡ 1511 → length t′ ≡ length t → daysEnd z ≤ length t′
-    ranges-room t t′ n k = omega (arith, calls-most, categories-most, days-most)
+    pub ranges-room : (t t′ : List ℕ) → length t ≡ 1511 → length t′ ≡ length t → dayRangesEnd z ≤ length t′
+    ranges-room t t′ n k = omega (arith, calls-most, categories-most, day-ranges-most)
 
-pub ruleset room = (tests, calls-few, words-room, words-fit, size-one, calls-most, categories-most, days-most, ranges-room)
+pub ruleset room = (tests, calls-few, words-room, words-fit, size-one, calls-most, categories-most, day-ranges-most, ranges-room)
 
 -- ---- the needs of `route_checks`, for `search routed`
 
@@ -181,9 +181,3 @@ module _ (fields : List BitField) (stops : List StopRecord) (ls : List Line) (ow
   service-within k y = fine-none fields stops ls k (sym e ∙ y) .2
 
 pub ruleset served = (tests, service-wrong, service-then, service-same, service-within)
-
--- ---- for callers: the answer `Takes` says that there is no offence, and how many words there are
-
-pub takes-none : (o : Option Offence) (size k : ℕ) → checkedBy o size ≡ Takes k → (o ≡ none) × (k ≡ size)
-takes-none none size k e = (refl, cc)
-takes-none (some x) size k e = apart (cc)

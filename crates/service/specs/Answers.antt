@@ -45,17 +45,17 @@ legsOffence fields n legs cs rs = cond (eachOnce (λ (r : CategoryRange). r .leg
 abbrev pub categoriesFrom : Sizes → ℕ
 categoriesFrom z = serviceHead + callSize * z .calls
 
-abbrev pub daysFrom : Sizes → ℕ
-daysFrom z = categoriesFrom z + categorySize * z .categories
+abbrev pub dayRangesFrom : Sizes → ℕ
+dayRangesFrom z = categoriesFrom z + categorySize * z .categories
 
-abbrev pub daysEnd : Sizes → ℕ
-daysEnd z = daysFrom z + daySize * z .days
+abbrev pub dayRangesEnd : Sizes → ℕ
+dayRangesEnd z = dayRangesFrom z + daySize * z .«day_ranges»
 
 abbrev pub categoryRows : Sizes → List ℕ → List CategoryRange
 categoryRows z w = rowsIn categoryAt categorySize (z .categories) (drop (categoriesFrom z) w)
 
 abbrev pub dayRows : Sizes → List ℕ → List DayRange
-dayRows z w = rowsIn dayAt daySize (z .days) (drop (daysFrom z) w)
+dayRows z w = rowsIn dayAt daySize (z .«day_ranges») (drop (dayRangesFrom z) w)
 
 -- twelve words for each of v ranges (bit field, from, to): those of its bit field
 unfoldable pub bitsFor : List BitField → ℕ → List ℕ → List ℕ

@@ -14,7 +14,7 @@ use Rattle.base.proofs.Laws.{tests}
 use Rattle.timetable.specs.Ranges.{inOrder}
 use Rattle.timetable.specs.Table.{rowsIn, legsAt, callAt, callSound, legsSound}
 use Rattle.timetable.specs.declared.Call.{Call}
-use Rattle.table.proofs.Rows.{stride-turn, rows-again, rows-out, rows-done}
+use Rattle.timetable.proofs.Rows.{stride-turn, rows-again, rows-out, rows-done}
 
 -- ---- the rows of a record, for `search rows`
 

@@ -88,6 +88,10 @@ pub ruleset one = (tests, record-sizes, record-room, record-parts)
 pub rest-is : (w : List ℕ) (at : ℕ) → take (length w - at) (drop at w) ≡ drop at w
 rest-is w at = take-all (length w - at) (drop at w) (rw length-drop (omega arith))
 
+-- the same as a need: p is a place that was computed
+pub rest-from : (w : List ℕ) (p at : ℕ) → p ≡ at → take (length w - p) (drop p w) ≡ drop at w
+rest-from w p at e = rw e (rest-is w at)
+
 pub part-is : (a b : ℕ) (l : List ℕ) → take (b - a) (drop a l) ≡ drop a (take b l)
 part-is zero b l = rw sub-zero
 part-is (suc a) zero l =

@@ -1,23 +1,23 @@
 -- What the table's tests say, as facts: `table-says` of the header, `record-says` of a record at the front of the words (its counts, where it ends,
--- its sections), `call-sound`, `day-sound` and the like of the i-th of its calls and ranges, `call-says`, `strict-say`, `loose-say` of one. Assumes nothing.
+-- its repeats and offset, its calls), `call-sound` of the i-th of its calls, `call-says` of one. Assumes nothing.
 use mathlib.Core.Path.{_≡_, _∙_, sym}
 use mathlib.Core.List.{List}
-use mathlib.Core.Bool.{Bool, true, false, _&&_}
+use mathlib.Core.Bool.{true, false, _&&_}
 use Prim.Native.Nat.{ℕ, _+_, _*_, _≤_, _<_}
 use native.Mathlib.Omega.{arith}
 use lib.ListN.{length, drop}
 use lib.Seq.{drop-drop}
-use lib.Dec.{leb, ltb, eqb}
-use borrow.Author.Tests.{leb-true, ltb-true, eqb-true}
+use lib.Dec.{leb, eqb}
+use borrow.Author.Tests.{leb-true, eqb-true}
 use Rattle.base.specs.Lists.{every}
 use Rattle.base.proofs.Loops.{and-true}
 use Rattle.calendar.specs.Calendar.{lastDay}
 use Rattle.timetable.specs.Load.{firstService}
-use Rattle.timetable.specs.Delivery.{Legs, CategoryRange, DayRange, ExtraRange}
+use Rattle.timetable.specs.Delivery.{CategoryRange, DayRange, ExtraRange}
 use Rattle.timetable.specs.Table.{word, rowsIn, callAt, legsAt, categoryAt, dayAt, extraAt, calls#, categories#, days#, extras#, categoryPlace, dayPlace, extraPlace, serviceAt, used, callSound, legsSound, serviceSound, countsSound, sizesSound, recordSound, recordsSound, headSound, isTable}
 use Rattle.timetable.specs.declared.Call.{Call}
+use Rattle.timetable.proofs.Rows.{length-rows, rows-as, every-row}
 use Rattle.table.specs.Whole.{recordEnd}
-use Rattle.table.proofs.Rows.{length-rows, rows-as, every-row}
 
 -- ---- a record at the front of the words
 
@@ -25,9 +25,7 @@ pub record Sizes (w : List ℕ) : Type 0 where
   pub head : 11 ≤ length w
   pub calls-low : 2 ≤ calls# w
   pub calls-high : calls# w ≤ 200
-  pub categories-high : categories# w ≤ 50
   pub days-high : days# w ≤ 50
-  pub extras-high : extras# w ≤ 100
   pub said : word w 0 ≡ recordEnd w
   pub inside : recordEnd w ≤ length w
 
@@ -38,15 +36,13 @@ sizes-say w e =
     let (said, room) = and-true (eqb (word w 0) (recordEnd w)) _ e2 in
     let (c2, r1) = and-true (leb 2 (calls# w)) _ counts in
     let (c200, r2) = and-true (leb (calls# w) 200) _ r1 in
-    let (g, r3) = and-true (leb (categories# w) 50) _ r2 in
-    let (v, a) = and-true (leb (days# w) 50) _ r3 in
+    let r3 = and-true (leb (categories# w) 50) _ r2 .1 in
+    let v = and-true (leb (days# w) 50) _ r3 .0 in
     record {
       head = leb-true 11 (length w) h;
       calls-low = leb-true 2 (calls# w) c2;
       calls-high = leb-true (calls# w) 200 c200;
-      categories-high = leb-true (categories# w) 50 g;
       days-high = leb-true (days# w) 50 v;
-      extras-high = leb-true (extras# w) 100 a;
       said = eqb-true (word w 0) (recordEnd w) said;
       inside = omega (arith, eqb-true (word w 0) (recordEnd w) said, leb-true (word w 0) (length w) room);
     }
@@ -62,18 +58,13 @@ pub record Bounds (w : List ℕ) : Type 0 where
   pub repeats : word w 4 ≤ 999
   pub offset : word w 5 ≤ 999
   pub calls : every callSound (rowsIn callAt 4 (calls# w) (drop 11 w)) ≡ true
-  pub categories : every (legsSound false (calls# w)) (rowsIn (legsAt 1) 3 (categories# w) (drop (categoryPlace w) w)) ≡ true
-  pub days : every (legsSound false (calls# w)) (rowsIn (legsAt 1) 3 (days# w) (drop (dayPlace w) w)) ≡ true
-  pub extras : every (legsSound true (calls# w)) (rowsIn (legsAt 2) 4 (extras# w) (drop (extraPlace w) w)) ≡ true
 
 pub service-says : (w : List ℕ) → serviceSound (serviceAt w) ≡ true → Bounds w
 service-says w e =
     let (r, e1) = and-true (leb (word w 4) 999) _ (sym (service-parts w) ∙ e) in
     let (o, e2) = and-true (leb (word w 5) 999) _ e1 in
-    let (cs, e3) = and-true (every callSound (rowsIn callAt 4 (calls# w) (drop 11 w))) _ e2 in
-    let (gs, e4) = and-true (every (legsSound false (calls# w)) (rowsIn (legsAt 1) 3 (categories# w) (drop (categoryPlace w) w))) _ e3 in
-    let (vs, es) = and-true (every (legsSound false (calls# w)) (rowsIn (legsAt 1) 3 (days# w) (drop (dayPlace w) w))) _ e4 in
-    record { repeats = leb-true (word w 4) 999 r; offset = leb-true (word w 5) 999 o; calls = cs; categories = gs; days = vs; extras = es }
+    let cs = and-true (every callSound (rowsIn callAt 4 (calls# w) (drop 11 w))) _ e2 .0 in
+    record { repeats = leb-true (word w 4) 999 r; offset = leb-true (word w 5) 999 o; calls = cs }
 
 pub record-says : (w : List ℕ) → recordSound w ≡ true → Sizes w × Bounds w
 unfolding recordSound
@@ -81,51 +72,20 @@ record-says w e =
     let (s, b) = and-true (sizesSound w) _ e in
     (sizes-say w s, service-says w b)
 
--- the i-th of its calls and ranges: it is within the words, and sound
-row-sound : {X : Type 0} (t : X → Bool) (f : List ℕ → X) (s n i at : ℕ) (w : List ℕ) → every t (rowsIn f s n (drop at w)) ≡ true → i < n → t (f (drop (at + s * i) w)) ≡ true
-row-sound t f s n i at w e h = rw (drop-drop (s * i) at w) at (every-row t f s n i (drop at w) e h)
-
+-- the i-th of its calls: it is within the words, and sound
 module _ (w : List ℕ) (e : recordSound w ≡ true) (i : ℕ) where
   pub call-inside : i < calls# w → 11 + 4 * i + 4 ≤ length w
   call-inside h = omega (arith, record-says w e .0 .inside)
 
   pub call-sound : i < calls# w → callSound (callAt (drop (11 + 4 * i) w)) ≡ true
-  call-sound h = row-sound callSound callAt 4 (calls# w) i 11 w (record-says w e .1 .calls) h
+  call-sound h = rw (drop-drop (4 * i) 11 w) at (every-row callSound callAt 4 (calls# w) i (drop 11 w) (record-says w e .1 .calls) h)
 
-  pub category-inside : i < categories# w → categoryPlace w + 3 * i + 3 ≤ length w
-  category-inside h = omega (arith, record-says w e .0 .inside)
-
-  pub category-sound : i < categories# w → legsSound false (calls# w) (legsAt 1 (drop (categoryPlace w + 3 * i) w)) ≡ true
-  category-sound h = row-sound (legsSound false (calls# w)) (legsAt 1) 3 (categories# w) i (categoryPlace w) w (record-says w e .1 .categories) h
-
-  pub day-inside : i < days# w → dayPlace w + 3 * i + 3 ≤ length w
-  day-inside h = omega (arith, record-says w e .0 .inside)
-
-  pub day-sound : i < days# w → legsSound false (calls# w) (legsAt 1 (drop (dayPlace w + 3 * i) w)) ≡ true
-  day-sound h = row-sound (legsSound false (calls# w)) (legsAt 1) 3 (days# w) i (dayPlace w) w (record-says w e .1 .days) h
-
-  pub extra-inside : i < extras# w → extraPlace w + 4 * i + 4 ≤ length w
-  extra-inside h = omega (arith, record-says w e .0 .inside)
-
-  pub extra-sound : i < extras# w → legsSound true (calls# w) (legsAt 2 (drop (extraPlace w + 4 * i) w)) ≡ true
-  extra-sound h = row-sound (legsSound true (calls# w)) (legsAt 2) 4 (extras# w) i (extraPlace w) w (record-says w e .1 .extras) h
-
--- what a sound call and sound legs say
+-- what a sound call says
 pub call-says : (c : Call) → callSound c ≡ true → (c .arrival ≤ 59999) × (c .departure ≤ 59999) × (c .flags ≤ 15)
 call-says c e =
     let (a, e1) = and-true (leb (c .arrival) 59999) _ e in
     let (d, f) = and-true (leb (c .departure) 59999) _ e1 in
     (leb-true (c .arrival) 59999 a, leb-true (c .departure) 59999 d, leb-true (c .flags) 15 f)
-
-pub loose-say : (c : ℕ) (g : Legs) → legsSound true c g ≡ true → (g .from ≤ g .to) × (g .to < c)
-loose-say c g e =
-    let (o, b) = and-true (leb (g .from) (g .to)) _ e in
-    (leb-true (g .from) (g .to) o, ltb-true (g .to) c b)
-
-pub strict-say : (c : ℕ) (g : Legs) → legsSound false c g ≡ true → (g .from < g .to) × (g .to < c)
-strict-say c g e =
-    let (o, b) = and-true (ltb (g .from) (g .to)) _ e in
-    (ltb-true (g .from) (g .to) o, ltb-true (g .to) c b)
 
 -- ---- the header
 
@@ -133,9 +93,7 @@ module _ (lent used first n b s u at : ℕ) where
   pub record Head : Type 0 where
     pub used-low : 8 ≤ used
     pub used-high : used ≤ lent
-    pub days-low : 1 ≤ n
     pub days-high : n ≤ 380
-    pub last : first + n ≤ lastDay + 1
     pub interchanges : 1 ≤ u
     pub place : at ≡ firstService b s u
     pub inside : at ≤ used
@@ -145,17 +103,15 @@ module _ (lent used first n b s u at : ℕ) where
   head-says e =
       let (a, e1) = and-true (leb 8 used) _ e in
       let (b', e2) = and-true (leb used lent) _ e1 in
-      let (c, e3) = and-true (leb 1 n) _ e2 in
+      let e3 = and-true (leb 1 n) _ e2 .1 in
       let (d, e4) = and-true (leb n 380) _ e3 in
-      let (f, e5) = and-true (leb (first + n) (lastDay + 1)) _ e4 in
+      let e5 = and-true (leb (first + n) (lastDay + 1)) _ e4 .1 in
       let (g, e6) = and-true (leb 1 u) _ e5 in
       let (h, i) = and-true (eqb at (firstService b s u)) _ e6 in
       record {
         used-low = leb-true 8 used a;
         used-high = leb-true used lent b';
-        days-low = leb-true 1 n c;
         days-high = leb-true n 380 d;
-        last = leb-true (first + n) (lastDay + 1) f;
         interchanges = leb-true 1 u g;
         place = eqb-true at (firstService b s u) h;
         inside = leb-true at used i;

@@ -1,19 +1,35 @@
 // Whether any words are a table (21), the words that a table uses, and the sections of its records.
 // Sums of words are taken in 64 bits, and no word is read before its place is known to be there.
 use timetable::BIT_FIELD_WORDS;
+use timetable::BIT_FIELDS_AT;
 use timetable::CALL_WORDS;
+use timetable::CALLS_AT;
+use timetable::CATEGORIES_AT;
 use timetable::CATEGORY_WORDS;
 use timetable::Call;
+use timetable::DAYS_AT;
 use timetable::DAYS_WORDS;
 use timetable::EXTRA_WORDS;
+use timetable::EXTRAS_AT;
+use timetable::FIRST_DAY_AT;
+use timetable::FIRST_SERVICE_AT;
 use timetable::HEADER_WORDS;
 use timetable::INTERCHANGE_WORDS;
+use timetable::INTERCHANGES_AT;
 use timetable::MOST_CALLS;
 use timetable::MOST_CATEGORIES;
 use timetable::MOST_DAYS;
 use timetable::MOST_EXTRAS;
+use timetable::MOST_PERIOD_DAYS;
+use timetable::OFFSET_AT;
+use timetable::PERIOD_DAYS_AT;
+use timetable::REPEATS_AT;
 use timetable::SERVICE_WORDS;
+use timetable::SERVICES_AT;
+use timetable::SIZE_AT;
 use timetable::STOP_WORDS;
+use timetable::STOPS_AT;
+use timetable::USED_AT;
 ghost use mathlib.Core.Path.{_≡_};
 ghost use mathlib.Core.Bool.{true, _&&_};
 ghost use Prim.Native.Nat.{_+_, _*_, _≤_};
@@ -24,9 +40,6 @@ ghost use Rattle.timetable.specs.Load.{headerSize, serviceHead, callSize, recor
 ghost use Rattle.timetable.specs.Ranges.{inOrder};
 ghost use Rattle.timetable.specs.Table.{word, rowsIn, legsAt, callAt, serviceAt, categoryPlace, dayPlace, extraPlace, used, callSound, legsSound, serviceSound, countsSound, sizesSound, recordSound, recordsSound, headSound, isTable};
 ghost use Rattle.table.specs.Whole.{recordEnd, headerSound};
-
-// The days of a period, at most.
-const MOST_PERIOD_DAYS: u32 = 380;
 
 // The day after 31.12.2199.
 const AFTER_LAST_DAY: u64 = 109573;
@@ -50,7 +63,10 @@ pub fn is_table(w: &[u32]) -> bool
     if !header_sound(w) {
         return false;
     }
-    records_sound(&w[size(w[7])..size(w[0])], w[6])
+    records_sound(
+        &w[size(w[FIRST_SERVICE_AT])..size(w[USED_AT])],
+        w[SERVICES_AT],
+    )
 }
 
 // The words that a table uses, without those after them.
@@ -58,7 +74,7 @@ pub fn used_words(w: &[u32]) -> &[u32]
     requires { ⌜ isTable (now w) ≡ true ⌝ }
     ensures { λ r. ⌜ now r ≡ used (now (w .entry)) ⌝ }
 {
-    &w[0..size(w[0])]
+    &w[0..size(w[USED_AT])]
 }
 
 // A word as a place or a count of words.
@@ -75,12 +91,30 @@ fn header_sound(w: &[u32]) -> bool
     requires { ⌜ headerSize ≤ length (now w) ⌝ }
     ensures { λ r. ⌜ r ≡ headerSound (now (w .entry)) ⌝ }
 {
-    head_sound(w.len(), w[0], w[1], w[2], w[3], w[4], w[5], w[7])
+    header_numbers_sound(
+        w.len(),
+        w[USED_AT],
+        w[FIRST_DAY_AT],
+        w[PERIOD_DAYS_AT],
+        w[BIT_FIELDS_AT],
+        w[STOPS_AT],
+        w[INTERCHANGES_AT],
+        w[FIRST_SERVICE_AT],
+    )
 }
 
 // Whether its numbers go together, for so many words lent.
-fn head_sound(lent: usize, used: u32, first: u32, n: u32, b: u32, s: u32, u: u32, at: u32) -> bool
-    ensures { λ r. ⌜ r ≡ headSound lent used first n b s u at ⌝ }
+fn header_numbers_sound(
+    lent: usize,
+    used: u32,
+    start: u32,
+    days: u32,
+    fields: u32,
+    stops: u32,
+    interchanges: u32,
+    first: u32,
+) -> bool
+    ensures { λ r. ⌜ r ≡ headSound lent used start days fields stops interchanges first ⌝ }
 {
     if (used as usize) < HEADER_WORDS {
         return false;
@@ -88,23 +122,23 @@ fn head_sound(lent: usize, used: u32, first: u32, n: u32, b: u32, s: u32, u: u32
     if lent < used as usize {
         return false;
     }
-    if n < 1 {
+    if days < 1 {
         return false;
     }
-    if MOST_PERIOD_DAYS < n {
+    if MOST_PERIOD_DAYS < days {
         return false;
     }
-    if AFTER_LAST_DAY < sum(first, n) {
+    if AFTER_LAST_DAY < sum(start, days) {
         return false;
     }
-    if u < 1 {
+    if interchanges < 1 {
         return false;
     }
-    let place = first_service(b, s, u);
-    if at as u64 != place {
+    let place = first_service(fields, stops, interchanges);
+    if first as u64 != place {
         return false;
     }
-    at <= used
+    first <= used
 }
 
 fn sum(x: u32, y: u32) -> u64
@@ -114,13 +148,13 @@ fn sum(x: u32, y: u32) -> u64
 }
 
 // The place of the first service.
-fn first_service(b: u32, s: u32, u: u32) -> u64
-    ensures { λ r. ⌜ r ≡ firstService b s u ⌝ }
+fn first_service(fields: u32, stops: u32, interchanges: u32) -> u64
+    ensures { λ r. ⌜ r ≡ firstService fields stops interchanges ⌝ }
 {
     HEADER_WORDS as u64
-        + BIT_FIELD_WORDS as u64 * (b as u64)
-        + STOP_WORDS as u64 * (s as u64)
-        + INTERCHANGE_WORDS as u64 * (u as u64)
+        + BIT_FIELD_WORDS as u64 * (fields as u64)
+        + STOP_WORDS as u64 * (stops as u64)
+        + INTERCHANGE_WORDS as u64 * (interchanges as u64)
 }
 
 // ---- records
@@ -158,7 +192,7 @@ fn sizes_sound(w: &[u32]) -> bool
     if w.len() < SERVICE_WORDS {
         return false;
     }
-    if !counts_sound(w[6], w[7], w[8], w[9]) {
+    if !counts_sound(w[CALLS_AT], w[CATEGORIES_AT], w[DAYS_AT], w[EXTRAS_AT]) {
         return false;
     }
     length_sound(w)
@@ -169,7 +203,7 @@ fn length_sound(w: &[u32]) -> bool
     requires { ⌜ serviceHead ≤ length (now w) ⌝ }
     ensures { λ r. ⌜ r ≡ (eqb (word (now (w .entry)) 0) (recordEnd (now (w .entry))) && leb (word (now (w .entry)) 0) (length (now (w .entry)))) ⌝ }
 {
-    let said = size(w[0]);
+    let said = size(w[SIZE_AT]);
     if said as u64 != record_end(w) {
         return false;
     }
@@ -181,7 +215,7 @@ fn record_end(w: &[u32]) -> u64
     requires { ⌜ serviceHead ≤ length (now w) ⌝ }
     ensures { λ r. ⌜ r ≡ recordEnd (now (w .entry)) ⌝ }
 {
-    record_size(w[6], w[7], w[8], w[9])
+    record_size(w[CALLS_AT], w[CATEGORIES_AT], w[DAYS_AT], w[EXTRAS_AT])
 }
 
 fn counts_sound(c: u32, g: u32, v: u32, a: u32) -> bool
@@ -218,23 +252,23 @@ fn service_sound(w: &[u32]) -> bool
     requires { ⌜ recordEnd (now w) ≤ length (now w) ⌝ }
     ensures { λ r. ⌜ r ≡ serviceSound (serviceAt (now (w .entry))) ⌝ }
 {
-    if MOST_REPEATS < w[4] {
+    if MOST_REPEATS < w[REPEATS_AT] {
         return false;
     }
-    if MOST_REPEATS < w[5] {
+    if MOST_REPEATS < w[OFFSET_AT] {
         return false;
     }
-    let c = w[6];
+    let c = w[CALLS_AT];
     if !calls_sound(w, SERVICE_WORDS, c) {
         return false;
     }
-    if !ranges_sound(w, category_place(w), w[7], 1, false, c) {
+    if !ranges_sound(w, category_place(w), w[CATEGORIES_AT], 1, false, c) {
         return false;
     }
-    if !ranges_sound(w, day_place(w), w[8], 1, false, c) {
+    if !ranges_sound(w, day_place(w), w[DAYS_AT], 1, false, c) {
         return false;
     }
-    ranges_sound(w, extra_place(w), w[9], 2, true, c)
+    ranges_sound(w, extra_place(w), w[EXTRAS_AT], 2, true, c)
 }
 
 // ---- the sections of a record
@@ -244,7 +278,7 @@ pub fn category_place(w: &[u32]) -> usize
     requires { ⌜ recordEnd (now w) ≤ length (now w) ⌝ }
     ensures { λ r. ⌜ r ≡ categoryPlace (now (w .entry)) ⌝ }
 {
-    SERVICE_WORDS + CALL_WORDS * size(w[6])
+    SERVICE_WORDS + CALL_WORDS * size(w[CALLS_AT])
 }
 
 // Where its *A VE begin.
@@ -252,7 +286,7 @@ pub fn day_place(w: &[u32]) -> usize
     requires { ⌜ recordEnd (now w) ≤ length (now w) ⌝ }
     ensures { λ r. ⌜ r ≡ dayPlace (now (w .entry)) ⌝ }
 {
-    category_place(w) + CATEGORY_WORDS * size(w[7])
+    category_place(w) + CATEGORY_WORDS * size(w[CATEGORIES_AT])
 }
 
 // Where its other *A begin.
@@ -260,7 +294,7 @@ pub fn extra_place(w: &[u32]) -> usize
     requires { ⌜ recordEnd (now w) ≤ length (now w) ⌝ }
     ensures { λ r. ⌜ r ≡ extraPlace (now (w .entry)) ⌝ }
 {
-    day_place(w) + DAYS_WORDS * size(w[8])
+    day_place(w) + DAYS_WORDS * size(w[DAYS_AT])
 }
 
 // The call at a place.

@@ -1,5 +1,6 @@
 // The words of a delivery that was checked, written into a table, if it has room for them.
 use sections::Section;
+use timetable::HEADER_WORDS;
 use timetable::Loaded;
 ghost use mathlib.Core.Path.{_≡_};
 ghost use mathlib.Core.List.{_++_};
@@ -69,7 +70,7 @@ fn put_table(
     ensures { λ r. ⌜ now (t .exit) ≡ write (now (t .entry)) 0 (headerWords h ++ fromBitFields (now (bitfeld .entry)) (now (bahnhof .entry)) (now (umsteigb .entry)) (now (fplan .entry))) ⌝ }
 {
     put_header(h, t);
-    put_bit_fields(bitfeld, bahnhof, umsteigb, fplan, t, 8);
+    put_from_bit_fields(bitfeld, bahnhof, umsteigb, fplan, t, HEADER_WORDS);
 }
 
 fn put_header(h: Header, t: &mut [u32])
@@ -81,7 +82,7 @@ fn put_header(h: Header, t: &mut [u32])
 }
 
 // The words of files 2 to 5, from place q on.
-fn put_bit_fields(
+fn put_from_bit_fields(
     bitfeld: &[u8],
     bahnhof: &[u8],
     umsteigb: &[u8],
@@ -95,22 +96,22 @@ fn put_bit_fields(
     ensures { λ r. ⌜ now (t .exit) ≡ write (now (t .entry)) q (fromBitFields (now (bitfeld .entry)) (now (bahnhof .entry)) (now (umsteigb .entry)) (now (fplan .entry))) ⌝ }
 {
     let m = section_words::put_section(Section::BitFields, bitfeld, t, q);
-    put_stops(bahnhof, umsteigb, fplan, t, m);
+    put_from_stops(bahnhof, umsteigb, fplan, t, m);
 }
 
 // Those of files 3 to 5.
-fn put_stops(bahnhof: &[u8], umsteigb: &[u8], fplan: &[u8], t: &mut [u32], q: usize)
+fn put_from_stops(bahnhof: &[u8], umsteigb: &[u8], fplan: &[u8], t: &mut [u32], q: usize)
     requires { ⌜ (length (now bahnhof) ≤ 16777216) × (length (now umsteigb) ≤ 16777216) × (length (now fplan) ≤ 16777216) ⌝ }
     requires { ⌜ (headOffence (linesOf (now fplan)) ≡ none) × (fewCalls (blocks (linesOf (now fplan))) ≡ true) ⌝ }
     requires { ⌜ q + length (fromStops (now bahnhof) (now umsteigb) (now fplan)) ≤ length (now t) ⌝ }
     ensures { λ r. ⌜ now (t .exit) ≡ write (now (t .entry)) q (fromStops (now (bahnhof .entry)) (now (umsteigb .entry)) (now (fplan .entry))) ⌝ }
 {
     let m = section_words::put_section(Section::Stops, bahnhof, t, q);
-    put_interchanges(umsteigb, fplan, t, m);
+    put_from_interchanges(umsteigb, fplan, t, m);
 }
 
 // Those of files 4 and 5.
-fn put_interchanges(umsteigb: &[u8], fplan: &[u8], t: &mut [u32], q: usize)
+fn put_from_interchanges(umsteigb: &[u8], fplan: &[u8], t: &mut [u32], q: usize)
     requires { ⌜ (length (now umsteigb) ≤ 16777216) × (length (now fplan) ≤ 16777216) ⌝ }
     requires { ⌜ (headOffence (linesOf (now fplan)) ≡ none) × (fewCalls (blocks (linesOf (now fplan))) ≡ true) ⌝ }
     requires { ⌜ q + length (fromInterchanges (now umsteigb) (now fplan)) ≤ length (now t) ⌝ }

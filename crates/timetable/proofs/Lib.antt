@@ -1,1 +1,5 @@
+pub mod Lines
+pub mod Offences
+pub mod Records
+pub mod Rows
 pub mod Trial

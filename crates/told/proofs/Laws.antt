@@ -12,9 +12,10 @@ use Rattle.columns.specs.Columns.{columns, number}
 use Rattle.lines.specs.Lines.{skipped}
 use Rattle.fields.specs.declared.Time.{Time}
 use Rattle.fields.specs.declared.Time.the-variants.{Absent, Stated, NoTime}
-use Rattle.forms.specs.Form.{Row, isFit, fits, formOf}
+use Rattle.forms.specs.Form.{Row, fits, formOf}
 use Rattle.forms.specs.Kinds.{kindOf}
 use Rattle.forms.specs.declared.Form.{Form}
+use Rattle.forms.specs.declared.Form.the-variants.{Fits, Broken as BrokenForm}
 use Rattle.forms.specs.declared.Kind.{Kind}
 use Rattle.timetable.specs.Plan.{twoBytes, attributeEnds, attributeIn, flagsOf, formed, toldBy, toldIn}
 use Rattle.timetable.specs.declared.Ends.{Ends}
@@ -31,13 +32,13 @@ module _ (text : List ℕ) (b : Bool) (e : b ≡ skipped text) where
   unfolding toldIn
   told-kind k r t d v = rw (← e, t, ← d) v
 
--- f is the line's form, and b says whether it fits
-module _ (rows : List Row) (text : List ℕ) (f : Form) (b : Bool) (e : f ≡ formOf rows text) (d : b ≡ isFit f) where
-  pub form-fits : (x y : Told) → b ≡ true → x ≡ y → x ≡ formed (fits rows text) y
-  form-fits x y t v = rw (← e, ← d, t) v
+-- f is the line's form
+module _ (rows : List Row) (text : List ℕ) (f : Form) (e : f ≡ formOf rows text) where
+  pub form-fits : (x y : Told) → f ≡ Fits → x ≡ y → x ≡ formed (fits rows text) y
+  form-fits x y t v = rw (← e, t) v
 
-  pub form-broken : (y : Told) → b ≡ false → Broken ≡ formed (fits rows text) y
-  form-broken y t = rw (← e, ← d, t)
+  pub form-broken : (y : Told) (column : ℕ) → f ≡ BrokenForm column → Broken ≡ formed (fits rows text) y
+  form-broken y column t = rw (← e, t)
 
 -- the code, the bit field and the range ends of a *A line
 module _ (text : List ℕ) (code field : ℕ) (ends : Ends) (c : code ≡ twoBytes 4 text) (f : field ≡ number (columns 23 28 text)) (e : ends ≡ attributeEnds text) where

@@ -11,17 +11,17 @@ use timetable::ExtraLine;
 use timetable::Opening;
 use timetable::Told;
 ghost use mathlib.Core.Path.{_≡_};
-ghost use Prim.Native.Nat.{_+_, _≤_};
+ghost use Prim.Native.Nat.{_≤_, _<_};
 ghost use Rattle.columns.specs.Columns.{columns};
 ghost use Rattle.fields.specs.Fields.{rangeEnd, detail};
-ghost use Rattle.forms.specs.Form.{isFit, fits};
+ghost use Rattle.forms.specs.Form.{fits};
 ghost use Rattle.forms.specs.Columns.{serviceColumns, categoryColumns, attributeColumns, callColumns};
 ghost use Rattle.forms.specs.Kinds.{kindOf};
 ghost use Rattle.timetable.specs.Plan.{twoBytes, threeBytes, openingIn, categoryIn, attributeEnds, attributeIn, minutesOf, flagsOf, callIn, formed, toldBy, toldIn, isOpening};
 ghost use Rattle.timetable.specs.declared.Told.the-variants.{Opens, Category, Calls};
 
 // "VE" as two bytes: operating days.
-const VE: u32 = 22085;
+const VE: u32 = b'V' as u32 * 256 + b'E' as u32;
 
 // What a line says.
 pub fn told_in(text: &[u8]) -> Told
@@ -70,10 +70,10 @@ fn is_opening(kind: Kind) -> bool
 fn opening_told(text: &[u8]) -> Told
     ensures { λ r. ⌜ r ≡ formed (fits serviceColumns (now (text .entry))) (Opens (openingIn (now (text .entry)))) ⌝ }
 {
-    if has_form(forms::service_form(text)) {
-        return Told::Opens(opening_in(text));
-    }
-    Told::Broken
+    let Form::Fits = forms::service_form(text) else {
+        return Told::Broken;
+    };
+    Told::Opens(opening_in(text))
 }
 
 fn opening_in(text: &[u8]) -> Opening
@@ -93,10 +93,10 @@ fn opening_in(text: &[u8]) -> Opening
 fn category_told(text: &[u8]) -> Told
     ensures { λ r. ⌜ r ≡ formed (fits categoryColumns (now (text .entry))) (Category (categoryIn (now (text .entry)))) ⌝ }
 {
-    if has_form(forms::category_form(text)) {
-        return Told::Category(category_in(text));
-    }
-    Told::Broken
+    let Form::Fits = forms::category_form(text) else {
+        return Told::Broken;
+    };
+    Told::Category(category_in(text))
 }
 
 fn category_in(text: &[u8]) -> CategoryLine
@@ -121,10 +121,10 @@ fn category_in(text: &[u8]) -> CategoryLine
 fn attribute_told(text: &[u8]) -> Told
     ensures { λ r. ⌜ r ≡ formed (fits attributeColumns (now (text .entry))) (attributeIn (now (text .entry))) ⌝ }
 {
-    if has_form(forms::attribute_form(text)) {
-        return attribute_in(text);
-    }
-    Told::Broken
+    let Form::Fits = forms::attribute_form(text) else {
+        return Told::Broken;
+    };
+    attribute_in(text)
 }
 
 fn attribute_in(text: &[u8]) -> Told
@@ -158,10 +158,10 @@ fn attribute_ends(text: &[u8]) -> Ends
 fn call_told(text: &[u8]) -> Told
     ensures { λ r. ⌜ r ≡ formed (fits callColumns (now (text .entry))) (Calls (callIn (now (text .entry)))) ⌝ }
 {
-    if has_form(forms::call_form(text)) {
-        return Told::Calls(call_in(text));
-    }
-    Told::Broken
+    let Form::Fits = forms::call_form(text) else {
+        return Told::Broken;
+    };
+    Told::Calls(call_in(text))
 }
 
 fn call_in(text: &[u8]) -> Call
@@ -200,12 +200,13 @@ fn flags_of(f: u32, t: Time) -> u32
     }
 }
 
-// ---- bytes and forms
+// ---- bytes
 
 // Columns c and c + 1 as one number, the first byte highest.
 fn two_bytes(text: &[u8], c: usize) -> u32
     requires { ⌜ c ≤ 100 ⌝ }
     ensures { λ r. ⌜ r ≡ twoBytes c (now (text .entry)) ⌝ }
+    ensures { λ r. ⌜ r < 65536 ⌝ }
 {
     wide(columns::column_at(text, c)) * 256 + wide(columns::column_at(text, c + 1))
 }
@@ -215,21 +216,11 @@ fn three_bytes(text: &[u8], c: usize) -> u32
     requires { ⌜ c ≤ 100 ⌝ }
     ensures { λ r. ⌜ r ≡ threeBytes c (now (text .entry)) ⌝ }
 {
-    let high = wide(columns::column_at(text, c)) * 256 + wide(columns::column_at(text, c + 1));
-    high * 256 + wide(columns::column_at(text, c + 2))
+    two_bytes(text, c) * 256 + wide(columns::column_at(text, c + 2))
 }
 
 fn wide(b: u8) -> u32
     ensures { λ r. ⌜ r ≡ b ⌝ }
 {
     b as u32
-}
-
-fn has_form(f: Form) -> bool
-    ensures { λ r. ⌜ r ≡ isFit f ⌝ }
-{
-    match f {
-        Form::Fits => true,
-        Form::Broken(column) => false,
-    }
 }

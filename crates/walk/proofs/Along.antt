@@ -2,7 +2,7 @@
 use mathlib.Core.Path.{_≡_, refl, sym, ap, _∙_}
 use mathlib.Core.List.{List, [], _∷_, map}
 use mathlib.Core.Bool.{Bool, true, false}
-use Prim.Native.Nat.{ℕ, zero, suc, _+_, _-_, _*_, _/_, _^_, _≤_, _<_}
+use Prim.Native.Nat.{ℕ, _+_, _-_, _*_, _/_, _^_, _≤_, _<_}
 use native.Mathlib.Omega.{arith}
 use lib.ListN.{length, getD, take, drop}
 use lib.Seq.{drop-drop}
@@ -17,9 +17,9 @@ use Rattle.timetable.specs.Questions.{Journey, refused, idle, rows, journeyBy, 
 use Rattle.timetable.specs.declared.Call.{Call}
 use Rattle.timetable.specs.declared.Walked.{Walked}
 use Rattle.timetable.specs.declared.Walked.the-variants.{Listed, NotRunning, Refused}
+use Rattle.timetable.proofs.Rows.{length-rows, rows-take, rows-drop}
 use Rattle.words.specs.Words.{write}
 use Rattle.words.proofs.Laws.{write-front}
-use Rattle.table.proofs.Rows.{length-rows, rows-drop}
 use Rattle.table.proofs.Says.{record-says}
 use Rattle.run.specs.Run.{noted, gap}
 use Rattle.rows.specs.Rows.{callsFrom}
@@ -37,12 +37,6 @@ module _ (i j : Journey) (e : i ≡ j) where
 
 -- ---- along a stretch
 
-take-rows : {X : Type 0} (f : List ℕ → X) (s m n : ℕ) (w : List ℕ) → m ≤ n → take m (rowsIn f s n w) ≡ rowsIn f s m w
-unfolding rowsIn
-take-rows f s zero n w h = refl
-take-rows f s (suc m) zero w h = absurd (omega arith)
-take-rows f s (suc m) (suc n) w h = ap (λ (xs : List _). f w ∷ xs) (take-rows f s m n (drop s w) (omega arith))
-
 front-is : (t ws : List ℕ) → write t 0 ws ≡ onto ws t
 unfolding onto
 front-is t ws = write-front t ws
@@ -52,7 +46,7 @@ module _ (s : List ℕ) (a n : ℕ) (b : a + n < getD s 6 0) where
   unfolding serviceAt callsFrom
   calls-are =
       ap (take (n + 1)) (rows-drop callAt 4 (getD s 6 0) a (drop 11 s))
-      ∙ take-rows callAt 4 (n + 1) (getD s 6 0 - a) (drop (4 * a) (drop 11 s)) (omega arith)
+      ∙ rows-take callAt 4 (n + 1) (getD s 6 0 - a) (drop (4 * a) (drop 11 s)) (omega arith)
       ∙ ap (rowsIn callAt 4 (n + 1)) (drop-drop (4 * a) 11 s)
 
   module _ (d : Delivery) (delay number : ℕ) (e : noted number ≡ callsRefusal d (serviceAt s) a n 0 0 (callsFrom s a (n + 1))) where

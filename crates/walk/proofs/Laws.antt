@@ -15,8 +15,8 @@ use Rattle.timetable.specs.Table.{used, callAt, serviceAt, tableOf, isTable, re
 use Rattle.timetable.specs.Questions.{refused, journeyBy, legRefusal, firstRefusal, datedJourney, journey, walkOf, walkedBy, rowsBy}
 use Rattle.timetable.specs.declared.Walked.{Walked}
 use Rattle.timetable.specs.declared.Walked.the-variants.{Refused}
+use Rattle.timetable.proofs.Rows.{length-rows}
 use Rattle.table.specs.Whole.{Whole}
-use Rattle.table.proofs.Rows.{length-rows}
 use Rattle.table.proofs.Says.{record-says}
 use Rattle.table.proofs.Whole.{used-whole, used-word, used-same, whole-says}
 use Rattle.look.specs.Look.{servicePlace, datedAsked}

@@ -8,6 +8,7 @@ use native.Mathlib.Omega.{arith}
 use lib.ListN.{length, drop}
 use lib.Seq.{drop-drop}
 use Rattle.base.specs.Lists.{upto, below}
+use Rattle.base.proofs.Lists.{length-map-upto}
 use Rattle.timetable.specs.Checks.{stretches}
 use Rattle.timetable.specs.Questions.{idleLegs, leadingLegs}
 use Rattle.run.specs.Run.{gap}
@@ -76,11 +77,6 @@ drop-map f zero l = refl
 drop-map f (suc a) [] = refl
 drop-map f (suc a) (x ∷ l) = drop-map f a l
 
-length-map-upto : (f : ℕ → Bool) (n k : ℕ) → length (map f (upto n k)) ≡ n
-unfolding upto
-length-map-upto f zero k = refl
-length-map-upto f (suc n) k = ap suc (length-map-upto f n (k + 1))
-
 module _ (f : ℕ → Bool) (n : ℕ) where
   abbrev pub legsFrom : ℕ → List Bool
   legsFrom a = map f (upto (n - a) a)
@@ -97,9 +93,6 @@ module _ (f : ℕ → Bool) (n : ℕ) where
   module _ (a : ℕ) (p : a ≡ 0 + gap true (legsFrom 0)) where
     pub start-is : idleLegs allLegs ≡ a
     start-is = sym (p ∙ rw (legs-all, gap-idle allLegs) (zero-add (idleLegs allLegs)))
-
-    pub start-within : a ≤ n
-    start-within = omega (arith, start-is, gap-idle allLegs, gap-within true allLegs, length-map-upto f n 0)
 
     pub none-on : n ≤ a → stretches false allLegs ≡ 0
     none-on h = none-runs allLegs (omega (arith, start-is, length-map-upto f n 0))

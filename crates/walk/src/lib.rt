@@ -1,5 +1,10 @@
 // The walk question on any words: the rows of a service's run on a date. A refusal leaves the rows as lent.
 use look::PeriodDay;
+use timetable::CALLS_AT;
+use timetable::OFFSET_AT;
+use timetable::REPEATS_AT;
+use timetable::ROW_WORDS;
+use timetable::SERVICES_AT;
 use timetable::Walked;
 ghost use mathlib.Core.Path.{_≡_};
 ghost use mathlib.Core.Bool.{true};
@@ -37,7 +42,7 @@ fn index_walk(w: &[u32], i: u32, repeat: u32, k: u32, rows: &mut [u32]) -> Walke
     ensures answer { λ r. ⌜ r ≡ walkedBy (indexWalk (tableOf (now (w .entry))) i repeat k) (length (now (rows .entry))) ⌝ }
     ensures listed { λ _. ⌜ now (rows .exit) ≡ rowsBy (indexWalk (tableOf (now (w .entry))) i repeat k) (now (rows .entry)) ⌝ }
 {
-    if w[6] <= i {
+    if w[SERVICES_AT] <= i {
         return Walked::Refused {
             number: 24,
             needed: 0,
@@ -53,17 +58,17 @@ fn service_walk(w: &[u32], s: &[u32], repeat: u32, k: u32, rows: &mut [u32]) -> 
     ensures answer { λ r. ⌜ r ≡ walkedBy (serviceWalk (tableOf (now (w .entry))) (serviceAt (now (s .entry))) repeat k) (length (now (rows .entry))) ⌝ }
     ensures listed { λ _. ⌜ now (rows .exit) ≡ rowsBy (serviceWalk (tableOf (now (w .entry))) (serviceAt (now (s .entry))) repeat k) (now (rows .entry)) ⌝ }
 {
-    if s[4] < repeat {
+    if s[REPEATS_AT] < repeat {
         return Walked::Refused {
             number: 25,
             needed: 0,
         };
     }
-    let number = run::legs_refusal(w, s, s[6] - 1);
+    let number = run::legs_refusal(w, s, s[CALLS_AT] - 1);
     if number != 0 {
         return Walked::Refused { number, needed: 0 };
     }
-    day_walk(w, s, k, repeat * s[5], rows)
+    day_walk(w, s, k, repeat * s[OFFSET_AT], rows)
 }
 
 // The walk along the stretch that is operated on day k: "not running" where none is, 35 two stretches.
@@ -74,7 +79,7 @@ fn day_walk(w: &[u32], s: &[u32], k: u32, delay: u32, rows: &mut [u32]) -> Walke
     ensures answer { λ r. ⌜ r ≡ walkedBy (dayWalk (tableOf (now (w .entry))) (serviceAt (now (s .entry))) delay k) (length (now (rows .entry))) ⌝ }
     ensures listed { λ _. ⌜ now (rows .exit) ≡ rowsBy (dayWalk (tableOf (now (w .entry))) (serviceAt (now (s .entry))) delay k) (now (rows .entry)) ⌝ }
 {
-    let legs = s[6] - 1;
+    let legs = s[CALLS_AT] - 1;
     let start = run::next_leg(w, s, k, 0, legs, true);
     if legs <= start {
         return Walked::NotRunning;
@@ -90,22 +95,22 @@ fn day_walk(w: &[u32], s: &[u32], k: u32, delay: u32, rows: &mut [u32]) -> Walke
     stretch_walk(w, s, start, end - start, delay, rows)
 }
 
-// The walk along a stretch from call a on with n legs: 32, 36 and 33 of its calls, 29.
-fn stretch_walk(w: &[u32], s: &[u32], a: u32, n: u32, delay: u32, rows: &mut [u32]) -> Walked
+// The walk along a stretch from call `start` on with so many legs: 32, 36 and 33 of its calls, 29.
+fn stretch_walk(w: &[u32], s: &[u32], start: u32, legs: u32, delay: u32, rows: &mut [u32]) -> Walked
     requires { ⌜ Whole (now w) ⌝ }
     requires { ⌜ recordSound (now s) ≡ true ⌝ }
-    requires { ⌜ (a + n < word (now s) 6) × (delay ≤ 998001) ⌝ }
-    ensures answer { λ r. ⌜ r ≡ walkedBy (stretchWalk (tableOf (now (w .entry))) (serviceAt (now (s .entry))) delay a n) (length (now (rows .entry))) ⌝ }
-    ensures listed { λ _. ⌜ now (rows .exit) ≡ rowsBy (stretchWalk (tableOf (now (w .entry))) (serviceAt (now (s .entry))) delay a n) (now (rows .entry)) ⌝ }
+    requires { ⌜ (start + legs < word (now s) 6) × (delay ≤ 998001) ⌝ }
+    ensures answer { λ r. ⌜ r ≡ walkedBy (stretchWalk (tableOf (now (w .entry))) (serviceAt (now (s .entry))) delay start legs) (length (now (rows .entry))) ⌝ }
+    ensures listed { λ _. ⌜ now (rows .exit) ≡ rowsBy (stretchWalk (tableOf (now (w .entry))) (serviceAt (now (s .entry))) delay start legs) (now (rows .entry)) ⌝ }
 {
-    let number = rows::calls_refusal(w, s, a, n);
+    let number = rows::calls_refusal(w, s, start, legs);
     if number != 0 {
         return Walked::Refused { number, needed: 0 };
     }
-    let needed = 7 * (n + 1);
+    let needed = ROW_WORDS as u32 * (legs + 1);
     if rows.len() < table::size(needed) {
         return Walked::Refused { number: 29, needed };
     }
-    rows::rows_into(w, s, a, n, delay, rows);
-    Walked::Listed(n + 1)
+    rows::rows_into(w, s, start, legs, delay, rows);
+    Walked::Listed(legs + 1)
 }

@@ -10,7 +10,8 @@ use lib.ListN.{length, drop, length-append}
 use lib.Seq.{drop-at}
 use lib.Dec.{ltb, leb, eqb}
 use borrow.Author.Tests.{le-leb, ltb-false, eqb-false, eq-eqb}
-use Rattle.base.specs.Lists.{gathered}
+use Rattle.base.specs.Lists.{All, nil, cons, gathered}
+use Rattle.base.proofs.Laws.{apart}
 use Rattle.calendar.specs.Calendar.{lastDay}
 use Rattle.lines.specs.Lines.{linesOf}
 use Rattle.timetable.specs.Delivery.{Files, Service, Delivery}
@@ -21,11 +22,10 @@ use Rattle.timetable.specs.Questions.{dateOf, dayBy, dayAsked, minutesFor, inte
 use Rattle.timetable.specs.declared.InterchangeAnswer.the-variants.{Minutes, Refused as InterchangeRefused}
 use Rattle.timetable.specs.declared.Loaded.{Loaded}
 use Rattle.timetable.specs.declared.Loaded.the-variants.{Accepted, Refused}
-use Rattle.whole.specs.Promise.{All, nil, cons}
-use Rattle.whole.proofs.Lists.{apart}
-use Rattle.whole.proofs.Records.{twelve, service-length, service-back}
+use Rattle.timetable.proofs.Offences.{then-none, when-none}
+use Rattle.timetable.proofs.Records.{twelve, service-length, service-back}
 use Rattle.whole.proofs.Back.{words-length, used-back, to-services, sections-length, fields-twelve, table-back}
-use Rattle.whole.proofs.Clear.{then-none, when-none, Clear, clear}
+use Rattle.whole.proofs.Clear.{Clear, clear}
 use Rattle.whole.proofs.Period.{PeriodSound, period-sound}
 use Rattle.whole.proofs.Right.{Right, services-right}
 

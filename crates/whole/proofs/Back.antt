@@ -3,13 +3,14 @@
 use mathlib.Core.Path.{_≡_, refl, sym, ap, _∙_}
 use mathlib.Core.List.{List, [], _∷_, _++_, append-nil}
 use mathlib.Core.Bool.{Bool, true, false, cond}
-use Prim.Native.Nat.{ℕ, zero, suc, _+_, _*_}
+use Prim.Native.Nat.{ℕ, _+_, _*_}
 use native.Mathlib.Omega.{arith}
 use lib.ListN.{length, take, drop, length-append}
 use lib.Seq.{take-at}
-use Rattle.base.specs.Lists.{gathered}
+use Rattle.base.specs.Lists.{All, nil, cons, gathered}
 use Rattle.columns.specs.Columns.{columns, number}
-use Rattle.bitfield.specs.BitField.{hexWords, bitsIn}
+use Rattle.bitfield.specs.BitField.{bitsIn}
+use Rattle.bitfield.proofs.Hex.{length-words}
 use Rattle.lines.specs.Lines.{Line, linesOf, skipped}
 use Rattle.forms.specs.Form.{fits}
 use Rattle.forms.specs.Columns.{bitFieldColumns}
@@ -17,9 +18,8 @@ use Rattle.timetable.specs.Delivery.{Files, Delivery}
 use Rattle.timetable.specs.Files.{skip, broken, held, listed, held-in, bitFieldOf}
 use Rattle.timetable.specs.Load.{delivered, bitFieldWords, stopWords, interchangeWords, headerSize, bitFieldSize, stopSize, interchangeSize, serviceWords, firstService, sections, tableWords}
 use Rattle.timetable.specs.Table.{word, rowsIn, bitFieldAt, stopAt, interchangeAt, servicesIn, used, tableOf}
-use Rattle.whole.specs.Promise.{All, nil, cons}
 use Rattle.whole.proofs.Lists.{all-append}
-use Rattle.whole.proofs.Records.{past, twelve, fields-back, fields-length, stops-back, stops-length, interchanges-back, interchanges-length, services-back}
+use Rattle.timetable.proofs.Records.{past, twelve, fields-back, fields-length, stops-back, stops-length, interchanges-back, interchanges-length, services-back}
 
 -- ---- the table
 
@@ -78,11 +78,6 @@ module _ (d : Delivery) (h : All twelve (d .fields)) where
 
 -- ---- what files hold
 
-hex-length : (n : ℕ) (p : List ℕ) → length (hexWords n p) ≡ n
-unfolding hexWords
-hex-length zero p = refl
-hex-length (suc n) p = ap suc (hex-length n (drop 8 p))
-
 -- a bit field has twelve words, whatever its line
 line-twelve : (l : Line) → All twelve (listed (bitFieldOf l))
 unfolding bitsIn
@@ -90,7 +85,7 @@ line-twelve l = go (skipped (l .text)) (fits bitFieldColumns (l .text))
   where
     go : (s t : Bool) → All twelve (listed (cond s skip (cond t (held (record { number = number (columns 1 6 (l .text)); words = bitsIn (l .text) })) broken)))
     go true t = nil
-    go false true = cons (hex-length 12 (columns 8 103 (l .text))) nil
+    go false true = cons (length-words 12 (columns 8 103 (l .text))) nil
     go false false = nil
 
 pub fields-twelve : (ls : List Line) → All twelve (held-in bitFieldOf ls)

@@ -1,78 +1,41 @@
 -- "No offence" taken apart: what is then true of each file, each service and each line. Assumes nothing.
 use mathlib.Core.Path.{_≡_, refl, sym, ap, _∙_, subst}
 use mathlib.Core.List.{List, [], _∷_, _++_, append-assoc, append-nil}
-use mathlib.Core.Bool.{Bool, true, false, cond}
-use mathlib.Core.Option.{Option, none, some}
+use mathlib.Core.Bool.{true, false, cond}
+use mathlib.Core.Option.{none}
 use Prim.Native.Nat.{ℕ}
 use lib.ListN.{length}
-use lib.Dec.{ltb, eqb}
-use borrow.Author.Tests.{eqb-true, not-false}
-use Rattle.base.specs.Lists.{gathered}
+use lib.Dec.{ltb}
+use borrow.Author.Tests.{not-false}
+use Rattle.base.specs.Lists.{All, nil, cons, gathered}
 use Rattle.lines.specs.Lines.{Line, linesOf}
 use Rattle.timetable.specs.Delivery.{Files, CategoryRange, DayRange, Delivery}
-use Rattle.timetable.specs.Offences.{Offence, orElse, _<|>_, when, first}
+use Rattle.timetable.specs.Offences.{first}
 use Rattle.timetable.specs.Files.{Held, listed, held-in, periodFirst, bitFieldsFirst, stopsFirst, interchangesFirst}
 use Rattle.timetable.specs.Plan.{toldIn, tolds, callsOf}
 use Rattle.timetable.specs.Service.{blocks, serviceOf}
 use Rattle.timetable.specs.Checks.{ownOffence, callLines, timesFirst, rangeBad, eachOnce, legCount, torn, serviceChecks, serviceFirst, servicesFirst, planFirst}
-use Rattle.timetable.specs.Load.{delivered, inFile, offence}
+use Rattle.timetable.specs.Load.{delivered, offence}
 use Rattle.timetable.specs.declared.Told.{Told}
-use Rattle.whole.specs.Promise.{All, nil, cons}
-use Rattle.whole.proofs.Lists.{apart, all-append, gathered-append}
-
--- ---- none of several
-
-or-none : {X : Type 0} (a b : Option X) → orElse a b ≡ none → (a ≡ none) × (b ≡ none)
-or-none none b e = (refl, e)
-or-none (some x) b e = apart (cc)
-
-pub then-none : {X : Type 0} (a b : Option X) → (a <|> b) ≡ none → (a ≡ none) × (b ≡ none)
-unfolding _<|>_
-then-none a b e = or-none a b e
-
-pub when-none : (t : Bool) (number line : ℕ) → when t number line ≡ none → t ≡ false
-when-none false number line e = refl
-when-none true number line e = apart (cc)
-
-in-none : (f : ℕ) (o : Option Offence) → inFile f o ≡ none → o ≡ none
-in-none f none e = refl
-in-none f (some x) e = apart (cc)
+use Rattle.timetable.proofs.Lines.{said-more}
+use Rattle.timetable.proofs.Offences.{then-none, when-none, in-none, first-none}
+use Rattle.whole.proofs.Lists.{all-append}
 
 -- ---- none at any line
 
 module _ (off : List Line → Line → ℕ) where
-  pub first-none : (before : List Line) (l : Line) (ls : List Line) → first off before (l ∷ ls) ≡ none → (off before l ≡ 0) × (first off (before ++ (l ∷ [])) ls ≡ none)
-  unfolding first
-  first-none before l ls e = go (eqb (off before l) 0) refl e
-    where
-      go : (t : Bool) → eqb (off before l) 0 ≡ t → orElse (cond t none (some (off before l, l .no))) (first off (before ++ (l ∷ [])) ls) ≡ none → (off before l ≡ 0) × (first off (before ++ (l ∷ [])) ls ≡ none)
-      go true q e = (eqb-true (off before l) 0 q, e)
-      go false q e = apart (cc)
-
   -- what holds of no line, and goes on to hold with each line that has no offence, holds of all the lines
   module _ (P : List Line → Type 0) (more : (before : List Line) (l : Line) → off before l ≡ 0 → P before → P (before ++ (l ∷ []))) where
     keeps : (before ls : List Line) → first off before ls ≡ none → P before → P (before ++ ls)
     keeps before [] e h = rw append-nil h
     keeps before (l ∷ ls) e h =
-        let n = first-none before l ls e in
+        let n = first-none off before l ls e in
         rw append-assoc at (keeps (before ++ (l ∷ [])) ls (n .1) (more before l (n .0) h))
 
     pub first-keeps : (ls : List Line) → first off [] ls ≡ none → P [] → P ls
     first-keeps ls e h = keeps [] ls e h
 
 -- ---- one line more
-
-pub tolds-more : (before : List Line) (l : Line) → tolds (before ++ (l ∷ [])) ≡ tolds before ++ (toldIn (l .text) ∷ [])
-unfolding tolds
-tolds-more [] l = refl
-tolds-more (k ∷ before) l = ap (λ (r : List Told). toldIn (k .text) ∷ r) (tolds-more before l)
-
-pub said-more : {X : Type 0} (say : Told → List X) (before : List Line) (l : Line) → gathered say (tolds (before ++ (l ∷ []))) ≡ gathered say (tolds before) ++ say (toldIn (l .text))
-unfolding gathered
-said-more say before l =
-    ap (gathered say) (tolds-more before l)
-    ∙ (gathered-append say (tolds before) (toldIn (l .text) ∷ [])
-    ∙ ap (λ (r : List _). gathered say (tolds before) ++ r) (append-nil (say (toldIn (l .text)))))
 
 held-append : {X : Type 0} (f : Line → Held X) (a b : List Line) → held-in f (a ++ b) ≡ held-in f a ++ held-in f b
 unfolding held-in

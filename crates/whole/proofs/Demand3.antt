@@ -5,10 +5,11 @@ use mathlib.Core.Bool.{Bool, true, false, cond}
 use mathlib.Core.Option.{Option, none, some}
 use Prim.Native.Nat.{ℕ, _+_, _-_, _*_, _/_, _<_, _≤_}
 use native.Mathlib.Omega.{arith}
-use lib.ListN.{length, drop, getElem?}
+use lib.ListN.{length, drop}
 use lib.Dec.{ltb, leb, eqb}
 use borrow.Author.Tests.{le-leb, lt-ltb, le-ltb, ltb-true, leb-false, eqb-true, eqb-false}
-use Rattle.base.specs.Lists.{below}
+use Rattle.base.specs.Lists.{All, below}
+use Rattle.base.proofs.Laws.{apart, clash}
 use Rattle.calendar.specs.Calendar.{dayOf}
 use Rattle.calendar.specs.declared.Date.{Date}
 use Rattle.calendar.specs.declared.Date.the-variants.{Day}
@@ -21,10 +22,10 @@ use Rattle.timetable.specs.declared.Loaded.{Loaded}
 use Rattle.timetable.specs.declared.Loaded.the-variants.{Accepted}
 use Rattle.timetable.specs.declared.Walked.{Walked}
 use Rattle.timetable.specs.declared.Walked.the-variants.{Listed, Refused}
-use Rattle.whole.specs.Promise.{All, RunsNowhere, Outcome, not-running, runs, Demand3, Asked, Walk, Short}
-use Rattle.whole.proofs.Lists.{apart, clash, all-elem, some-elem, only-says}
-use Rattle.whole.proofs.Back.{table-back}
+use Rattle.whole.specs.Promise.{RunsNowhere, Outcome, not-running, runs, Demand3, Asked, Walk, Short}
+use Rattle.whole.proofs.Lists.{all-elem, only-says}
 use Rattle.whole.proofs.Clear.{Clear, clear}
+use Rattle.whole.proofs.Back.{table-back}
 use Rattle.whole.proofs.Accepted.{words-table, no-offence, table-is, table-holds, walk-held}
 use Rattle.whole.proofs.Right.{Right, services-right, from-text}
 use Rattle.whole.proofs.Once.{fields-run, stops-own, interchanges-at}
@@ -135,15 +136,11 @@ pub demand3 : (f : Files) (t : List ℕ) (u : ℕ) → loaded f (length t) ≡ A
     → Demand3 f i s r (day - delivered f .period .start) (walkOf (written f t) i r d m y)
 demand3 f t u e = walk-demand f (clear f (no-offence f t u e)) (written f t) (table-is f t u e) (table-holds f t u e)
 
--- the same of its words copied to any other place, whatever follows them there
+-- the same of its words alone, or copied to any other place, whatever follows them there
 pub demand3-copied : (f : Files) → offence f ≡ none → (rest : List ℕ)
     → (i r d m y day : ℕ) (s : Service) → Asked f i r d m y s day
     → Demand3 f i s r (day - delivered f .period .start) (walkOf (tableWords (delivered f) ++ rest) i r d m y)
 demand3-copied f e rest = walk-demand f (clear f e) (tableWords (delivered f) ++ rest) (words-table f e rest) (table-back f rest)
-
--- there is a service for each index below their number
-pub some-service : (f : Files) (i : ℕ) → i < length (delivered f .services) → (s : Service) × (getElem? (delivered f .services) i ≡ some s)
-some-service f i h = some-elem (delivered f .services) i h
 
 -- ---- with enough room
 

@@ -7,6 +7,7 @@ use Prim.Native.Nat.{ℕ, zero, suc, _+_, _-_, _<_, _≤_}
 use native.Mathlib.Omega.{arith}
 use lib.ListN.{length, getElem?}
 use borrow.Author.Tests.{lt-ltb}
+use Rattle.base.specs.Lists.{All, nil, cons}
 use Rattle.base.proofs.Laws.{by-ltb}
 use Rattle.fields.specs.declared.RouteIndex.{RouteIndex}
 use Rattle.fields.specs.declared.StopNumber.{StopNumber}
@@ -21,7 +22,6 @@ use Rattle.timetable.specs.Table.{legsSound}
 use Rattle.timetable.specs.declared.Call.{Call}
 use Rattle.timetable.specs.declared.End.{End}
 use Rattle.timetable.specs.declared.Ends.{Ends}
-use Rattle.whole.specs.Promise.{All, nil, cons}
 
 -- ---- places on a route of n calls
 

@@ -1,5 +1,4 @@
 pub mod Lists
-pub mod Records
 pub mod Back
 pub mod Ends
 pub mod Sound

@@ -9,8 +9,8 @@ use Prim.Native.Nat.{ℕ, _+_, _<_, _≤_}
 use native.Mathlib.Omega.{arith}
 use lib.ListN.{length, length-append}
 use lib.Dec.{ltb}
-use Rattle.base.specs.Lists.{some-of, gathered}
-use Rattle.base.proofs.Laws.{by-ltb}
+use Rattle.base.specs.Lists.{All, nil, cons, some-of, gathered}
+use Rattle.base.proofs.Laws.{clash, by-ltb}
 use Rattle.lines.specs.Lines.{Line}
 use Rattle.timetable.specs.Delivery.{BitField, StopRecord, Legs, DayRange, Delivery}
 use Rattle.timetable.specs.Files.{hasStop}
@@ -25,9 +25,9 @@ use Rattle.timetable.specs.declared.DaysLine.{DaysLine}
 use Rattle.timetable.specs.declared.ExtraLine.{ExtraLine}
 use Rattle.timetable.specs.declared.Told.{Told}
 use Rattle.timetable.specs.declared.Told.the-variants.{Skip, Other, Broken, Opens, Category, Days, Extra, Calls}
-use Rattle.whole.specs.Promise.{All, nil, cons}
-use Rattle.whole.proofs.Lists.{clash, or-false, all-append, all-to, none-of, each-gives-one}
-use Rattle.whole.proofs.Clear.{first-keeps, tolds-more, said-more, all-said, Fair}
+use Rattle.timetable.proofs.Lines.{tolds-more, said-more}
+use Rattle.whole.proofs.Lists.{neither, all-append, all-to, none-of, each-gives-one}
+use Rattle.whole.proofs.Clear.{first-keeps, all-said, Fair}
 
 -- ---- 13
 
@@ -72,15 +72,11 @@ limits d ls h = first-keeps (ownOffence (d .fields) (d .stops)) Limits (limits-m
 abbrev pub Read : Told → Type 0
 Read t = (t ≡ Other → ⊥) × (t ≡ Broken → ⊥)
 
-inner-9 : (s t : Bool) → _≡_ {A = ℕ} (cond s (cond t 0 9) 13) 0 → t ≡ true
-inner-9 true true e = refl
-inner-9 true false e = absurd (omega arith)
-inner-9 false t e = absurd (omega arith)
-
-inner-10 : (s t : Bool) → _≡_ {A = ℕ} (cond s (cond t 0 10) 13) 0 → t ≡ true
-inner-10 true true e = refl
-inner-10 true false e = absurd (omega arith)
-inner-10 false t e = absurd (omega arith)
+-- a look-up that is reported as o, behind the limit
+inner : (o : ℕ) → 1 ≤ o → (s t : Bool) → _≡_ {A = ℕ} (cond s (cond t 0 o) 13) 0 → t ≡ true
+inner o h true true e = refl
+inner o h true false e = absurd (omega arith)
+inner o h false t e = absurd (omega arith)
 
 module _ (d : Delivery) where
   abbrev pub StopKnown : Call → Type 0
@@ -103,7 +99,7 @@ module _ (d : Delivery) where
   stop-one before (Category g) e = nil
   stop-one before (Days v) e = nil
   stop-one before (Extra a) e = nil
-  stop-one before (Calls c) e = cons {x = c} (inner-9 (ltb (length (callsOf before)) 200) (hasStop (c .stop) (d .stops)) e) nil
+  stop-one before (Calls c) e = cons {x = c} (inner 9 (omega arith) (ltb (length (callsOf before)) 200) (hasStop (c .stop) (d .stops)) e) nil
 
   field-one : (before : List Line) (t : Told) → toldOffence (d .fields) (d .stops) before t ≡ 0 → All (λ (v : DaysLine). FieldKnown (v .field)) (asDays t)
   field-one before Skip e = nil
@@ -111,7 +107,7 @@ module _ (d : Delivery) where
   field-one before Broken e = nil
   field-one before (Opens o) e = nil
   field-one before (Category g) e = nil
-  field-one before (Days v) e = cons {x = v} (inner-10 (ltb (length (daysLines before)) 50) (fieldKnown (v .field) (d .fields)) e) nil
+  field-one before (Days v) e = cons {x = v} (inner 10 (omega arith) (ltb (length (daysLines before)) 50) (fieldKnown (v .field) (d .fields)) e) nil
   field-one before (Extra a) e = nil
   field-one before (Calls c) e = nil
 
@@ -158,8 +154,8 @@ module _ (cs : List Call) where
 
   ranges-found : (t : Told) → _≡_ {A = ℕ} (cond (rangeBad cs t) 16 0) 0 → RangesFound t
   ranges-found t e =
-      let a = or-false (some-of (λ (g : CategoryLine). isNone (legsOf false cs (g .ends))) (asCategory t) || some-of (λ (v : DaysLine). isNone (legsOf false cs (v .ends))) (asDays t)) (some-of (λ (a : ExtraLine). isNone (legsOf true cs (a .ends))) (asExtra t)) (not-16 (rangeBad cs t) e) in
-      let b = or-false (some-of (λ (g : CategoryLine). isNone (legsOf false cs (g .ends))) (asCategory t)) (some-of (λ (v : DaysLine). isNone (legsOf false cs (v .ends))) (asDays t)) (a .0) in
+      let a = neither (some-of (λ (g : CategoryLine). isNone (legsOf false cs (g .ends))) (asCategory t) || some-of (λ (v : DaysLine). isNone (legsOf false cs (v .ends))) (asDays t)) (some-of (λ (a : ExtraLine). isNone (legsOf true cs (a .ends))) (asExtra t)) (not-16 (rangeBad cs t) e) in
+      let b = neither (some-of (λ (g : CategoryLine). isNone (legsOf false cs (g .ends))) (asCategory t)) (some-of (λ (v : DaysLine). isNone (legsOf false cs (v .ends))) (asDays t)) (a .0) in
       record { categories = none-of _ (asCategory t) (b .0); days = none-of _ (asDays t) (b .1); extras = none-of _ (asExtra t) (a .1) }
 
 -- as many ranges as lines of ranges

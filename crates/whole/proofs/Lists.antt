@@ -1,36 +1,25 @@
 -- Laws of tests, of `All` and of the lists of `Rattle.base.specs.Lists`, which the theorems share. Assumes nothing.
-use mathlib.Core.Path.{_≡_, refl, sym, ap, _∙_, subst}
-use mathlib.Core.List.{List, [], _∷_, _++_, append-assoc}
-use mathlib.Core.Bool.{Bool, true, false, cond, not, _&&_, _||_, false≢true}
+use mathlib.Core.Path.{_≡_, refl, sym, _∙_, subst}
+use mathlib.Core.List.{List, [], _∷_, _++_}
+use mathlib.Core.Bool.{Bool, true, false, cond, _&&_, _||_}
 use mathlib.Core.Option.{some}
 use Prim.Native.Nat.{ℕ, zero, suc, _+_, _<_}
 use native.Mathlib.Omega.{arith}
 use lib.ListN.{length, getD, drop, getElem?, length-append}
-use Rattle.base.specs.Lists.{every, some-of, countIf, find, gathered, upto, below}
-use Rattle.whole.specs.Promise.{All, nil, cons}
+use Rattle.base.specs.Lists.{All, nil, cons, every, some-of, countIf, find, gathered, upto, below}
+use Rattle.base.proofs.Laws.{clash, apart}
+use Rattle.base.proofs.Loops.{every-at}
 
 -- ---- tests
-
--- true is not false
-pub clash : {X : Type 0} → false ≡ true → X
-clash e = absurd (false≢true e)
-
--- from two constructors that are said to be equal `cc` proves that 0 is 1
-pub apart : {X : Type 0} → _≡_ {A = ℕ} 0 1 → X
-apart e = absurd (omega arith)
 
 -- what holds of both choices holds of the chosen
 pub cond-all : {X : Type 0} (P : X → Type 0) (t : Bool) (a b : X) → P a → P b → P (cond t a b)
 cond-all P true a b p q = p
 cond-all P false a b p q = q
 
-pub and-true : (a b : Bool) → a && b ≡ true → (a ≡ true) × (b ≡ true)
-and-true true b e = (refl, e)
-and-true false b e = clash e
-
-pub or-false : (a b : Bool) → a || b ≡ false → (a ≡ false) × (b ≡ false)
-or-false false b e = (refl, e)
-or-false true b e = clash (sym e)
+pub neither : (a b : Bool) → a || b ≡ false → (a ≡ false) × (b ≡ false)
+neither false b e = (refl, e)
+neither true b e = clash (sym e)
 
 pub or-second : (a b : Bool) → b ≡ true → a || b ≡ true
 or-second true b e = refl
@@ -43,10 +32,6 @@ or-other true b p e = clash (sym p)
 pub or-first : (a b : Bool) → b ≡ false → a || b ≡ a
 or-first true b e = refl
 or-first false b e = e
-
-pub not-of : (t : Bool) → t ≡ true → not t ≡ false
-not-of true e = refl
-not-of false e = clash e
 
 -- ---- lists of which every element is as it should be
 
@@ -76,10 +61,6 @@ module _ {X : Type 0} (ok : X → Type 0) where
   all-elem (y ∷ xs) zero x (cons p q) e = let z : y ≡ x = cc in subst ok z p
   all-elem (y ∷ xs) (suc i) x (cons p q) e = all-elem xs i x q e
 
-  pub all-of : ((x : X) → ok x) → (xs : List X) → All ok xs
-  all-of h [] = nil
-  all-of h (x ∷ xs) = cons (h x) (all-of h xs)
-
   pub all-gathered : {Y : Type 0} (g : Y → List X) → ((y : Y) → All ok (g y)) → (ys : List Y) → All ok (gathered g ys)
   unfolding gathered
   all-gathered g h [] = nil
@@ -89,18 +70,7 @@ pub all-to : {X : Type 0} (P Q : X → Type 0) → ((x : X) → P x → Q x) →
 all-to P Q f [] h = nil
 all-to P Q f (x ∷ xs) h = cons (f x (all-head P h)) (all-to P Q f xs (all-tail P h))
 
--- an element at each place of a list
-pub some-elem : {X : Type 0} (xs : List X) (i : ℕ) → i < length xs → (x : X) × (getElem? xs i ≡ some x)
-some-elem [] i h = absurd (omega arith)
-some-elem (x ∷ xs) zero h = (x, refl)
-some-elem (x ∷ xs) (suc i) h = some-elem xs i (omega arith)
-
 -- ---- what lists give
-
-pub gathered-append : {X Y : Type 0} (f : X → List Y) (a b : List X) → gathered f (a ++ b) ≡ gathered f a ++ gathered f b
-unfolding gathered
-gathered-append f [] b = refl
-gathered-append f (x ∷ a) b = ap (λ (r : List _). f x ++ r) (gathered-append f a b) ∙ sym (append-assoc (f x) (gathered f a) (gathered f b))
 
 -- as many as there are, where each gives one
 pub each-gives-one : {X Y : Type 0} (f : X → List Y) (xs : List X) → All (λ x. length (f x) ≡ 1) xs → length (gathered f xs) ≡ length xs
@@ -119,24 +89,18 @@ every-all t (cons {x} {xs} h r) = rw (h, every-all t r)
 pub none-of : {X : Type 0} (t : X → Bool) (xs : List X) → some-of t xs ≡ false → All (λ x. t x ≡ false) xs
 unfolding some-of
 none-of t [] e = nil
-none-of t (x ∷ xs) e = let a = or-false (t x) (some-of t xs) e in cons (a .0) (none-of t xs (a .1))
+none-of t (x ∷ xs) e = let a = neither (t x) (some-of t xs) e in cons (a .0) (none-of t xs (a .1))
 
 -- a test of the numbers below n, at one of them
 module _ (t : ℕ → Bool) where
-  every-upto : (n k j : ℕ) → every t (upto n k) ≡ true → j < n → t (k + j) ≡ true
-  unfolding every upto
-  every-upto zero k j e h = absurd (omega arith)
-  every-upto (suc n) k zero e h = let a = and-true (t k) (every t (upto n (k + 1))) e in let z : k + zero ≡ k = omega arith in rw z (a .0)
-  every-upto (suc n) k (suc j) e h = let a = and-true (t k) (every t (upto n (k + 1))) e in let z : k + suc j ≡ k + 1 + j = omega arith in rw z (every-upto n (k + 1) j (a .1) (omega arith))
-
   pub every-below : (n j : ℕ) → every t (below n) ≡ true → j < n → t j ≡ true
-  every-below n j e h = let z : 0 + j ≡ j = omega arith in rw z at (every-upto n 0 j e h)
+  every-below n j e h = every-at t n 0 j e (omega arith) (omega arith)
 
   none-upto : (n k j : ℕ) → some-of t (upto n k) ≡ false → j < n → t (k + j) ≡ false
   unfolding some-of upto
   none-upto zero k j e h = absurd (omega arith)
-  none-upto (suc n) k zero e h = let a = or-false (t k) (some-of t (upto n (k + 1))) e in let z : k + zero ≡ k = omega arith in rw z (a .0)
-  none-upto (suc n) k (suc j) e h = let a = or-false (t k) (some-of t (upto n (k + 1))) e in let z : k + suc j ≡ k + 1 + j = omega arith in rw z (none-upto n (k + 1) j (a .1) (omega arith))
+  none-upto (suc n) k zero e h = let a = neither (t k) (some-of t (upto n (k + 1))) e in let z : k + zero ≡ k = omega arith in rw z (a .0)
+  none-upto (suc n) k (suc j) e h = let a = neither (t k) (some-of t (upto n (k + 1))) e in let z : k + suc j ≡ k + 1 + j = omega arith in rw z (none-upto n (k + 1) j (a .1) (omega arith))
 
   pub none-below : (n j : ℕ) → some-of t (below n) ≡ false → j < n → t j ≡ false
   none-below n j e h = let z : 0 + j ≡ j = omega arith in rw z at (none-upto n 0 j e h)

@@ -9,12 +9,13 @@ use lib.ListN.{length, getElem?}
 use lib.Dec.{ltb, leb, eqb}
 use borrow.Author.Tests.{eqb-false}
 use Rattle.base.specs.Lists.{every, below}
+use Rattle.base.proofs.Laws.{apart}
 use Rattle.calendar.specs.Calendar.{dayOf}
 use Rattle.calendar.specs.declared.Date.{Date}
 use Rattle.calendar.specs.declared.Date.the-variants.{Day, NoSuchDate}
 use Rattle.lines.specs.Lines.{Line, linesOf}
 use Rattle.timetable.specs.Delivery.{Files, Period, BitField, StopRecord, CategoryRange, DayRange, Service, Delivery}
-use Rattle.timetable.specs.Offences.{Offence, orElse, _<|>_, when, first}
+use Rattle.timetable.specs.Offences.{Offence, orElse, when, first}
 use Rattle.timetable.specs.Files.{held-in, interchangeOf, hasStop, periodFirst, bitFieldsFirst, stopsFirst, interchangesFirst}
 use Rattle.timetable.specs.Table.{tableOf, isTable}
 use Rattle.timetable.specs.Plan.{callsOf}
@@ -27,13 +28,7 @@ use Rattle.timetable.specs.declared.Loaded.the-variants.{Accepted, Refused}
 use Rattle.timetable.specs.declared.DayAnswer.the-variants.{Runs, Idle, Refused as DayRefused}
 use Rattle.timetable.specs.declared.InterchangeAnswer.the-variants.{Minutes, Refused as InterchangeRefused}
 use Rattle.timetable.specs.declared.Walked.the-variants.{Listed, Refused as WalkRefused}
-use Rattle.whole.proofs.Lists.{apart}
-
--- one of two, in order, is one of them
-one-of : {X P : Type 0} {x : X} (a b : Option X) → (a <|> b) ≡ some x → (a ≡ some x → P) → (b ≡ some x → P) → P
-unfolding _<|>_
-one-of none b e p q = q e
-one-of (some y) b e p q = p e
+use Rattle.timetable.proofs.Offences.{one-of}
 
 -- ---- the offences of a delivery
 
@@ -51,7 +46,7 @@ module _ {o : Offence} where
   by-line off before (l ∷ ls) e = go (eqb (off before l) 0) refl e (λ e. by-line off (before ++ (l ∷ [])) ls e)
     where
       go : (t : Bool) → eqb (off before l) 0 ≡ t → orElse (cond t none (some (off before l, l .no))) (first off (before ++ (l ∷ [])) ls) ≡ some o
-        → (first off (before ++ (l ∷ [])) ls ≡ some o → 1 ≤ o .0) → 1 ≤ o .0
+          → (first off (before ++ (l ∷ [])) ls ≡ some o → 1 ≤ o .0) → 1 ≤ o .0
       go true q e h = h e
       go false q e h = let z = eqb-false (off before l) 0 q in it (off before l) (l .no) (omega (arith, z)) e
 
@@ -162,8 +157,8 @@ unfolding interchangeAsked
 interchange-numbered w n a b number e = go (isTable w) (leb a 13 && leb b 13) (hasStop n (tableOf w .stops)) e
   where
     go : (t u v : Bool)
-      → cond t (cond u (cond v (Minutes (minutesFor (interchangeAtStop (tableOf w) n) a b)) (InterchangeRefused 27)) (InterchangeRefused 26)) (InterchangeRefused 21) ≡ InterchangeRefused number
-      → 1 ≤ number
+        → cond t (cond u (cond v (Minutes (minutesFor (interchangeAtStop (tableOf w) n) a b)) (InterchangeRefused 27)) (InterchangeRefused 26)) (InterchangeRefused 21) ≡ InterchangeRefused number
+        → 1 ≤ number
     go true true true e = apart (cc)
     go true true false e = let z : _≡_ {A = ℕ} 27 number = cc in omega (arith, z)
     go true false v e = let z : _≡_ {A = ℕ} 26 number = cc in omega (arith, z)

@@ -8,7 +8,8 @@ use Prim.Native.Nat.{ℕ, _%_}
 use native.Mathlib.Omega.{arith}
 use lib.Dec.{eqb}
 use borrow.Author.Tests.{eq-eqb}
-use Rattle.base.specs.Lists.{some-of, find}
+use Rattle.base.specs.Lists.{All, nil, cons, some-of, find}
+use Rattle.base.proofs.Laws.{apart, clash}
 use Rattle.bitfield.specs.BitField.{framed, runsOn}
 use Rattle.lines.specs.Lines.{Line, linesOf}
 use Rattle.timetable.specs.Delivery.{Files, BitField, StopRecord, Interchange}
@@ -17,9 +18,9 @@ use Rattle.timetable.specs.Files.{Held, skip, broken, held, listed, held-in, ha
 use Rattle.timetable.specs.Checks.{fieldRuns}
 use Rattle.timetable.specs.Load.{delivered}
 use Rattle.timetable.specs.Questions.{interchangeBy, interchangeAtStop}
-use Rattle.whole.specs.Promise.{All, nil, cons}
-use Rattle.whole.proofs.Lists.{apart, clash, all-append, all-to}
-use Rattle.whole.proofs.Clear.{then-none, first-keeps, held-more, Clear}
+use Rattle.timetable.proofs.Offences.{then-none}
+use Rattle.whole.proofs.Lists.{all-append, all-to}
+use Rattle.whole.proofs.Clear.{first-keeps, held-more, Clear}
 
 -- ---- records with a number each
 

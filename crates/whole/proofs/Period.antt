@@ -1,90 +1,33 @@
 -- The period of a delivery without an offence: 1 to 380 days, the last of them no later than 31.12.2199. Assumes nothing.
 use mathlib.Core.Path.{_≡_, refl}
 use mathlib.Core.List.{List, [], _∷_}
-use mathlib.Core.Bool.{Bool, true, false, cond, not, _||_}
+use mathlib.Core.Bool.{Bool, true, false, cond}
 use mathlib.Core.Option.{Option, none}
-use Prim.Native.Nat.{ℕ, zero, suc, _+_, _-_, _≤_}
+use Prim.Native.Nat.{ℕ, _+_, _-_, _≤_}
 use native.Mathlib.Omega.{arith}
-use lib.Dec.{ltb, leb, eqb}
-use borrow.Author.Tests.{ltb-false, eqb-false, not-true}
-use Rattle.base.proofs.Laws.{by-ltb, by-leb}
+use lib.Dec.{leb, eqb}
+use borrow.Author.Tests.{eqb-false}
+use Rattle.base.proofs.Laws.{apart, by-ltb, by-leb}
 use Rattle.columns.specs.Columns.{columns, number}
-use Rattle.calendar.specs.Calendar.{isLeap, yearDays, monthDays, yearsBefore, monthsBefore, exists, dayOf, lastDay, dateIn, periodOf}
+use Rattle.calendar.specs.Calendar.{dayOf, lastDay, dateIn, periodOf}
+use Rattle.calendar.specs.declared.Date.{Date}
 use Rattle.calendar.specs.declared.Date.the-variants.{Day, NoSuchDate}
 use Rattle.calendar.specs.declared.Period.the-variants.{Days, NoPeriod}
+use Rattle.calendar.proofs.Bounds.{day-le-last}
 use Rattle.lines.specs.Lines.{Line}
 use Rattle.timetable.specs.Delivery.{Period}
 use Rattle.timetable.specs.Offences.{Offence, _<|>_, when, first}
 use Rattle.timetable.specs.Files.{dayNumber, periodOffence, orNumber, dateLineOffence, periodLineOffence, periodFirst, daysIn, periodIn}
-use Rattle.whole.proofs.Lists.{apart, and-true}
-use Rattle.whole.proofs.Clear.{then-none, first-none}
+use Rattle.timetable.proofs.Offences.{then-none, first-none}
 
 -- ---- no date is after the last day
 
--- the days of the first k months of a year that is a leap year or not
-unfoldable months : Bool → ℕ → ℕ
-months leap zero = 0
-months leap (suc k) = months leap k + cond (eqb (suc k) 2) (cond leap 29 28) (cond (eqb (suc k) 4 || eqb (suc k) 6 || eqb (suc k) 9 || eqb (suc k) 11) 30 31)
-
-months-are : (y k : ℕ) → monthsBefore y k ≡ months (isLeap y) k
-unfolding monthsBefore months
-months-are y zero = refl
-months-are y (suc k) = rw (months-are y k)
-
-months-grow : (leap : Bool) (k j : ℕ) → months leap k ≤ months leap (j + k)
-unfolding months
-months-grow leap k zero = let e : zero + k ≡ k = omega arith in rw e (omega arith)
-months-grow leap k (suc j) = let e : suc j + k ≡ suc (j + k) = omega arith in rw e (omega (arith, months-grow leap k j))
-
-months-all : (leap : Bool) → months leap 12 ≡ cond leap 366 365
-unfolding months
-months-all true = refl
-months-all false = refl
-
-years-grow : (k j : ℕ) → yearsBefore k ≤ yearsBefore (j + k)
-unfolding yearsBefore
-years-grow k zero = let e : zero + k ≡ k = omega arith in rw e (omega arith)
-years-grow k (suc j) = let e : suc j + k ≡ suc (j + k) = omega arith in rw e (omega (arith, years-grow k j))
-
--- the days of a year, after those of the years before it
-year-end : (y : ℕ) → 1900 ≤ y → y ≤ 2199 → yearsBefore (y - 1900) + yearDays y ≤ lastDay + 1
-unfolding yearsBefore
-year-end y a b =
-    let e : 1900 + (y - 1900) ≡ y = omega arith in
-    let j : 2199 - y + suc (y - 1900) ≡ 300 = omega arith in
-    let m : yearsBefore (suc (y - 1900)) ≤ lastDay + 1 = rw j at (years-grow (suc (y - 1900)) (2199 - y)) in
-    let n : yearsBefore (suc (y - 1900)) ≡ yearsBefore (y - 1900) + yearDays y = rw e refl in
-    omega (arith, m, n)
-
--- the days of a month, after those of the months before it
-month-end : (y m : ℕ) → 1 ≤ m → m ≤ 12 → monthsBefore y (m - 1) + monthDays y m ≤ yearDays y
-unfolding monthsBefore
-month-end y zero a b = absurd (omega arith)
-month-end y (suc k) a b =
-    let e : suc k - 1 ≡ k = omega arith in
-    let t : monthsBefore y (suc k) ≡ monthsBefore y (suc k - 1) + monthDays y (suc k) = rw e refl in
-    let j : 12 - suc k + suc k ≡ 12 = omega arith in
-    let u : months (isLeap y) (suc k) ≤ months (isLeap y) 12 = rw j at (months-grow (isLeap y) (suc k) (12 - suc k)) in
-    omega (arith, t, months-are y (suc k), u, months-all (isLeap y))
-
 pub day-le : (d m y : ℕ) → dayNumber (dayOf d m y) ≤ lastDay
-unfolding dayOf exists
-day-le d m y = go (exists d m y) refl
+day-le d m y = go (dayOf d m y) refl
   where
-    at-most : (a b : ℕ) → not (ltb b a) ≡ true → a ≤ b
-    at-most a b e = ltb-false b a (not-true (ltb b a) e)
-
-    go : (t : Bool) → exists d m y ≡ t → dayNumber (cond t (Day (yearsBefore (y - 1900) + monthsBefore y (m - 1) + (d - 1))) NoSuchDate) ≤ lastDay
-    go false q = omega arith
-    go true q =
-        let a = and-true _ (not (ltb (monthDays y m) d)) q in
-        let b = and-true _ (not (ltb d 1)) (a .0) in
-        let c = and-true _ (not (ltb 12 m)) (b .0) in
-        let g = and-true _ (not (ltb m 1)) (c .0) in
-        let h = and-true (not (ltb y 1900)) (not (ltb 2199 y)) (g .0) in
-        let ye = year-end y (at-most 1900 y (h .0)) (at-most y 2199 (h .1)) in
-        let me = month-end y m (at-most 1 m (g .1)) (at-most m 12 (c .1)) in
-        omega (arith, ye, me, at-most 1 d (b .1), at-most d (monthDays y m) (a .1))
+    go : (o : Date) → dayOf d m y ≡ o → dayNumber o ≤ lastDay
+    go (Day k) e = day-le-last d m y k e
+    go NoSuchDate e = omega arith
 
 -- ---- the period
 

@@ -9,7 +9,8 @@ use native.Mathlib.Omega.{arith}
 use lib.ListN.{length, take, drop}
 use lib.Dec.{ltb, eqb}
 use borrow.Author.Tests.{ltb-true, eqb-false, eq-eqb, ne-eqb}
-use Rattle.base.specs.Lists.{every, upto, below}
+use Rattle.base.specs.Lists.{All, every, upto, below}
+use Rattle.base.proofs.Laws.{apart, clash}
 use Rattle.timetable.specs.Delivery.{CategoryRange, DayRange, Service, Delivery}
 use Rattle.timetable.specs.Offences.{_<|>_}
 use Rattle.timetable.specs.Files.{hasStop}
@@ -17,8 +18,7 @@ use Rattle.timetable.specs.Ranges.{hasArrival, hasDeparture}
 use Rattle.timetable.specs.Checks.{fieldKnown, timesStated, timesRise, lastStated, covers, covering, legCount}
 use Rattle.timetable.specs.Questions.{refuse, legRefusal, firstRefusal, timesNeeded, neededLast, callRefusal, callsRefusal}
 use Rattle.timetable.specs.declared.Call.{Call}
-use Rattle.whole.specs.Promise.{All}
-use Rattle.whole.proofs.Lists.{apart, clash, or-second, all-head, all-tail, all-to, all-drop, every-all}
+use Rattle.whole.proofs.Lists.{or-second, all-head, all-tail, all-to, all-drop, every-all}
 use Rattle.whole.proofs.Lines.{StopKnown, FieldKnown}
 use Rattle.whole.proofs.Right.{Right, Timely}
 use Rattle.whole.proofs.Times.{needed-law, last-law, arrives, departs, timely-drop}

@@ -9,7 +9,9 @@ use native.Mathlib.Omega.{arith}
 use lib.ListN.{length, getElem?}
 use lib.Dec.{leb, eqb}
 use borrow.Author.Tests.{ltb-false, eqb-true}
-use Rattle.base.specs.Lists.{gathered}
+use Rattle.base.specs.Lists.{All, nil, cons, gathered}
+use Rattle.base.proofs.Laws.{apart}
+use Rattle.base.proofs.Loops.{and-true}
 use Rattle.lines.specs.Lines.{Line, linesOf}
 use Rattle.timetable.specs.Delivery.{Files, Legs, CategoryRange, DayRange, Service, Delivery}
 use Rattle.timetable.specs.Plan.{toldIn, tolds, asCall, callsOf}
@@ -18,8 +20,8 @@ use Rattle.timetable.specs.Checks.{timesStated, timesRise, lastStated, callLine
 use Rattle.timetable.specs.Load.{delivered}
 use Rattle.timetable.specs.Table.{serviceSound}
 use Rattle.timetable.specs.declared.Call.{Call}
-use Rattle.whole.specs.Promise.{All, nil, cons, FromText}
-use Rattle.whole.proofs.Lists.{apart, and-true, every-below, none-below}
+use Rattle.whole.specs.Promise.{FromText}
+use Rattle.whole.proofs.Lists.{every-below, none-below}
 use Rattle.whole.proofs.Sound.{service-sound}
 use Rattle.whole.proofs.Clear.{Fair, Clear}
 use Rattle.whole.proofs.Lines.{limits, StopKnown, FieldKnown, lines-read, stops-known, fields-known, nothing-dropped}

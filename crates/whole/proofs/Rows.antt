@@ -10,6 +10,7 @@ use lib.Seq.{drop-append-add, length-take-le, getD-take, getD-drop}
 use lib.Dec.{eqb}
 use borrow.Author.Tests.{eqb-true, ne-eqb}
 use Rattle.base.specs.Lists.{find}
+use Rattle.base.proofs.Lists.{length-map-upto}
 use Rattle.timetable.specs.Delivery.{CategoryRange, Service, Delivery}
 use Rattle.timetable.specs.Files.{hasStop}
 use Rattle.timetable.specs.Checks.{covers, operated, operatedLegs, legCount}
@@ -20,7 +21,7 @@ use Rattle.whole.specs.Promise.{rowIn, noCall, callNo, Stretched}
 use Rattle.whole.proofs.Lists.{all-to, all-at, only-found}
 use Rattle.whole.proofs.Lines.{StopKnown}
 use Rattle.whole.proofs.Right.{Right}
-use Rattle.whole.proofs.Stretch.{Only, legs-at, legs-length}
+use Rattle.whole.proofs.Stretch.{Only, legs-at}
 use Rattle.whole.proofs.Times.{Called, called}
 
 -- ---- rows by their index
@@ -73,7 +74,7 @@ kept-word i k x h = rw (ne-eqb i k h)
 
 module _ (d : Delivery) (s : Service) (h : Right d s) (r k a n : ℕ) (one : Only (operatedLegs (d .fields) s k) a n) where
   pub in-route : a + n ≤ legCount s
-  in-route = let f = one .fits in omega (arith, legs-length (operated (d .fields) (s .days) k) (legCount s) 0)
+  in-route = let f = one .fits in omega (arith, length-map-upto (operated (d .fields) (s .days) k) (legCount s) 0)
 
   pub inside : a + n < length (s .calls)
   inside = let f = in-route in let t = h .two in omega arith

@@ -5,7 +5,7 @@ use mathlib.Core.List.{List}
 use Prim.Native.Nat.{ℕ, zero, suc, _+_, _*_, _<_, _≤_}
 use native.Mathlib.Omega.{arith}
 use lib.ListN.{length, take, drop}
-use Rattle.base.proofs.Laws.{by-ltb}
+use Rattle.base.proofs.Laws.{clash, by-ltb}
 use Rattle.timetable.specs.Delivery.{Files, Service, Delivery}
 use Rattle.timetable.specs.Load.{onto, loaded, written}
 use Rattle.timetable.specs.Table.{word}
@@ -16,7 +16,6 @@ use Rattle.timetable.specs.declared.Loaded.{Loaded}
 use Rattle.timetable.specs.declared.Walked.{Walked}
 use Rattle.timetable.specs.declared.Walked.the-variants.{Listed}
 use Rattle.whole.specs.Promise.{rowIn, RunsNowhere, Stretched, Walk, not-running, runs}
-use Rattle.whole.proofs.Lists.{clash}
 
 -- ---- the entry points
 

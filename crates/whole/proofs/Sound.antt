@@ -8,7 +8,7 @@ use native.Mathlib.Omega.{arith}
 use lib.ListN.{length, getD, drop}
 use lib.Dec.{eqb}
 use borrow.Author.Tests.{le-leb}
-use Rattle.base.specs.Lists.{gathered}
+use Rattle.base.specs.Lists.{All, nil, cons, gathered}
 use Rattle.base.proofs.Laws.{by-leb}
 use Rattle.columns.specs.Columns.{padTo, columns, isBlank, blank, digits, number}
 use Rattle.columns.proofs.Laws.{length-pad, number-lt}
@@ -31,7 +31,7 @@ use Rattle.timetable.specs.declared.DaysLine.{DaysLine}
 use Rattle.timetable.specs.declared.ExtraLine.{ExtraLine}
 use Rattle.timetable.specs.declared.Told.{Told}
 use Rattle.timetable.specs.declared.Told.the-variants.{Skip, Other, Broken, Opens, Category, Days, Extra, Calls}
-use Rattle.whole.specs.Promise.{All, nil, cons}
+use Rattle.timetable.proofs.Lines.{flags-le}
 use Rattle.whole.proofs.Ends.{legs-sound, with-sound}
 use Rattle.whole.proofs.Lists.{cond-all, all-append, all-gathered, every-all}
 
@@ -65,12 +65,6 @@ minutes-le p =
     cond-all (λ (t : Time). minutesOf t ≤ 59999) (blank q) Absent _ (omega arith)
     (cond-all (λ (t : Time). minutesOf t ≤ 59999) (isBlank (getD q 0 32)) (clock false (drop 1 q)) _ (clock-le false (drop 1 q) e)
     (cond-all (λ (t : Time). minutesOf t ≤ 59999) (eqb (getD q 0 32) 45) (clock true (drop 1 q)) NoTime (clock-le true (drop 1 q) e) (omega arith)))
-
-flags-le : (f : ℕ) (t : Time) → flagsOf f t ≤ 5 * f
-flags-le f Absent = omega arith
-flags-le f (Stated minutes true) = omega arith
-flags-le f (Stated minutes false) = omega arith
-flags-le f NoTime = omega arith
 
 call-sound : (text : List ℕ) → callSound (callIn text) ≡ true
 call-sound text =

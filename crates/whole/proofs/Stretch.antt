@@ -93,8 +93,3 @@ legs-upto f (suc n) k (suc j) h = let z : k + suc j ≡ k + 1 + j = omega arith 
 
 pub legs-at : (f : ℕ → Bool) (n j : ℕ) → j < n → getD (map f (below n)) j false ≡ f j
 legs-at f n j h = let z : 0 + j ≡ j = omega arith in legs-upto f n 0 j h ∙ ap f z
-
-pub legs-length : (f : ℕ → Bool) (n k : ℕ) → length (map f (upto n k)) ≡ n
-unfolding upto
-legs-length f zero k = refl
-legs-length f (suc n) k = ap suc (legs-length f n (k + 1))

@@ -9,11 +9,13 @@ use lib.ListN.{length, getD, drop}
 use lib.Seq.{drop-cons}
 use lib.Dec.{leb, eqb}
 use borrow.Author.Tests.{le-leb, leb-true, ne-eqb}
+use Rattle.base.proofs.Laws.{clash}
+use Rattle.base.proofs.Loops.{and-true}
 use Rattle.timetable.specs.Ranges.{hasArrival, hasDeparture}
 use Rattle.timetable.specs.Checks.{timesStated, timesRise, lastStated}
 use Rattle.timetable.specs.declared.Call.{Call}
 use Rattle.whole.specs.Promise.{noCall}
-use Rattle.whole.proofs.Lists.{clash, and-true, or-other}
+use Rattle.whole.proofs.Lists.{or-other}
 use Rattle.whole.proofs.Right.{Timely}
 
 -- ---- one call: ha, hd say whether its arrival and departure are stated, b is the time stated before

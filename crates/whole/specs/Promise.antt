@@ -5,13 +5,13 @@
 -- Proved in proofs/Demand3.antt: `demand3` (what the walk is), `demand3-rows` (its answer and the rows afterwards, given room), `only-29` (with less
 -- room); in proofs/Slack.antt: `no-slack`, `never-fall`. Assumes nothing.
 use mathlib.Core.Path.{_≡_}
-use mathlib.Core.List.{List, [], _∷_}
+use mathlib.Core.List.{List}
 use mathlib.Core.Bool.{true, false}
 use mathlib.Core.Option.{some}
 use Prim.Native.Nat.{ℕ, _+_, _*_, _/_, _%_, _<_, _≤_}
 use lib.ListN.{length, getD, take, drop, getElem?}
 use lib.Dec.{eqb}
-use Rattle.base.specs.Lists.{find}
+use Rattle.base.specs.Lists.{All, find}
 use Rattle.bitfield.specs.BitField.{runsOn}
 use Rattle.calendar.specs.Calendar.{dayOf}
 use Rattle.calendar.specs.declared.Date.the-variants.{Day}
@@ -29,11 +29,6 @@ use Rattle.timetable.specs.declared.Told.{Told}
 use Rattle.timetable.specs.declared.Told.the-variants.{Other, Broken}
 use Rattle.timetable.specs.declared.Walked.{Walked}
 use Rattle.timetable.specs.declared.Walked.the-variants.{Listed, NotRunning}
-
--- each element is as it should be
-pub data All {X : Type 0} (ok : X → Type 0) : List X → Type 0 where
-  nil : All ok []
-  cons : {x : X} {xs : List X} → ok x → All ok xs → All ok (x ∷ xs)
 
 -- row q of the rows of a walk
 unfoldable pub rowIn : List ℕ → ℕ → List ℕ
@@ -72,7 +67,8 @@ pub record Stretched (d : Delivery) (s : Service) (r k : ℕ) (ws : List ℕ) : 
   pub forward : (q : ℕ) → q < legs → word (rowIn ws q) 2 ≤ word (rowIn ws (q + 1)) 1
   -- one category for each leg, the one that its row states
   pub one-category : (q : ℕ) → q < legs → covering (λ (g : CategoryRange). g .legs) (s .categories) (start + q) ≡ 1
-  pub category : (q : ℕ) → q < legs → All (λ (g : CategoryRange). covers (start + q) (g .legs) ≡ true → g .name ≡ word (rowIn ws q) 4) (s .categories)
+  pub category : (q : ℕ) → q < legs
+      → All (λ (g : CategoryRange). covers (start + q) (g .legs) ≡ true → g .name ≡ word (rowIn ws q) 4) (s .categories)
   -- every stop is in BAHNHOF
   pub stop : (q : ℕ) → q ≤ legs → hasStop (word (rowIn ws q) 0) (d .stops) ≡ true
 
@@ -98,10 +94,12 @@ pub record Demand3 (f : Files) (i : ℕ) (s : Service) (r k : ℕ) (j : Journey)
   pub idle-only : j ≡ idle → RunsNowhere (delivered f) s k
   pub idle-always : RunsNowhere (delivered f) s k → j ≡ idle
   -- each leg has exactly one operating-day range, and each such range a bit field that BITFELD holds
-  pub one-range : (j : ℕ) → j < legCount s → covering (λ (g : DayRange). g .legs) (s .days) j ≡ 1
+  pub one-range : (leg : ℕ) → leg < legCount s → covering (λ (g : DayRange). g .legs) (s .days) leg ≡ 1
   pub fields-known : All (λ (g : DayRange). fieldKnown (g .field) (delivered f .fields) ≡ true) (s .days)
   -- a leg operates exactly when the bit field of its range runs, and a bit field runs by the bits of its own line
-  pub leg-days : (j : ℕ) → j < legCount s → All (λ (g : DayRange). covers j (g .legs) ≡ true → operated (delivered f .fields) (s .days) k j ≡ fieldRuns (delivered f .fields) (g .field) k) (s .days)
+  pub leg-days : (leg : ℕ) → leg < legCount s
+      → All (λ (g : DayRange). covers leg (g .legs) ≡ true
+      → operated (delivered f .fields) (s .days) k leg ≡ fieldRuns (delivered f .fields) (g .field) k) (s .days)
   pub field-days : All (λ (b : BitField). fieldRuns (delivered f .fields) (b .number) k ≡ runsOn (b .words) k) (delivered f .fields)
   -- what is found in BAHNHOF and UMSTEIGB by a line's number is that line's own
   pub own-stop : All (λ (x : StopRecord). find (λ (y : StopRecord). eqb (y .number) (x .number)) (delivered f .stops) ≡ some x) (delivered f .stops)

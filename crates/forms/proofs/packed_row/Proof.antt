@@ -8,9 +8,6 @@ row-end-requires c κs = search forms
 cast-row-form : tie.Need-cast-row-form
 cast-row-form c = search forms
 
-cast-row-form-2 : tie.Need-cast-row-form-2
-cast-row-form-2 c = search forms
-
 row-form-requires : tie.Need-row-form-requires
 row-form-requires c κs = search forms
 
@@ -19,4 +16,4 @@ returns c = search forms
 
 pub packed-row-spec : {M : Type 1} → statement M
 packed-row-spec =
-    tie.close (tie.spec row-end-requires cast-row-form cast-row-form-2 row-form-requires returns)
+    tie.close (tie.spec row-end-requires cast-row-form row-form-requires returns)

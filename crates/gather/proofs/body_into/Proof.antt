@@ -1,9 +1,8 @@
 use mathlib.Core.List.{List}
-use native.Mathlib.Omega.{arith}
 use lib.ListN.{drop, replicate}
 use Rattle.lines.specs.Lines.{Line, linesFrom}
 use Rattle.timetable.specs.Plan.{callsOf}
-use Rattle.gather.proofs.Whole.{filling, calls-back}
+use Rattle.gather.proofs.Calls.{filling, calls-part}
 use Rattle.gather.proofs.body_into.Statement.{statement}
 use Rattle.gather.proofs.body_into.Tie as tie
 
@@ -13,17 +12,29 @@ slice-aggregate-calls-into c = search filling
 calls-into-requires : tie.Need-calls-into-requires
 calls-into-requires c κs = search filling
 
-slice-aggregate-body-with : tie.Need-slice-aggregate-body-with
-slice-aggregate-body-with c = search filling
+cast-end : tie.Need-cast-end
+cast-end c = search filling
+
+mul-end : tie.Need-mul-end
+mul-end c = search filling
+
+sub-body-with : tie.Need-sub-body-with
+sub-body-with c = search filling
+
+part-body-with-start : tie.Need-part-body-with-start
+part-body-with-start c = search filling
+
+part-body-with-end : tie.Need-part-body-with-end
+part-body-with-end c = search filling
 
 body-with-requires : tie.Need-body-with-requires
 body-with-requires c κs =
-    let k = c .before .before .before .before .before .before .before in
+    let k = c .before .before .before .before .before .before .before .before in
     let a = k .args in
-    let ls : List Line = linesFrom (a .no) (a .at) (drop (a .at) (a .b .now)) in
-    let x = c .before .before .before .calls-into in (
-      (omega (arith, k .pre .0 .0), k .pre .0 .1, k .pre .0 .2, omega (arith, x .ensures .0, x .kept .1 .1 .1 .0, k .pre .1 .0)),
-      (calls-back (replicate 800 0) (x .last .1 .1 .1 .0) (callsOf ls) (x .result) (x .ensures .0) (x .ensures .1), (k .pre .1 .1 .0, k .pre .1 .1 .1)),
+    let ls : List Line = linesFrom (a .number) (a .place) (drop (a .place) (a .block .now)) in
+    let x = c .before .before .before .before .calls-into in (
+      (search filling, search filling, search filling),
+      ((calls-part (replicate 800 0) (x .last .1 .1 .1 .0) (callsOf ls) (x .result) (x .ensures .0) (x .ensures .1), x .ensures .0), (k .pre .1 .1 .0, k .pre .1 .1 .1)),
     )
 
 same-length : tie.Need-same-length
@@ -38,7 +49,11 @@ body-into-spec =
     (tie.spec
     slice-aggregate-calls-into
     calls-into-requires
-    slice-aggregate-body-with
+    cast-end
+    mul-end
+    sub-body-with
+    part-body-with-start
+    part-body-with-end
     body-with-requires
     same-length
     returns)

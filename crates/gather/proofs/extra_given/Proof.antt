@@ -7,7 +7,7 @@ enum-known-told : tie.Need-enum-known-told
 enum-known-told c = search gives
 
 returns : tie.Need-returns
-returns c = no-extra (c .before .before .args .told) (callsIn (c .before .before .args .c) (c .before .before .args .w .now)) (c .match .keys2)
+returns c = no-extra (c .before .before .args .told) (callsIn (c .before .before .args .count) (c .before .before .args .calls .now)) (c .match .keys2)
 
 legs-of-requires : tie.Need-legs-of-requires
 legs-of-requires c κs = search gives

@@ -5,52 +5,40 @@ use Rattle.gather.proofs.given_by.Tie as tie
 enum-told : tie.Need-enum-told
 enum-told c = search gives
 
-call-given-requires : tie.Need-call-given-requires
-call-given-requires c κs = search gives
+category-given-requires : tie.Need-category-given-requires
+category-given-requires c κs = search gives
 
 enum-told-2 : tie.Need-enum-told-2
 enum-told-2 c = search gives
 
-category-given-requires : tie.Need-category-given-requires
-category-given-requires c κs = search gives
+day-range-given-requires : tie.Need-day-range-given-requires
+day-range-given-requires c κs = search gives
 
 enum-told-3 : tie.Need-enum-told-3
 enum-told-3 c = search gives
-
-days-given-requires : tie.Need-days-given-requires
-days-given-requires c κs = search gives
-
-enum-told-4 : tie.Need-enum-told-4
-enum-told-4 c = search gives
 
 extra-given-requires : tie.Need-extra-given-requires
 extra-given-requires c κs = search gives
 
 returns : tie.Need-returns
-returns c = rw (c .before .enum-told .given .1) (c .call-given .ensures)
+returns c = rw (c .before .enum-told .given .1) (c .category-given .ensures)
 
 returns-2 : tie.Need-returns-2
-returns-2 c = rw (c .before .enum-told2 .given .1) (c .category-given .ensures)
+returns-2 c = rw (c .before .enum-told2 .given .1) (c .day-range-given .ensures)
 
 returns-3 : tie.Need-returns-3
-returns-3 c = rw (c .before .enum-told3 .given .1) (c .days-given .ensures)
-
-returns-4 : tie.Need-returns-4
-returns-4 c = rw (c .before .enum-told4 .given .1) (c .extra-given .ensures)
+returns-3 c = rw (c .before .enum-told3 .given .1) (c .extra-given .ensures)
 
 pub given-by-spec : {M : Type 1} → statement M
 given-by-spec =
     tie.close
     (tie.spec
     enum-told
-    call-given-requires
-    enum-told-2
     category-given-requires
+    enum-told-2
+    day-range-given-requires
     enum-told-3
-    days-given-requires
-    enum-told-4
     extra-given-requires
     returns
     returns-2
-    returns-3
-    returns-4)
+    returns-3)

@@ -10,10 +10,13 @@ use Rattle.gather.proofs.part_into.Statement.{statement}
 use Rattle.gather.proofs.part_into.Tie as tie
 
 abbrev Inv-loop : tie.InvT-loop
-Inv-loop part b at no' w c t₀ to place₀ line₀ q₀ t place line q = (length t ≡ length t₀) × (line ≤ place + 1) × (q + length (partWords part (callsIn c w) (linesFrom line place (drop place b))) ≡ to + length (partWords part (callsIn c w) (linesFrom no' at (drop at b)))) × (write t q (partWords part (callsIn c w) (linesFrom line place (drop place b))) ≡ write t₀ to (partWords part (callsIn c w) (linesFrom no' at (drop at b))))
+Inv-loop part block place number calls count table₀ at start₀ line₀ to₀ table start line to =
+    (length table ≡ length table₀) × (line ≤ start + 1)
+    × (to + length (partWords part (callsIn count calls) (linesFrom line start (drop start block))) ≡ at + length (partWords part (callsIn count calls) (linesFrom number place (drop place block))))
+    × (write table to (partWords part (callsIn count calls) (linesFrom line start (drop start block))) ≡ write table₀ at (partWords part (callsIn count calls) (linesFrom number place (drop place block))))
 
 abbrev μ-loop : tie.MeasureT-loop
-μ-loop part b at no' w c t₀ to place₀ line₀ q₀ t place line q = length b - place
+μ-loop part block place number calls count table₀ at start₀ line₀ to₀ table start line to = length block - start
 
 loop-holds : tie.Need-loop-holds Inv-loop μ-loop
 loop-holds c = search puts

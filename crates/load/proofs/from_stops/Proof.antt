@@ -11,8 +11,8 @@ enum-known-scan c = search scans
 enum-known-scan-2 : tie.Need-enum-known-scan-2
 enum-known-scan-2 c = search scans
 
-from-records-requires : tie.Need-from-records-requires
-from-records-requires c κs = search scans
+from-interchanges-requires : tie.Need-from-interchanges-requires
+from-interchanges-requires c κs = search scans
 
 returns : tie.Need-returns
 returns c = search scans
@@ -27,6 +27,6 @@ from-stops-spec =
     check-stops-requires
     enum-known-scan
     enum-known-scan-2
-    from-records-requires
+    from-interchanges-requires
     returns
     returns-2)

@@ -1,6 +1,6 @@
 use Prim.Native.Nat.{_-_}
-use Rattle.bitfield.proofs.Fill.{Filled}
-use Rattle.look.proofs.Sections.{wordFrom, words}
+use Rattle.bitfield.proofs.Fill.{Filled, wordFrom}
+use Rattle.look.proofs.Sections.{words}
 use Rattle.look.proofs.words_at.Statement.{statement}
 use Rattle.look.proofs.words_at.Tie as tie
 

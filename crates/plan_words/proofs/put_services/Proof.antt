@@ -13,13 +13,13 @@ use Rattle.plan_words.proofs.put_services.Statement.{statement}
 use Rattle.plan_words.proofs.put_services.Tie as tie
 
 abbrev Inv-loop : tie.InvT-loop
-Inv-loop f start first t₀ q at₀ no₀ to₀ t at no' to =
-    (length t ≡ length t₀) × Boundary f at no' × (fewCalls (blocks (linesAt f at no')) ≡ true)
-    × (to + length (blockWords (blocks (linesAt f at no'))) ≡ q + length (blockWords (blocks (linesAt f start first))))
-    × (write t to (blockWords (blocks (linesAt f at no'))) ≡ write t₀ q (blockWords (blocks (linesAt f start first))))
+Inv-loop fplan start first table₀ at place₀ no₀ to₀ table place no' to =
+    (length table ≡ length table₀) × Boundary fplan place no' × (fewCalls (blocks (linesAt fplan place no')) ≡ true)
+    × (to + length (blockWords (blocks (linesAt fplan place no'))) ≡ at + length (blockWords (blocks (linesAt fplan start first))))
+    × (write table to (blockWords (blocks (linesAt fplan place no'))) ≡ write table₀ at (blockWords (blocks (linesAt fplan start first))))
 
 abbrev μ-loop : tie.MeasureT-loop
-μ-loop f start first t₀ q at₀ no₀ to₀ t at no' to = length f - at
+μ-loop fplan start first table₀ at place₀ no₀ to₀ table place no' to = length fplan - place
 
 loop-holds : tie.Need-loop-holds Inv-loop μ-loop
 loop-holds c = search putting

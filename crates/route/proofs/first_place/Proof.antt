@@ -8,10 +8,10 @@ use Rattle.route.proofs.first_place.Statement.{statement}
 use Rattle.route.proofs.first_place.Tie as tie
 
 abbrev Inv-loop : tie.InvT-loop
-Inv-loop w c s i₀ at₀ i at = (at ≡ i * 4) × (placesFrom (meets s) w c i at ≡ places (meets s) 0 (callsIn c w))
+Inv-loop w c s i₀ at₀ i at = (at ≡ i .0 * 4) × (placesFrom (meets s) w c (i .0) at ≡ places (meets s) 0 (callsIn c w))
 
 abbrev μ-loop : tie.MeasureT-loop
-μ-loop w c s i₀ at₀ i at = c - i
+μ-loop w c s i₀ at₀ i at = c - i .0
 
 loop-holds : tie.Need-loop-holds Inv-loop μ-loop
 loop-holds c = search firsts
@@ -25,8 +25,8 @@ returns c = search firsts
 add-at : tie.Need-add-at Inv-loop μ-loop
 add-at c = search firsts
 
-add-i : tie.Need-add-i Inv-loop μ-loop
-add-i c = search firsts
+add-t8 : tie.Need-add-t8 Inv-loop μ-loop
+add-t8 c = search firsts
 
 loop-less : tie.Need-loop-less Inv-loop μ-loop
 loop-less c = search firsts
@@ -47,7 +47,7 @@ first-place-spec =
     sought-at-requires
     returns
     add-at
-    add-i
+    add-t8
     loop-less
     loop-again
     returns-2)

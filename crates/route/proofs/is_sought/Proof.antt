@@ -1,10 +1,12 @@
-use mathlib.Core.Path.{refl}
 use Rattle.base.proofs.Laws.{tests}
 use Rattle.route.proofs.is_sought.Statement.{statement}
 use Rattle.route.proofs.is_sought.Tie as tie
 
 enum-known-s : tie.Need-enum-known-s
 enum-known-s c = search tests
+
+same-stop-requires : tie.Need-same-stop-requires
+same-stop-requires c κs = search tests
 
 enum-known-s-2 : tie.Need-enum-known-s-2
 enum-known-s-2 c = search tests
@@ -19,7 +21,7 @@ timed-requires-2 : tie.Need-timed-requires-2
 timed-requires-2 c κs = search tests
 
 returns : tie.Need-returns
-returns c = rw (c .before .before .s .given .1) refl
+returns c = rw (c .before .before .s .given .1) (c .same-stop .ensures)
 
 returns-2 : tie.Need-returns-2
 returns-2 c = rw (c .before .before .s2 .given .1) (c .timed .ensures)
@@ -32,6 +34,7 @@ is-sought-spec =
     tie.close
     (tie.spec
     enum-known-s
+    same-stop-requires
     enum-known-s-2
     timed-requires
     enum-known-s-3

@@ -1,4 +1,4 @@
--- The last call sought is among those that are left. Assumes nothing.
+-- The last call sought is among those before call i. Assumes nothing.
 use mathlib.Core.Path.{_≡_}
 use Prim.Native.Nat.{_*_, _≤_}
 use Rattle.timetable.specs.Ranges.{places, lastPlace}
@@ -8,10 +8,10 @@ use Rattle.route.proofs.last_place.Statement.{statement}
 use Rattle.route.proofs.last_place.Tie as tie
 
 abbrev Inv-loop : tie.InvT-loop
-Inv-loop w c s left₀ at₀ left at = (left ≤ c) × (at ≡ left * 4) × (lastPlace (places (meets s) 0 (callsIn left w)) ≡ lastPlace (places (meets s) 0 (callsIn c w)))
+Inv-loop w c s i₀ at₀ i at = (i .0 ≤ c) × (at ≡ i .0 * 4) × (lastPlace (places (meets s) 0 (callsIn (i .0) w)) ≡ lastPlace (places (meets s) 0 (callsIn c w)))
 
 abbrev μ-loop : tie.MeasureT-loop
-μ-loop w c s left₀ at₀ left at = left
+μ-loop w c s i₀ at₀ i at = i .0
 
 calls-end-requires : tie.Need-calls-end-requires Inv-loop μ-loop
 calls-end-requires c κs = search lasts
@@ -22,8 +22,8 @@ loop-holds c = search lasts
 sub-at : tie.Need-sub-at Inv-loop μ-loop
 sub-at c = search lasts
 
-sub-left : tie.Need-sub-left Inv-loop μ-loop
-sub-left c = search lasts
+sub-t7 : tie.Need-sub-t7 Inv-loop μ-loop
+sub-t7 c = search lasts
 
 sought-at-requires : tie.Need-sought-at-requires Inv-loop μ-loop
 sought-at-requires c κs = search lasts
@@ -49,7 +49,7 @@ last-place-spec =
     calls-end-requires
     loop-holds
     sub-at
-    sub-left
+    sub-t7
     sought-at-requires
     returns
     loop-less

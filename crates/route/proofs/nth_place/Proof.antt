@@ -9,22 +9,22 @@ use Rattle.route.proofs.nth_place.Statement.{statement}
 use Rattle.route.proofs.nth_place.Tie as tie
 
 abbrev Inv-loop : tie.InvT-loop
-Inv-loop w c n before₀ index₀ at₀ before index at = (at ≡ index * 4) × (getElem? (placesFrom (callsAt n) w c index at) before ≡ getElem? (places (callsAt n) 0 (callsIn c w)) before₀)
+Inv-loop w c n before₀ index₀ at₀ before index at = (at ≡ index .0 * 4) × (getElem? (placesFrom (callsAt n) w c (index .0) at) (before .0) ≡ getElem? (places (callsAt n) 0 (callsIn c w)) (before₀ .0))
 
 abbrev μ-loop : tie.MeasureT-loop
-μ-loop w c n before₀ index₀ at₀ before index at = c - index
+μ-loop w c n before₀ index₀ at₀ before index at = c - index .0
 
 loop-holds : tie.Need-loop-holds Inv-loop μ-loop
 loop-holds c = search nths
 
-mul-appears : tie.Need-mul-appears Inv-loop μ-loop
-mul-appears c = search nths
+mul-t10 : tie.Need-mul-t10 Inv-loop μ-loop
+mul-t10 c = search nths
 
-shared-slice-read-appears : tie.Need-shared-slice-read-appears Inv-loop μ-loop
-shared-slice-read-appears c = search nths
+shared-slice-read-t12 : tie.Need-shared-slice-read-t12 Inv-loop μ-loop
+shared-slice-read-t12 c = search nths
 
-appears-requires : tie.Need-appears-requires Inv-loop μ-loop
-appears-requires c κs = search nths
+appearances-requires : tie.Need-appearances-requires Inv-loop μ-loop
+appearances-requires c κs = search nths
 
 returns : tie.Need-returns Inv-loop μ-loop
 returns c = search nths
@@ -32,8 +32,8 @@ returns c = search nths
 add-at : tie.Need-add-at Inv-loop μ-loop
 add-at c = search nths
 
-add-index : tie.Need-add-index Inv-loop μ-loop
-add-index c = search nths
+add-t12 : tie.Need-add-t12 Inv-loop μ-loop
+add-t12 c = search nths
 
 loop-less : tie.Need-loop-less Inv-loop μ-loop
 loop-less c = search nths
@@ -51,12 +51,12 @@ nth-place-spec =
     Inv-loop
     μ-loop
     loop-holds
-    mul-appears
-    shared-slice-read-appears
-    appears-requires
+    mul-t10
+    shared-slice-read-t12
+    appearances-requires
     returns
     add-at
-    add-index
+    add-t12
     loop-less
     loop-again
     returns-2)

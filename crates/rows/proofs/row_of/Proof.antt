@@ -5,17 +5,17 @@ use Rattle.rows.proofs.row_of.Tie as tie
 interchange-at-requires : tie.Need-interchange-at-requires
 interchange-at-requires c κs = search row
 
-add-either : tie.Need-add-either
-add-either c = search row
+add-choose : tie.Need-add-choose
+add-choose c = search row
 
-either-requires : tie.Need-either-requires
-either-requires c κs = search row
+choose-requires : tie.Need-choose-requires
+choose-requires c κs = search row
 
-add-either-2 : tie.Need-add-either-2
-add-either-2 c = search row
+add-choose-2 : tie.Need-add-choose-2
+add-choose-2 c = search row
 
-either-requires-2 : tie.Need-either-requires-2
-either-requires-2 c κs = search row
+choose-requires-2 : tie.Need-choose-requires-2
+choose-requires-2 c κs = search row
 
 row-flags-requires : tie.Need-row-flags-requires
 row-flags-requires c κs = search row
@@ -34,10 +34,10 @@ row-of-spec =
     tie.close
     (tie.spec
     interchange-at-requires
-    add-either
-    either-requires
-    add-either-2
-    either-requires-2
+    add-choose
+    choose-requires
+    add-choose-2
+    choose-requires-2
     row-flags-requires
     add-leaving
     leaving-requires

@@ -8,11 +8,11 @@ slice-aggregate-lend-bits c = search torns
 lend-bits-requires : tie.Need-lend-bits-requires
 lend-bits-requires c κs = search torns
 
-slice-aggregate-torn-days : tie.Need-slice-aggregate-torn-days
-slice-aggregate-torn-days c = search torns
+slice-aggregate-two-stretches : tie.Need-slice-aggregate-two-stretches
+slice-aggregate-two-stretches c = search torns
 
-torn-days-requires : tie.Need-torn-days-requires
-torn-days-requires c κs = search torns
+two-stretches-requires : tie.Need-two-stretches-requires
+two-stretches-requires c κs = search torns
 
 returns : tie.Need-returns
 returns c = search torns
@@ -26,7 +26,7 @@ torn-offence-spec =
     (tie.spec
     slice-aggregate-lend-bits
     lend-bits-requires
-    slice-aggregate-torn-days
-    torn-days-requires
+    slice-aggregate-two-stretches
+    two-stretches-requires
     returns
     returns-2)

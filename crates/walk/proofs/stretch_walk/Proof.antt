@@ -8,6 +8,9 @@ calls-refusal-requires c κs = search stretch
 returns : tie.Need-returns
 returns c = (search stretch, search stretch)
 
+cast-needed : tie.Need-cast-needed
+cast-needed c = search stretch
+
 add-needed : tie.Need-add-needed
 add-needed c = search stretch
 
@@ -21,10 +24,10 @@ returns-2 : tie.Need-returns-2
 returns-2 c = (search stretch, search stretch)
 
 rows-into-requires : tie.Need-rows-into-requires
-rows-into-requires c κs = search stretch
+rows-into-requires c κs = (search stretch, (search stretch, (search stretch, search stretch)))
 
-add-t10 : tie.Need-add-t10
-add-t10 c = search stretch
+add-t11 : tie.Need-add-t11
+add-t11 c = search stretch
 
 same-length : tie.Need-same-length
 same-length c = search stretch
@@ -38,11 +41,12 @@ stretch-walk-spec =
     (tie.spec
     calls-refusal-requires
     returns
+    cast-needed
     add-needed
     mul-needed
     size-requires
     returns-2
     rows-into-requires
-    add-t10
+    add-t11
     same-length
     returns-3)

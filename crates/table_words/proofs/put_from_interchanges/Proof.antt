@@ -1,6 +1,6 @@
 use Rattle.table_words.proofs.Laws.{joining}
-use Rattle.table_words.proofs.put_interchanges.Statement.{statement}
-use Rattle.table_words.proofs.put_interchanges.Tie as tie
+use Rattle.table_words.proofs.put_from_interchanges.Statement.{statement}
+use Rattle.table_words.proofs.put_from_interchanges.Tie as tie
 
 put-section-requires : tie.Need-put-section-requires
 put-section-requires c κs = search joining
@@ -14,6 +14,6 @@ same-length c = search joining
 returns : tie.Need-returns
 returns c = search joining
 
-pub put-interchanges-spec : {M : Type 1} → statement M
-put-interchanges-spec =
+pub put-from-interchanges-spec : {M : Type 1} → statement M
+put-from-interchanges-spec =
     tie.close (tie.spec put-section-requires put-plan-requires same-length returns)

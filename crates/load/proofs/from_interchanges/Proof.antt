@@ -1,6 +1,6 @@
 use Rattle.load.proofs.Files.{scans}
-use Rattle.load.proofs.from_records.Statement.{statement}
-use Rattle.load.proofs.from_records.Tie as tie
+use Rattle.load.proofs.from_interchanges.Statement.{statement}
+use Rattle.load.proofs.from_interchanges.Tie as tie
 
 check-interchanges-requires : tie.Need-check-interchanges-requires
 check-interchanges-requires c κs = search scans
@@ -20,8 +20,8 @@ returns c = search scans
 returns-2 : tie.Need-returns-2
 returns-2 c = search scans
 
-pub from-records-spec : {M : Type 1} → statement M
-from-records-spec =
+pub from-interchanges-spec : {M : Type 1} → statement M
+from-interchanges-spec =
     tie.close
     (tie.spec
     check-interchanges-requires

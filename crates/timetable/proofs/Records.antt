@@ -1,31 +1,19 @@
--- The records of a table read back from their words, whatever words follow: those of one size each, and services. Assumes nothing.
+-- The records of a table, as they are written and as they are read: how many words they take, and that they are read back from their words,
+-- whatever words follow. Assumes nothing.
 use mathlib.Core.Path.{_≡_, refl, sym, ap, _∙_}
 use mathlib.Core.List.{List, [], _∷_, _++_, append-assoc}
 use Prim.Native.Nat.{ℕ, _+_, _*_}
 use native.Mathlib.Omega.{arith}
 use lib.ListN.{length, drop, length-append}
 use lib.Seq.{drop-at, take-at, drop-drop}
-use Rattle.base.specs.Lists.{gathered}
-use Rattle.columns.specs.Columns.{number}
+use Rattle.base.specs.Lists.{All, gathered}
 use Rattle.timetable.specs.Delivery.{BitField, StopRecord, Interchange, CategoryRange, DayRange, ExtraRange, Service}
 use Rattle.timetable.specs.Load.{bitFieldWords, stopWords, interchangeWords, callWords, categoryWords, dayWords, extraWords, bitFieldSize, stopSize, interchangeSize, serviceHead, callSize, categorySize, daySize, extraSize, serviceSize, headWords, serviceWords}
 use Rattle.timetable.specs.Table.{word, rowsIn, bitFieldAt, stopAt, interchangeAt, callAt, categoryAt, dayAt, extraAt, serviceAt, servicesIn}
 use Rattle.timetable.specs.declared.Call.{Call}
-use Rattle.whole.specs.Promise.{All, nil, cons}
-use Rattle.whole.proofs.Lists.{all-of}
+use Rattle.timetable.proofs.Rows.{any, all-any, length-gathered, rows-back}
 
 -- ---- records of one size
-
-module _ {X : Type 0} (f : List ℕ → X) (g : X → List ℕ) (size : ℕ) (ok : X → Type 0) (long : (x : X) → ok x → length (g x) ≡ size) (back : (x : X) (r : List ℕ) → ok x → f (g x ++ r) ≡ x) where
-  rows-back : {xs : List X} (r : List ℕ) → All ok xs → rowsIn f size (length xs) (gathered g xs ++ r) ≡ xs
-  unfolding rowsIn gathered
-  rows-back r nil = refl
-  rows-back r (cons {x} {xs} h t) = rw (append-assoc (g x) (gathered g xs) r, back x (gathered g xs ++ r) h, drop-at (g x) (gathered g xs ++ r) size (long x h), rows-back r t)
-
-  rows-length : {xs : List X} → All ok xs → length (gathered g xs) ≡ size * length xs
-  unfolding gathered
-  rows-length nil = omega arith
-  rows-length (cons {x} {xs} h t) = length-append (g x) (gathered g xs) ∙ omega (arith, long x h, rows-length t)
 
 -- a bit field has twelve words; the other records have their size by themselves
 abbrev pub twelve : BitField → Type 0
@@ -35,53 +23,52 @@ twelve-back : (b : BitField) (r : List ℕ) → twelve b → bitFieldAt (bitFiel
 twelve-back b r h = λ i. record { number = b .number; words = take-at (b .words) r 12 h i }
 
 pub fields-back : {xs : List BitField} (r : List ℕ) → All twelve xs → rowsIn bitFieldAt bitFieldSize (length xs) (gathered bitFieldWords xs ++ r) ≡ xs
-fields-back = rows-back bitFieldAt bitFieldWords bitFieldSize twelve (λ b k. omega (arith, k)) twelve-back
+fields-back = rows-back bitFieldWords bitFieldSize twelve (λ b k. omega (arith, k)) bitFieldAt twelve-back
 
 pub fields-length : {xs : List BitField} → All twelve xs → length (gathered bitFieldWords xs) ≡ bitFieldSize * length xs
-fields-length = rows-length bitFieldAt bitFieldWords bitFieldSize twelve (λ b k. omega (arith, k)) twelve-back
+fields-length = length-gathered bitFieldWords bitFieldSize twelve (λ b k. omega (arith, k))
 
-module _ {X : Type 0} (f : List ℕ → X) (g : X → List ℕ) (size : ℕ) (long : (x : X) → length (g x) ≡ size) (back : (x : X) (r : List ℕ) → f (g x ++ r) ≡ x) (xs : List X) where
-  any-back : (r : List ℕ) → rowsIn f size (length xs) (gathered g xs ++ r) ≡ xs
-  any-back r = rows-back f g size (λ x. Unit {0}) (λ x k. long x) (λ x q k. back x q) r (all-of (λ x. Unit {0}) (λ x. tt) xs)
+any-back : {X : Type 0} (f : List ℕ → X) (g : X → List ℕ) (size : ℕ) → ((x : X) → length (g x) ≡ size) → ((x : X) (r : List ℕ) → f (g x ++ r) ≡ x) → (xs : List X) (r : List ℕ) → rowsIn f size (length xs) (gathered g xs ++ r) ≡ xs
+any-back f g size long back xs r = rows-back g size any (λ x k. long x) f (λ x q k. back x q) r (all-any xs)
 
-  any-length : length (gathered g xs) ≡ size * length xs
-  any-length = rows-length f g size (λ x. Unit {0}) (λ x k. long x) (λ x q k. back x q) (all-of (λ x. Unit {0}) (λ x. tt) xs)
+any-length : {X : Type 0} (g : X → List ℕ) (size : ℕ) → ((x : X) → length (g x) ≡ size) → (xs : List X) → length (gathered g xs) ≡ size * length xs
+any-length g size long xs = length-gathered g size any (λ x k. long x) (all-any xs)
 
 pub stops-back : (xs : List StopRecord) (r : List ℕ) → rowsIn stopAt stopSize (length xs) (gathered stopWords xs ++ r) ≡ xs
 stops-back = any-back stopAt stopWords stopSize (λ x. refl) (λ x r. refl)
 
 pub stops-length : (xs : List StopRecord) → length (gathered stopWords xs) ≡ stopSize * length xs
-stops-length = any-length stopAt stopWords stopSize (λ x. refl) (λ x r. refl)
+stops-length = any-length stopWords stopSize (λ x. refl)
 
 pub interchanges-back : (xs : List Interchange) (r : List ℕ) → rowsIn interchangeAt interchangeSize (length xs) (gathered interchangeWords xs ++ r) ≡ xs
 interchanges-back = any-back interchangeAt interchangeWords interchangeSize (λ x. refl) (λ x r. refl)
 
 pub interchanges-length : (xs : List Interchange) → length (gathered interchangeWords xs) ≡ interchangeSize * length xs
-interchanges-length = any-length interchangeAt interchangeWords interchangeSize (λ x. refl) (λ x r. refl)
+interchanges-length = any-length interchangeWords interchangeSize (λ x. refl)
 
-calls-back : (xs : List Call) (r : List ℕ) → rowsIn callAt callSize (length xs) (gathered callWords xs ++ r) ≡ xs
+pub calls-back : (xs : List Call) (r : List ℕ) → rowsIn callAt callSize (length xs) (gathered callWords xs ++ r) ≡ xs
 calls-back = any-back callAt callWords callSize (λ x. refl) (λ x r. refl)
 
-calls-length : (xs : List Call) → length (gathered callWords xs) ≡ callSize * length xs
-calls-length = any-length callAt callWords callSize (λ x. refl) (λ x r. refl)
+pub calls-length : (xs : List Call) → length (gathered callWords xs) ≡ callSize * length xs
+calls-length = any-length callWords callSize (λ x. refl)
 
-categories-back : (xs : List CategoryRange) (r : List ℕ) → rowsIn categoryAt categorySize (length xs) (gathered categoryWords xs ++ r) ≡ xs
+pub categories-back : (xs : List CategoryRange) (r : List ℕ) → rowsIn categoryAt categorySize (length xs) (gathered categoryWords xs ++ r) ≡ xs
 categories-back = any-back categoryAt categoryWords categorySize (λ x. refl) (λ x r. refl)
 
-categories-length : (xs : List CategoryRange) → length (gathered categoryWords xs) ≡ categorySize * length xs
-categories-length = any-length categoryAt categoryWords categorySize (λ x. refl) (λ x r. refl)
+pub categories-length : (xs : List CategoryRange) → length (gathered categoryWords xs) ≡ categorySize * length xs
+categories-length = any-length categoryWords categorySize (λ x. refl)
 
-days-back : (xs : List DayRange) (r : List ℕ) → rowsIn dayAt daySize (length xs) (gathered dayWords xs ++ r) ≡ xs
+pub days-back : (xs : List DayRange) (r : List ℕ) → rowsIn dayAt daySize (length xs) (gathered dayWords xs ++ r) ≡ xs
 days-back = any-back dayAt dayWords daySize (λ x. refl) (λ x r. refl)
 
-days-length : (xs : List DayRange) → length (gathered dayWords xs) ≡ daySize * length xs
-days-length = any-length dayAt dayWords daySize (λ x. refl) (λ x r. refl)
+pub days-length : (xs : List DayRange) → length (gathered dayWords xs) ≡ daySize * length xs
+days-length = any-length dayWords daySize (λ x. refl)
 
-extras-back : (xs : List ExtraRange) (r : List ℕ) → rowsIn extraAt extraSize (length xs) (gathered extraWords xs ++ r) ≡ xs
+pub extras-back : (xs : List ExtraRange) (r : List ℕ) → rowsIn extraAt extraSize (length xs) (gathered extraWords xs ++ r) ≡ xs
 extras-back = any-back extraAt extraWords extraSize (λ x. refl) (λ x r. refl)
 
-extras-length : (xs : List ExtraRange) → length (gathered extraWords xs) ≡ extraSize * length xs
-extras-length = any-length extraAt extraWords extraSize (λ x. refl) (λ x r. refl)
+pub extras-length : (xs : List ExtraRange) → length (gathered extraWords xs) ≡ extraSize * length xs
+extras-length = any-length extraWords extraSize (λ x. refl)
 
 -- ---- a service
 

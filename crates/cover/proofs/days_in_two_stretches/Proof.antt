@@ -1,7 +1,7 @@
 use Prim.Native.Nat.{_-_}
 use Rattle.cover.proofs.Stretches.{Swept, swept-next, sweeps}
-use Rattle.cover.proofs.broken_days.Statement.{statement}
-use Rattle.cover.proofs.broken_days.Tie as tie
+use Rattle.cover.proofs.days_in_two_stretches.Statement.{statement}
+use Rattle.cover.proofs.days_in_two_stretches.Tie as tie
 
 abbrev Inv-loop : tie.InvT-loop
 Inv-loop w n bits legs begun₀ ended₀ broken₀ leg₀ begun ended broken leg = Swept w bits n legs begun ended broken leg
@@ -53,8 +53,8 @@ loop-again c =
 returns : tie.Need-returns Inv-loop μ-loop
 returns c = search sweeps
 
-pub broken-days-spec : {M : Type 1} → statement M
-broken-days-spec =
+pub days-in-two-stretches-spec : {M : Type 1} → statement M
+days-in-two-stretches-spec =
     tie.close
     (tie.spec
     Inv-loop

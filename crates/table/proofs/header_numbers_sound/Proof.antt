@@ -1,7 +1,7 @@
 use Rattle.timetable.specs.Table.{headSound}
 use Rattle.base.proofs.Laws.{tests}
-use Rattle.table.proofs.head_sound.Statement.{statement}
-use Rattle.table.proofs.head_sound.Tie as tie
+use Rattle.table.proofs.header_numbers_sound.Statement.{statement}
+use Rattle.table.proofs.header_numbers_sound.Tie as tie
 
 returns : tie.Need-returns
 unfolding headSound
@@ -41,8 +41,8 @@ returns-8 : tie.Need-returns-8
 unfolding headSound
 returns-8 c = search (tests, ← (c .before .first-service .ensures), ← (c .before .before .before .before .sum .ensures))
 
-pub head-sound-spec : {M : Type 1} → statement M
-head-sound-spec =
+pub header-numbers-sound-spec : {M : Type 1} → statement M
+header-numbers-sound-spec =
     tie.close
     (tie.spec
     returns

@@ -1,0 +1,33 @@
+-- No slack at the boundary: two results that the promise of an exported function allows coincide, and so do the words that it leaves.
+-- Assumes nothing.
+use mathlib.Core.Path.{_≡_, sym, _∙_}
+use mathlib.Core.List.{List}
+use Prim.Native.Nat.{ℕ}
+use lib.ListN.{length}
+use Rattle.timetable.specs.Delivery.{Files}
+use Rattle.timetable.specs.Load.{loaded, written}
+use Rattle.timetable.specs.Questions.{dayAsked, interchangeAsked, walked, walkRows}
+use Rattle.estelunya.specs.declared.LoadResult.{LoadResult}
+use Rattle.estelunya.specs.declared.DayResult.{DayResult}
+use Rattle.estelunya.specs.declared.InterchangeResult.{InterchangeResult}
+use Rattle.estelunya.specs.declared.WalkResult.{WalkResult}
+use Rattle.estelunya.specs.Answers.{loadResult, dayResult, interchangeResult, walkResult}
+
+-- load: its result, and all words of the table afterwards
+pub load-no-slack : (f : Files) (lent : List ℕ) {a b : LoadResult} {t u : List ℕ}
+    → a ≡ loadResult (loaded f (length lent)) → t ≡ written f lent
+    → b ≡ loadResult (loaded f (length lent)) → u ≡ written f lent → (a ≡ b) × (t ≡ u)
+load-no-slack f lent a t b u = (a ∙ sym b, t ∙ sym u)
+
+-- walk: its result, and all words of the rows afterwards
+pub walk-no-slack : (w : List ℕ) (i r d m y : ℕ) (lent : List ℕ) {a b : WalkResult} {t u : List ℕ}
+    → a ≡ walkResult (walked w i r d m y (length lent)) → t ≡ walkRows w i r d m y lent
+    → b ≡ walkResult (walked w i r d m y (length lent)) → u ≡ walkRows w i r d m y lent → (a ≡ b) × (t ≡ u)
+walk-no-slack w i r d m y lent a t b u = (a ∙ sym b, t ∙ sym u)
+
+pub day-no-slack : (w : List ℕ) (d m y field : ℕ) {a b : DayResult} → a ≡ dayResult (dayAsked w d m y field) → b ≡ dayResult (dayAsked w d m y field) → a ≡ b
+day-no-slack w d m y field a b = a ∙ sym b
+
+pub interchange-no-slack : (w : List ℕ) (n x y : ℕ) {a b : InterchangeResult}
+    → a ≡ interchangeResult (interchangeAsked w n x y) → b ≡ interchangeResult (interchangeAsked w n x y) → a ≡ b
+interchange-no-slack w n x y a b = a ∙ sym b

@@ -1,0 +1,88 @@
+//! What a table lists: its services and stops, read from the places that document 01's section "Table" gives them.
+//!
+//! None of this asks the archive, or whether the words are a table ([`Table::day`] and the other questions do): of words
+//! that are none it tells what stands in these places, or nothing where there are no such words.
+
+use crate::ask::Table;
+
+/// The header's words.
+const HEADER: u64 = 8;
+const USED: usize = 0;
+const BIT_FIELDS: usize = 3;
+const STOPS: usize = 4;
+const SERVICES: usize = 6;
+const FIRST_SERVICE: usize = 7;
+
+/// The words of a bit field's record, of a stop's, and of a service's before its calls.
+const BIT_FIELD_WORDS: u64 = 13;
+const STOP_WORDS: usize = 3;
+const SERVICE_HEAD: usize = 11;
+
+impl<'a> Table<'a> {
+    /// How many services there are: a walk takes an index below it. 0 where there are fewer words than a header has.
+    pub fn services(self) -> u32 {
+        self.header(SERVICES)
+    }
+
+    /// The numbers of all services (columns 4-8 of their *Z lines), in FPLAN's order: the first is that of index 0.
+    pub fn service_numbers(self) -> impl Iterator<Item = u32> + 'a {
+        let services = self.from(u64::from(self.header(FIRST_SERVICE)));
+        heads(services).take(self.services() as usize).map(|head| head[1])
+    }
+
+    /// The number of the service with this index, columns 4-8 of its *Z line; `None` if there is no such service. It
+    /// passes over the services before it: for all of them take [`Table::service_numbers`].
+    pub fn service_number(self, index: u32) -> Option<u32> {
+        self.service_numbers().nth(index as usize)
+    }
+
+    /// How many stops there are; 0 where there are fewer words than a header has.
+    pub fn stops(self) -> u32 {
+        self.header(STOPS)
+    }
+
+    /// The number of the stop with this index, in BAHNHOF's order; `None` if there is no such stop.
+    pub fn stop_number(self, index: u32) -> Option<u32> {
+        self.stop_records().nth(index as usize).map(|record| record[0])
+    }
+
+    /// The name of the stop with this number, as a [`Row`](crate::Row) says it: the bytes from column 13 of its line in
+    /// BAHNHOF, without trailing blanks. The bytes of BAHNHOF must be those that were loaded. `None` if the stop is not
+    /// in the table, or these bytes do not reach so far.
+    pub fn stop_name(self, stop: u32, bahnhof: &[u8]) -> Option<&[u8]> {
+        let record = self.stop_records().find(|record| record[0] == stop)?;
+        let (start, length) = (record[1] as usize, record[2] as usize);
+        bahnhof.get(start..)?.get(..length)
+    }
+
+    /// A word of the header.
+    fn header(self, at: usize) -> u32 {
+        if self.words().len() < HEADER as usize {
+            return 0;
+        }
+        self.words()[at]
+    }
+
+    /// The table's own words from a place on.
+    fn from(self, place: u64) -> &'a [u32] {
+        let used = self.words().len().min(self.header(USED) as usize);
+        let start = used.min(usize::try_from(place).unwrap_or(used));
+        &self.words()[start..used]
+    }
+
+    /// Number, place and length of the name of each stop.
+    fn stop_records(self) -> impl Iterator<Item = &'a [u32]> {
+        let first = HEADER + BIT_FIELD_WORDS * u64::from(self.header(BIT_FIELDS));
+        self.from(first).chunks_exact(STOP_WORDS).take(self.stops() as usize)
+    }
+}
+
+/// The first words of each service; its word count says where the next one is.
+fn heads(mut services: &[u32]) -> impl Iterator<Item = &[u32]> {
+    std::iter::from_fn(move || {
+        let head = services.get(..SERVICE_HEAD)?;
+        let count = (head[0] as usize).max(SERVICE_HEAD);
+        services = services.get(count..).unwrap_or(&[]);
+        Some(head)
+    })
+}

@@ -1,0 +1,140 @@
+//! The trial week's table: what it answers and lists; and what any words list.
+
+use estelunya_planner::{load, Date, Files, Table, Walk, MOST_ROW_WORDS};
+
+const BAHNHOF: &[u8] = include_bytes!("../../crates/ferry/data/BAHNHOF");
+
+fn trial_week() -> Vec<u32> {
+    let files = Files {
+        eckdaten: include_bytes!("../../crates/ferry/data/ECKDATEN"),
+        bitfeld: include_bytes!("../../crates/ferry/data/BITFELD"),
+        bahnhof: BAHNHOF,
+        umsteigb: include_bytes!("../../crates/ferry/data/UMSTEIGB"),
+        fplan: include_bytes!("../../crates/ferry/data/FPLAN"),
+    };
+    let mut words = vec![7; 100];
+    assert_eq!(load(&files, &mut words).unwrap().words, 66);
+    words
+}
+
+/// Two calls, then three.
+const FPLAN: &str = "\
+*Z 00007 FERRY_                                           %
+*G BAT                                                    %
+*A VE                                                     %
+1000011                              00800                %
+1000022                       00810                       %
+*Z 00042 FERRY_                                           %
+*G BAT                                                    %
+*A VE                                                     %
+1000022                              00900                %
+1000011                       00910  00912                %
+1000022                       00930                       %
+";
+
+/// No bit field, two stops, two services; then words that are not the table's.
+fn two_services() -> Vec<u32> {
+    let files = Files {
+        eckdaten: b"01.12.2025\n07.12.2025\nTwo\n",
+        bitfeld: b"",
+        bahnhof: b"1000022     B\n1000011     A\n",
+        umsteigb: b"9999999  2  3\n",
+        fplan: FPLAN.as_bytes(),
+    };
+    let mut words = vec![11; 100];
+    load(&files, &mut words).unwrap();
+    words
+}
+
+fn december(day: u32) -> Date {
+    Date { day, month: 12, year: 2025 }
+}
+
+/// "The walk on 05.12.2025 gives four rows, the first 1000011, 0, 480, 2, 4342100, 2, 3; on 06.12.2025 it is not running."
+#[test]
+fn walked() {
+    let words = trial_week();
+    let table = Table::new(&words);
+    let mut lent = vec![0; MOST_ROW_WORDS];
+    match table.walk(0, 0, december(5), &mut lent) {
+        Ok(Walk::Rows(rows)) => {
+            assert_eq!(rows.iter().len(), 4);
+            assert_eq!(rows.words()[..7], [1_000_011, 0, 480, 2, 4_342_100, 2, 3]);
+        }
+        other => panic!("{:?}", other),
+    }
+    assert_eq!(table.walk(0, 0, december(6), &mut lent), Ok(Walk::NotRunning));
+}
+
+/// "FE6 and zeros runs on days 0 to 4"; "Times 2 and 3: classes 1, 1 give 2; classes 2, 2 give 3".
+#[test]
+fn asked() {
+    let words = trial_week();
+    let table = Table::new(&words);
+    for day in 1..=7 {
+        assert_eq!(table.day(1, december(day)), Ok(day <= 5));
+    }
+    assert_eq!((table.interchange(1_000_011, 1, 1), table.interchange(1_000_011, 2, 2)), (Ok(2), Ok(3)));
+}
+
+/// "three stops of R", "service 00042".
+#[test]
+fn listed() {
+    let words = trial_week();
+    let table = Table::new(&words);
+    assert_eq!((table.services(), table.service_number(0), table.service_number(1)), (1, Some(42), None));
+    assert_eq!(table.stops(), 3);
+    let stops: Vec<Option<u32>> = (0..4).map(|index| table.stop_number(index)).collect();
+    assert_eq!(stops, [Some(1_000_011), Some(1_000_022), Some(1_000_033), None]);
+    let names = [1_000_011, 1_000_022, 1_000_033].map(|stop| table.stop_name(stop, BAHNHOF));
+    assert_eq!(names, [Some(&b"Quay A"[..]), Some(b"Quay B"), Some(b"Quay C")]);
+    assert_eq!(table.stop_name(9_999_999, BAHNHOF), None);
+}
+
+#[test]
+fn in_file_order() {
+    let words = two_services();
+    let table = Table::new(&words);
+    assert_eq!(table.service_numbers().collect::<Vec<_>>(), [7, 42]);
+    assert_eq!((table.service_number(1), table.service_number(2)), (Some(42), None));
+    let stops: Vec<Option<u32>> = (0..3).map(|index| table.stop_number(index)).collect();
+    assert_eq!(stops, [Some(1_000_022), Some(1_000_011), None]);
+}
+
+/// BAHNHOF that is cut short, or not there.
+#[test]
+fn other_bytes() {
+    let words = trial_week();
+    let name = |bytes| Table::new(&words).stop_name(1_000_022, bytes);
+    assert_eq!(name(&BAHNHOF[..37]), Some(&b"Quay B"[..]));
+    assert_eq!((name(&BAHNHOF[..36]), name(b"")), (None, None));
+}
+
+fn all_read(words: &[u32]) {
+    let table = Table::new(words);
+    let (services, stops) = (table.services(), table.stops());
+    for index in [0, 1, 2, services, stops, u32::MAX] {
+        table.service_number(index);
+        let stop = table.stop_number(index).unwrap_or(index);
+        table.stop_name(stop, BAHNHOF);
+    }
+    assert!(table.service_numbers().count() <= words.len());
+}
+
+/// Cut at each length, and with each word changed, there is an answer.
+#[test]
+fn any_words() {
+    let words = trial_week();
+    for length in 0..words.len() {
+        all_read(&words[..length]);
+    }
+    for at in 0..66 {
+        for value in [0, 1, 8, 65, 66, 67, 1 << 31, u32::MAX] {
+            let mut changed = words.clone();
+            changed[at] = value;
+            all_read(&changed);
+            all_read(&[value; 12]);
+        }
+    }
+    assert_eq!((Table::new(&[]).services(), Table::new(&words[..7]).stops()), (0, 0));
+}
