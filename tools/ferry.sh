@@ -8,6 +8,7 @@ place=target/ferry
 emulator=
 [ "$(uname -m)" = x86_64 ] || emulator=qemu-x86_64
 
+mkdir -p target
 rt check ferry >target/ferry.log 2>&1 || { cat target/ferry.log >&2; exit 1; }
 
 # a fresh copy of the sample delivery

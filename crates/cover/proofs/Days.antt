@@ -5,30 +5,18 @@ use mathlib.Core.Bool.{Bool, true, false, cond, _||_}
 use Prim.Native.Nat.{ℕ, zero, suc, _+_, _-_, _*_, _^_, _≤_, _<_}
 use native.Mathlib.Nat.{suc-mul, add-zero}
 use native.Mathlib.Omega.{arith}
-use lib.ListN.{length, getD, take, drop, length-drop}
-use lib.Seq.{drop-drop, getD-drop, getD-take, ext-getD, length-take-le}
+use lib.ListN.{length, getD, take, drop}
+use lib.Seq.{drop-drop, getD-drop}
 use lib.Dec.{eqb}
 use borrow.Author.Tests.{eq-eqb, ne-eqb}
 use Rattle.base.proofs.Laws.{tests}
 use Rattle.bitfield.specs.BitField.{bit}
-use Rattle.bitfield.proofs.Fill.{Filled, filled-none, filled-next}
+use Rattle.bitfield.proofs.Fill.{filled-none, filled-next, twelve-done}
 use Rattle.timetable.specs.Checks.{covers}
 use Rattle.timetable.specs.Table.{word, legsAt}
 use Rattle.cover.specs.declared.FirstRange.{FirstRange}
 use Rattle.cover.specs.declared.FirstRange.the-variants.{At, Nowhere}
 use Rattle.cover.specs.Cover.{placeFrom, legBit}
-
--- ---- twelve words at a place
-
-abbrev pub wordFrom : List ℕ → ℕ → ℕ → ℕ
-wordFrom b at k = getD b (at + k) 0
-
-pub twelve-done : (b r : List ℕ) (at i : ℕ) → at + 12 ≤ length b → 12 ≤ i → Filled (wordFrom b at) r i → r ≡ take 12 (drop at b)
-twelve-done b r at i h k v =
-    let n : length (take 12 (drop at b)) ≡ 12 = length-take-le 12 (drop at b) (simp length-drop (omega arith)) in
-    ext-getD 0 r (take 12 (drop at b)) (v .twelve ∙ sym n) (λ j lt.
-    let g : j < 12 = omega (arith, v .twelve) in
-    v .each j (omega arith) ∙ sym (getD-take 12 (drop at b) j 0 g ∙ getD-drop at b j 0))
 
 -- ---- the first range that covers a leg
 

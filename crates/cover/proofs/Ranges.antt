@@ -1,9 +1,9 @@
 -- The loops over the ranges of a service, for `search ranges`: `left` ranges stand at place `at` and after it. Assumes nothing.
 use mathlib.Core.Path.{_≡_, refl, sym, ap, _∙_}
-use mathlib.Core.List.{List, _∷_}
+use mathlib.Core.List.{List}
 use mathlib.Core.Bool.{Bool, true, false, cond}
-use Prim.Native.Nat.{ℕ, zero, suc, _+_, _-_, _*_, _^_, _≤_, _<_}
-use native.Mathlib.Nat.{suc-mul, zero-add, add-zero, add-assoc}
+use Prim.Native.Nat.{ℕ, zero, suc, _+_, _-_, _≤_, _<_}
+use native.Mathlib.Nat.{zero-add, add-zero, add-assoc}
 use native.Mathlib.Omega.{arith}
 use lib.ListN.{getD, drop}
 use lib.Seq.{drop-drop, getD-drop}
@@ -12,30 +12,10 @@ use Rattle.base.proofs.Laws.{tests}
 use Rattle.timetable.specs.Delivery.{Legs}
 use Rattle.timetable.specs.Checks.{covers}
 use Rattle.timetable.specs.Table.{rowsIn, legsAt}
+use Rattle.timetable.proofs.Rows.{room-start, room-now, room-fits, room-next, rows-left}
 use Rattle.cover.specs.declared.FirstRange.{FirstRange}
 use Rattle.cover.specs.declared.FirstRange.the-variants.{At, Nowhere}
 use Rattle.cover.specs.Cover.{rangesIn, placeFrom}
-
--- ---- the words are there
-
-pub room-start : (n width l : ℕ) → n * width ≤ l → 0 + n * width ≤ l
-room-start n width l h = rw (zero-add (n * width)) h
-
-one-more : (left width : ℕ) → 0 < left → left * width ≡ (left - 1) * width + width
-one-more zero width h = absurd (omega arith)
-one-more (suc m) width h =
-    let e : suc m - 1 ≡ m = omega arith in
-    rw e (suc-mul m width)
-
-module _ (at left width l : ℕ) (h : 0 < left) (r : at + left * width ≤ l) where
-  pub room-now : at + width ≤ l
-  room-now = omega (arith, one-more left width h)
-
-  pub room-fits : l < 2 ^ 64 → at + width < 2 ^ 64
-  room-fits k = omega (arith, one-more left width h)
-
-  pub room-next : at + width + (left - 1) * width ≤ l
-  room-next = omega (arith, one-more left width h)
 
 -- ---- a range is read where it stands
 
@@ -47,20 +27,13 @@ covers-read w at k leg t e =
 
 -- ---- how many cover a leg
 
-rows-next : {X : Type 0} (f : List ℕ → X) (width left at : ℕ) (w : List ℕ) → 0 < left → rowsIn f width left (drop at w) ≡ f (drop at w) ∷ rowsIn f width (left - 1) (drop (at + width) w)
-unfolding rowsIn
-rows-next f width zero at w h = absurd (omega arith)
-rows-next f width (suc m) at w h =
-    let e : suc m - 1 ≡ m = omega arith in
-    rw (e, ← (drop-drop width at w)) refl
-
 -- t says whether the range at `at` covers the leg
 module _ (leg width left at count r : ℕ) (w : List ℕ) (t : Bool) (h : 0 < left) (e : t ≡ covers leg (legsAt (width - 2) (drop at w))) (v : count + countIf (covers leg) (rangesIn width left (drop at w)) ≡ r) where
   count-next : count + (cond t 1 0 + countIf (covers leg) (rangesIn width (left - 1) (drop (at + width) w))) ≡ r
   unfolding countIf
   count-next =
       ap (λ (x : Bool). count + (cond x 1 0 + countIf (covers leg) (rangesIn width (left - 1) (drop (at + width) w)))) e
-      ∙ ap (λ (rs : List Legs). count + countIf (covers leg) rs) (sym (rows-next (legsAt (width - 2)) width left at w h)) ∙ v
+      ∙ ap (λ (rs : List Legs). count + countIf (covers leg) rs) (sym (rows-left (legsAt (width - 2)) width left at w h)) ∙ v
 
   pub count-on : t ≡ true → count + 1 + countIf (covers leg) (rangesIn width (left - 1) (drop (at + width) w)) ≡ r
   count-on k =

@@ -12,6 +12,7 @@ use lib.Dec.{leb, eqb}
 use borrow.Author.Tests.{eqb-true, eqb-false}
 use Rattle.base.specs.Lists.{every, some-of, countIf, find, below}
 use Rattle.base.proofs.Loops.{every-at}
+use Rattle.base.proofs.Laws.{or-false}
 use Rattle.bitfield.specs.BitField.{bit, runsOn}
 use Rattle.timetable.specs.Delivery.{BitField, Legs, CategoryRange, DayRange, Service}
 use Rattle.timetable.specs.Checks.{covers, covering, eachOnce, runsBy, fieldRuns, operated, stretches, legCount, torn}
@@ -65,10 +66,6 @@ days-once n legs w = once-rows dayAt (λ (r : DayRange). r .legs) 3 (λ v. refl)
 abbrev pub passes : {X : Type 0} → (X → Bool) → Option X → Bool
 passes p none = false
 passes p (some x) = p x
-
-or-false : (b : Bool) → b ≡ (b || false)
-or-false true = refl
-or-false false = refl
 
 module _ {X : Type 0} (t p : X → Bool) where
   none-passes : (xs : List X) → countIf t xs ≡ 0 → false ≡ some-of (λ (x : X). t x && p x) xs

@@ -10,14 +10,14 @@ use native.Mathlib.Omega.{arith}
 use lib.ListN.{length, getD, set, take, drop, drop-of-length-le}
 use lib.Seq.{take-at}
 use Rattle.base.specs.Lists.{gathered}
-use Rattle.base.proofs.Laws.{tests, drop-next}
+use Rattle.base.proofs.Laws.{tests, drop-next, len-trans}
 use Rattle.lines.specs.Lines.{Line, linesFrom, cutAt}
 use Rattle.lines.specs.declared.Cut.{Cut}
 use Rattle.lines.proofs.Laws.{cutting, lines-none, walk}
 use Rattle.words.specs.Words.{write}
 use Rattle.words.proofs.Laws.{write-none, write-turn, write-front, write-one}
 use Rattle.route.specs.Route.{callsIn}
-use Rattle.route.proofs.Rows.{all-any, any, length-gathered, rows-back}
+use Rattle.timetable.proofs.Rows.{all-any, any, length-gathered, rows-back}
 use Rattle.timetable.specs.Plan.{toldIn, tolds, asCall, callsOf}
 use Rattle.timetable.specs.Load.{callWords}
 use Rattle.timetable.specs.Table.{callAt}
@@ -91,9 +91,6 @@ module _ (b : List ℕ) (p n : ℕ) (h : length b ≤ p) where
   pub calls-done : (t w : List ℕ) (q : ℕ) → write t q (gathered callWords (callsOf (linesFrom n p (drop p b)))) ≡ w → t ≡ w
   unfolding tolds gathered
   calls-done t w q v = sym (write-none t q) ∙ (rw (lines-none b p n h) at v)
-
-pub len-trans : (t′ t t₀ : List ℕ) → length t′ ≡ length t → length t ≡ length t₀ → length t′ ≡ length t₀
-len-trans t′ t t₀ a b = a ∙ b
 
 pub ruleset calling = (tests, walk, other-count, other-again, call-count, call-fits, call-room, call-again, calls-last, calls-done, len-trans)
 

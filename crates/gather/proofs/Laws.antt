@@ -11,7 +11,7 @@ use native.Mathlib.Nat.{add-zero}
 use native.Mathlib.Omega.{arith}
 use lib.ListN.{length, take, drop, length-append}
 use Rattle.base.specs.Lists.{gathered}
-use Rattle.base.proofs.Laws.{tests}
+use Rattle.base.proofs.Laws.{tests, len-trans}
 use Rattle.lines.specs.Lines.{linesFrom, cutAt}
 use Rattle.lines.specs.declared.Cut.{Cut}
 use Rattle.lines.proofs.Laws.{cutting, lines-none, walk}
@@ -37,7 +37,6 @@ use Rattle.gather.specs.declared.Given.{Given}
 use Rattle.gather.specs.declared.Given.the-variants.{Nothing, Three, Four}
 use Rattle.gather.specs.declared.Part.the-variants.{Categories, DayRanges, Extras}
 use Rattle.gather.specs.declared.Part.{Part}
-use Rattle.gather.proofs.Calls.{len-trans}
 use Rattle.gather.specs.Parts.{toldWords, partWords, givenWords, threeOf, fourOf}
 
 -- ---- what a line gives, for `search gives`

@@ -1,6 +1,6 @@
 -- A service's words as the code writes them: its calls, the parts after them, its head. Assumes nothing.
 use mathlib.Core.Path.{_≡_, refl, sym, ap, _∙_}
-use mathlib.Core.List.{List, [], _∷_, _++_, append-assoc}
+use mathlib.Core.List.{List, [], _∷_, _++_}
 use mathlib.Core.Logic.{⊎-elim}
 use denote.Enum.Declared.{tagOf}
 use types.Run.{OneOf}
@@ -11,13 +11,14 @@ use native.Mathlib.Omega.{arith}
 use lib.ListN.{length, take, drop, length-append}
 use Rattle.base.specs.Lists.{gathered}
 use Rattle.base.proofs.Laws.{tests}
+use Rattle.base.proofs.Lists.{gathered-append}
 use Rattle.lines.specs.Lines.{Line, linesFrom, cutAt}
 use Rattle.lines.specs.declared.Cut.{Cut}
 use Rattle.lines.proofs.Laws.{cutting, walk}
 use Rattle.words.specs.Words.{write}
 use Rattle.words.proofs.Laws.{write-write, write-before}
 use Rattle.route.specs.Route.{callsIn}
-use Rattle.route.proofs.Rows.{all-any, any, length-gathered}
+use Rattle.timetable.proofs.Rows.{all-any, any, length-gathered}
 use Rattle.timetable.specs.Delivery.{Service, CategoryRange, DayRange, ExtraRange}
 use Rattle.timetable.specs.Plan.{toldIn, tolds, asCategory, asDays, asExtra, asOpening, callsOf, categoryLines, daysLines, extraLines}
 use Rattle.timetable.specs.Service.{categoryRange, dayRange, extraRange, firstOpening, serviceOf}
@@ -32,11 +33,6 @@ use Rattle.gather.proofs.Calls.{calls-size, calls-read}
 use Rattle.gather.specs.Parts.{partWords, rangeWords, rangeEnds, bodyWords, sizesOf, headBy}
 
 -- ---- a part, line by line, is the part of the service
-
-gathered-append : {X Y : Type 0} (f : X → List Y) (xs ys : List X) → gathered f (xs ++ ys) ≡ gathered f xs ++ gathered f ys
-unfolding gathered
-gathered-append f [] ys = refl
-gathered-append f (x ∷ xs) ys = ap (λ r. f x ++ r) (gathered-append f xs ys) ∙ sym (append-assoc (f x) (gathered f xs) (gathered f ys))
 
 pub categories-part : (cs : List Call) (ls : List Line) → partWords Categories cs ls ≡ gathered categoryWords (gathered (categoryRange cs) (categoryLines ls))
 unfolding partWords gathered tolds

@@ -6,7 +6,7 @@ use mathlib.Core.Option.{Option, none, some}
 use Prim.Native.Nat.{ℕ, _+_, _-_, _≤_}
 use native.Mathlib.Omega.{arith}
 use lib.Dec.{ltb, leb}
-use Rattle.base.proofs.Laws.{by-leb}
+use Rattle.base.proofs.Laws.{by-leb, apart}
 use Rattle.lines.specs.Lines.{Line}
 use Rattle.calendar.specs.Calendar.{dateIn, periodOf}
 use Rattle.calendar.specs.declared.Period.the-variants.{Days, NoPeriod}
@@ -23,14 +23,14 @@ module _ (o : Option Offence) (p : Period) (r : PeriodRead) (e : r ≡ readBy o 
     where
       go : (o : Option Offence) → readBy o p ≡ Wrong a b → o ≡ some (a, b)
       go (some x) v = let f : x .0 ≡ a = cc in let g : x .1 ≡ b = cc in rw (← f, ← g) refl
-      go none v = let z : _≡_ {A = ℕ} 0 1 = cc in absurd (omega arith)
+      go none v = apart (cc)
 
   pub read-lasts : (s d : ℕ) → r ≡ Lasts s d → (o ≡ none) × (p .start ≡ s) × (p .days ≡ d)
   read-lasts s d y = go o (sym e ∙ y)
     where
       go : (o : Option Offence) → readBy o p ≡ Lasts s d → (o ≡ none) × (p .start ≡ s) × (p .days ≡ d)
       go none v = (refl, cc, cc)
-      go (some x) v = let z : _≡_ {A = ℕ} 0 1 = cc in absurd (omega arith)
+      go (some x) v = apart (cc)
 
 -- "A period of n days has 1 to 380": no file gives more
 period-le : (a b : ℕ) → daysIn (periodOf a b) ≤ 380

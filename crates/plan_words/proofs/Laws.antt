@@ -10,7 +10,7 @@ use lib.ListN.{length, take, drop, length-append, length-take}
 use lib.Dec.{leb}
 use borrow.Author.Tests.{leb-true}
 use Rattle.base.specs.Lists.{every, gathered}
-use Rattle.base.proofs.Laws.{tests}
+use Rattle.base.proofs.Laws.{tests, apart, len-trans}
 use Rattle.base.proofs.Loops.{and-true}
 use Rattle.lines.specs.Lines.{Line, linesFrom, linesOf, linesAt}
 use Rattle.words.specs.Words.{write}
@@ -110,9 +110,6 @@ pub all-written : (f t w : List ℕ) (at n to : ℕ) → length f ≤ at → wri
 unfolding blockWords gathered
 all-written f t w at n to h v = sym (write-none t to) ∙ (rw (services-none f at n h) at v)
 
-pub len-trans : (t′ t t₀ : List ℕ) → length t′ ≡ length t → length t ≡ length t₀ → length t′ ≡ length t₀
-len-trans t′ t t₀ a b = a ∙ b
-
 pub ruleset putting = (tests, strides, few-here, few-next, own-fits, own-room, place-fits, next-count, next-written, all-written, len-trans)
 
 -- ---- where the services begin, for `search beginning`
@@ -134,7 +131,7 @@ module _ (f : List ℕ) (h : Head) (end n : ℕ) (e : h ≡ Clear end n) (d : He
   head-written t t′ q v = rw (head-clear .services) v
 
 some-none : {X : Type 0} (o : Offence) → some o ≡ none → X
-some-none o e = let z : _≡_ {A = ℕ} 0 1 = cc in absurd (omega arith)
+some-none o e = apart (cc)
 
 -- nothing stands before them
 pub no-stray : (f : List ℕ) (h : Head) (line : ℕ) (t w : List ℕ) → h ≡ Stray line → HeadEnd f h → headOffence (linesOf f) ≡ none → t ≡ w

@@ -19,7 +19,7 @@ use Rattle.timetable.specs.declared.Call.{Call}
 use Rattle.route.specs.Route.{callsIn, meets, placeOf}
 use Rattle.route.specs.declared.Sought.{Sought}
 use Rattle.route.specs.declared.Place.the-variants.{At, Nowhere}
-use Rattle.route.proofs.Rows.{rows-turn, rows-none, rows-last, length-rows}
+use Rattle.timetable.proofs.Rows.{rows-turn, rows-none, rows-last, length-rows}
 
 -- ---- places
 

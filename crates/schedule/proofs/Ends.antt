@@ -11,7 +11,7 @@ use native.Mathlib.Omega.{arith}
 use lib.ListN.{length, take, drop}
 use lib.Dec.{eqb}
 use Rattle.base.specs.Lists.{some-of}
-use Rattle.base.proofs.Laws.{tests}
+use Rattle.base.proofs.Laws.{tests, or-false}
 use Rattle.fields.specs.declared.RouteIndex.{RouteIndex}
 use Rattle.lines.specs.Lines.{Line, linesFrom, cutAt}
 use Rattle.lines.specs.declared.Cut.{Cut}
@@ -50,10 +50,6 @@ module _ (l : Option Legs) (f : Found) (e : f ≡ foundOf l) where
 
   pub ends-missing : f ≡ Missing → true ≡ isNone l
   ends-missing k = missing-none true (λ y. refl) (λ g y. cc)
-
-or-false : (b : Bool) → b ≡ (b || false)
-or-false true = refl
-or-false false = refl
 
 module _ (cs : List Call) (x : Told) where
   pub bad-other : OneOf (0 ∷ 1 ∷ 2 ∷ 3 ∷ 7 ∷ []) (tagOf the-type x) → false ≡ rangeBad cs x

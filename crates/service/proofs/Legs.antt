@@ -13,7 +13,7 @@ use Rattle.lines.specs.Lines.{Line, linesFrom, cutAt}
 use Rattle.lines.proofs.Laws.{cutting}
 use Rattle.words.specs.Words.{write}
 use Rattle.words.proofs.Laws.{write-front}
-use Rattle.route.proofs.Rows.{any, all-any, rows-within, rows-back}
+use Rattle.timetable.proofs.Rows.{any, all-any, rows-within, rows-back}
 use Rattle.timetable.specs.Delivery.{BitField, CategoryRange, DayRange, Service}
 use Rattle.timetable.specs.Offences.{Offence, _<|>_, when}
 use Rattle.timetable.specs.Service.{firstLine, serviceOf}

@@ -10,7 +10,7 @@ use lib.ListN.{length, getD, take, drop}
 use lib.Seq.{drop-drop, drop-at, take-at, getD-drop}
 use lib.Dec.{eqb}
 use Rattle.base.specs.Lists.{every, find, gathered, below}
-use Rattle.base.proofs.Laws.{tests}
+use Rattle.base.proofs.Laws.{tests, len-trans}
 use Rattle.bitfield.specs.BitField.{bitsIn, runsOn}
 use Rattle.bitfield.proofs.Hex.{length-words}
 use Rattle.bitfield.proofs.Sets.{no-bit}
@@ -20,7 +20,7 @@ use Rattle.forms.specs.Columns.{bitFieldColumns}
 use Rattle.lines.specs.Lines.{Line, skipped}
 use Rattle.words.specs.Words.{write}
 use Rattle.words.proofs.Laws.{write-none, write-turn, write-front}
-use Rattle.route.proofs.Rows.{rows-left}
+use Rattle.timetable.proofs.Rows.{rows-left}
 use Rattle.timetable.specs.Delivery.{BitField, DayRange}
 use Rattle.timetable.specs.Files.{skip, broken, held, listed, held-in, bitFieldOf}
 use Rattle.timetable.specs.Checks.{runsBy, eachOnce}
@@ -57,9 +57,6 @@ words-twelve k (l ∷ ls) =
 -- the room that is left after a turn
 pub lend-room : (t t′ : List ℕ) (to left : ℕ) → 0 < left → to + left * 12 ≤ length t → length t′ ≡ length t → to + 12 + (left - 1) * 12 ≤ length t′
 lend-room t t′ to left h r e = omega arith
-
-pub lend-length : (t t′ t₀ : List ℕ) → length t′ ≡ length t → length t ≡ length t₀ → length t′ ≡ length t₀
-lend-length t t′ t₀ a b = a ∙ b
 
 module _ (ls : List Line) where
   abbrev fields : List BitField
@@ -128,6 +125,6 @@ module _ (ls : List Line) where
       pub once-not : t ≡ false → 18 ≡ daysOffence (held-in bitFieldOf ls) days legs (rowsIn dayAt 3 v w)
       once-not y = rw (sym (days-once v legs w) ∙ sym f ∙ y) refl
 
-pub ruleset lends = (tests, lend-room, lend-length, lend-again, lend-done)
+pub ruleset lends = (tests, lend-room, len-trans, lend-again, lend-done)
 
 pub ruleset torns = (tests, torn-yes, torn-not, once-each, once-then, once-not)

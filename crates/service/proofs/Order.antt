@@ -9,7 +9,7 @@ use lib.ListN.{length, drop}
 use lib.Dec.{eqb}
 use borrow.Author.Tests.{lt-ltb, le-ltb}
 use Rattle.base.specs.Lists.{gathered}
-use Rattle.base.proofs.Laws.{tests}
+use Rattle.base.proofs.Laws.{tests, apart}
 use Rattle.lines.specs.Lines.{Line, linesFrom}
 use Rattle.words.specs.Words.{write}
 use Rattle.route.specs.Route.{callsIn}
@@ -38,9 +38,6 @@ use Rattle.service.proofs.Size.{ranges-held, calls-are, words-most}
 use Rattle.service.proofs.Legs.{first-number}
 
 -- ---- the offence at a line that a check by line names
-
-apart : {X : Type 0} → _≡_ {A = ℕ} 0 1 → X
-apart z = absurd (omega arith)
 
 nowhere-none : (o : Option Offence) → lineBy o ≡ Nowhere → o ≡ none
 nowhere-none none e = refl

@@ -1,31 +1,21 @@
 -- How many words a service takes that has no more lines of each kind than it may (13). Assumes nothing.
 use mathlib.Core.Path.{_≡_, refl}
-use mathlib.Core.List.{List, [], _∷_, _++_}
+use mathlib.Core.List.{List, [], _∷_}
 use mathlib.Core.Bool.{true, false}
 use mathlib.Core.Option.{Option, none, some}
-use Prim.Native.Nat.{ℕ, _+_, _≤_}
+use Prim.Native.Nat.{_+_, _≤_}
 use native.Mathlib.Omega.{arith}
 use lib.ListN.{length, length-append}
 use Rattle.base.specs.Lists.{gathered}
 use Rattle.lines.specs.Lines.{Line}
-use Rattle.timetable.specs.Delivery.{Legs, Service}
+use Rattle.timetable.specs.Delivery.{Legs}
 use Rattle.timetable.specs.Plan.{callsOf, categoryLines, daysLines, extraLines}
 use Rattle.timetable.specs.Ranges.{legsOf}
 use Rattle.timetable.specs.Service.{withLegs, categoryRange, dayRange, extraRange, serviceOf}
-use Rattle.timetable.specs.Load.{serviceSize, callWords, categoryWords, dayWords, extraWords, serviceWords}
+use Rattle.timetable.specs.Load.{serviceWords}
 use Rattle.timetable.specs.declared.Call.{Call}
-use Rattle.gather.proofs.Calls.{calls-size}
-use Rattle.gather.proofs.Whole.{categories-size, days-size, extras-size, words-size}
+use Rattle.timetable.proofs.Records.{service-length}
 use Rattle.line_checks.specs.Own.{countsOf, Within}
-
--- a service's words are as many as its sizes say
-pub words-length : (s : Service) → length (serviceWords s) ≡ serviceSize s
-words-length s =
-    let c : List ℕ = gathered callWords (s .calls) in
-    let g : List ℕ = gathered categoryWords (s .categories) in
-    let v : List ℕ = gathered dayWords (s .days) in
-    let a : List ℕ = gathered extraWords (s .extras) in
-    omega (arith, words-size s, length-append c (g ++ (v ++ a)), length-append g (v ++ a), length-append v a, calls-size (s .calls), categories-size (s .categories), days-size (s .days), extras-size (s .extras))
 
 -- where each gives at most one, the things gathered are no more
 gathered-le : {X Y : Type 0} (f : X → List Y) → ((x : X) → length (f x) ≤ 1) → (xs : List X) → length (gathered f xs) ≤ length xs
@@ -59,4 +49,4 @@ calls-are ls = refl
 
 -- "over 200 calls, 50 *G, 50 *A VE or 100 other *A": 11 + 800 + 150 + 150 + 400
 pub words-most : (ls : List Line) → Within (countsOf ls) → length (serviceWords (serviceOf ls)) ≤ 1511
-words-most ls w = omega (arith, words-length (serviceOf ls), ranges-held ls, calls-are ls, w .calls, w .categories, w .days, w .extras)
+words-most ls w = omega (arith, service-length (serviceOf ls), ranges-held ls, calls-are ls, w .calls, w .categories, w .days, w .extras)

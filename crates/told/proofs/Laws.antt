@@ -2,7 +2,7 @@
 use mathlib.Core.Path.{_≡_, refl, ap, sym, _∙_}
 use mathlib.Core.List.{List}
 use mathlib.Core.Bool.{Bool, true, false}
-use Prim.Native.Nat.{ℕ, _+_, _*_, _^_, _≤_, _<_}
+use Prim.Native.Nat.{ℕ, _+_, _*_, _^_, _<_}
 use native.Mathlib.Nat.{add-zero}
 use native.Mathlib.Omega.{arith}
 use lib.Dec.{leb}
@@ -11,7 +11,7 @@ use Rattle.base.proofs.Laws.{tests}
 use Rattle.columns.specs.Columns.{columns, number}
 use Rattle.lines.specs.Lines.{skipped}
 use Rattle.fields.specs.declared.Time.{Time}
-use Rattle.fields.specs.declared.Time.the-variants.{Absent, Stated, NoTime}
+use Rattle.fields.specs.declared.Time.the-variants.{Stated}
 use Rattle.forms.specs.Form.{Row, fits, formOf}
 use Rattle.forms.specs.Kinds.{kindOf}
 use Rattle.forms.specs.declared.Form.{Form}
@@ -21,6 +21,7 @@ use Rattle.timetable.specs.Plan.{twoBytes, attributeEnds, attributeIn, flagsOf,
 use Rattle.timetable.specs.declared.Ends.{Ends}
 use Rattle.timetable.specs.declared.Told.{Told}
 use Rattle.timetable.specs.declared.Told.the-variants.{Skip, Broken, Days, Extra}
+use Rattle.timetable.proofs.Lines.{flags-le}
 
 -- b says whether the line is skipped
 module _ (text : List ℕ) (b : Bool) (e : b ≡ skipped text) where
@@ -55,12 +56,6 @@ module _ (f m : ℕ) (b : Bool) (t : Time) (e : t ≡ Stated m b) where
 
   pub flags-free : b ≡ false → f ≡ flagsOf f t
   flags-free d = rw (e, d, add-zero)
-
-flags-le : (f : ℕ) (t : Time) → flagsOf f t ≤ 5 * f
-flags-le f Absent = omega arith
-flags-le f (Stated m true) = omega arith
-flags-le f (Stated m false) = omega arith
-flags-le f NoTime = omega arith
 
 pub flags-fit : (a b f g : ℕ) (t u : Time) → a ≡ flagsOf f t → b ≡ flagsOf g u → leb f 2 ≡ true → leb g 2 ≡ true → a + b < 2 ^ 32
 flags-fit a b f g t u p q i j = omega (arith, flags-le f t, flags-le g u, leb-true f 2 i, leb-true g 2 j)

@@ -1,6 +1,6 @@
 use Prim.Native.Nat.{_-_}
-use Rattle.bitfield.proofs.Fill.{Filled}
-use Rattle.cover.proofs.Days.{wordFrom, days}
+use Rattle.bitfield.proofs.Fill.{Filled, wordFrom}
+use Rattle.cover.proofs.Days.{days}
 use Rattle.cover.proofs.twelve_at.Statement.{statement}
 use Rattle.cover.proofs.twelve_at.Tie as tie
 

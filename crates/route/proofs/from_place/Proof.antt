@@ -1,7 +1,7 @@
 use mathlib.Core.Path.{refl}
 use Rattle.timetable.specs.Ranges.{fromPlace}
 use Rattle.timetable.specs.Table.{callAt}
-use Rattle.route.proofs.Rows.{length-rows}
+use Rattle.timetable.proofs.Rows.{length-rows}
 use Rattle.base.proofs.Laws.{tests}
 use Rattle.route.proofs.from_place.Statement.{statement}
 use Rattle.route.proofs.from_place.Tie as tie
