@@ -130,9 +130,7 @@ fn count_of(p: &[u8], w: usize) -> bool
         }
         i += 1;
     }
-    // a count needs a digit
-    let counted = false;
-    counted
+    false // a count needs a digit
 }
 
 // Whether the number that the w bytes say is at most m; w may be any.
@@ -174,7 +172,7 @@ pub fn is_digit(b: u8) -> bool
     }
 }
 
-pub fn is_hex(b: u8) -> bool
+fn is_hex(b: u8) -> bool
     ensures { λ r. ⌜ r ≡ isHex b ⌝ }
 {
     match b {

@@ -172,13 +172,12 @@ fn after_hash(p: &[u8], from: usize, w: usize) -> Hash
     requires { ⌜ w ≤ 9 ⌝ }
     ensures { λ r. ⌜ r ≡ afterHash (drop from (padTo w (now (p .entry)))) ⌝ }
 {
-    let bare = Hash::NoNumber;
     if from < w {
         if columns::is_digit(columns::byte_at(p, from)) {
             return hash_digits(p, from, w);
         }
     }
-    bare
+    Hash::NoNumber // "#" needs a digit
 }
 
 // Digits from place `from` on, and blanks after them.

@@ -27,7 +27,7 @@ pub enum Part {
 }
 
 // What a line gives to a part: nothing, or three or four words.
-pub enum Given {
+enum Given {
     Nothing,
     Three(u32, u32, u32),
     Four(u32, u32, u32, u32),
@@ -43,7 +43,7 @@ pub struct Sizes {
 }
 
 // The places after a service's *G, *A VE and other *A ranges.
-pub struct RangeEnds {
+struct RangeEnds {
     pub categories: usize,
     pub day_ranges: usize,
     pub extras: usize,
@@ -274,7 +274,7 @@ fn head_into(table: &mut [u32], at: usize, sizes: Sizes, opening: Opening, line:
 }
 
 // Writes one part; the place after it. `calls` holds the service's calls.
-pub fn part_into(
+fn part_into(
     part: Part,
     block: &[u8],
     place: usize,

@@ -32,10 +32,10 @@ pub fn line_at(file: &[u8], at: usize, no: u32) -> Cut
 pub fn skips(line: &[u8]) -> bool
     ensures { λ r. ⌜ r ≡ skipped (now (line .entry)) ⌝ }
 {
-    if columns::column_at(line, 1) == 37 {
+    if columns::column_at(line, 1) == b'%' {
         return true;
     }
-    columns::every_of(line, line.len(), Class::Byte(32))
+    columns::every_of(line, line.len(), Class::Byte(b' '))
 }
 
 // The place of the first LF at or after `at`, or the file's length.
@@ -45,7 +45,7 @@ fn piece_end(file: &[u8], at: usize) -> usize
 {
     let mut i = at;
     while i < file.len() {
-        if file[i] == 10 {
+        if file[i] == b'\n' {
             return i;
         }
         i += 1;
@@ -60,7 +60,7 @@ fn before_cr(file: &[u8], at: usize, end: usize) -> usize
     ensures { λ r. ⌜ r ≡ at + length (noCR (take (end - at) (drop at (now (file .entry))))) ⌝ }
 {
     if at < end {
-        if file[end - 1] == 13 {
+        if file[end - 1] == b'\r' {
             return end - 1;
         }
     }

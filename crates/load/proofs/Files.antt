@@ -34,7 +34,7 @@ use Rattle.plan.proofs.Answers.{wrong-at, services-are}
 use Rattle.table_words.specs.declared.Header.{Header}
 use Rattle.load.specs.declared.Delivered.{Delivered}
 use Rattle.load.specs.declared.Delivered.the-variants.{Holds, Wrong}
-use Rattle.load.specs.Checked.{longIn, fromPlan, fromRecords, fromStops, fromFields, fromPeriod, headerBy, planHeader, recordsHeader, stopsHeader, fieldsHeader, headerOf, deliveredBy}
+use Rattle.load.specs.Checked.{longIn, fromPlan, fromInterchanges, fromStops, fromFields, fromPeriod, headerBy, planHeader, interchangesHeader, stopsHeader, fieldsHeader, headerOf, deliveredBy}
 
 -- ---- an offence of a file, and none
 
@@ -69,25 +69,25 @@ module _ (start days nb ns nu : ℕ) (b s p : List ℕ) (x : Planned)
 
 module _ (start days nb ns : ℕ) (b s u p : List ℕ) (m : ℕ) (x : Scan)
     (e : x ≡ scanBy (interchangesFirst (held-in stopOf (linesOf s)) (linesOf u)) (length (held-in interchangeOf (linesOf u))) m) where
-  pub records-wrong : (a l : ℕ) → x ≡ ScanWrong a l → Wrong a 4 l ≡ deliveredBy (fromRecords days b s u p) (recordsHeader start days nb ns u p)
-  records-wrong a l y = here 4 (interchangesFirst (held-in stopOf (linesOf s)) (linesOf u)) (fromPlan days b s p) (recordsHeader start days nb ns u p) a l (scan-wrong (interchangesFirst (held-in stopOf (linesOf s)) (linesOf u)) (length (held-in interchangeOf (linesOf u))) m x e a l y)
+  pub records-wrong : (a l : ℕ) → x ≡ ScanWrong a l → Wrong a 4 l ≡ deliveredBy (fromInterchanges days b s u p) (interchangesHeader start days nb ns u p)
+  records-wrong a l y = here 4 (interchangesFirst (held-in stopOf (linesOf s)) (linesOf u)) (fromPlan days b s p) (interchangesHeader start days nb ns u p) a l (scan-wrong (interchangesFirst (held-in stopOf (linesOf s)) (linesOf u)) (length (held-in interchangeOf (linesOf u))) m x e a l y)
 
-  pub records-right : (c n : ℕ) (r : Delivered) → x ≡ Records c n → r ≡ deliveredBy (fromPlan days b s p) (planHeader start days nb ns c p) → r ≡ deliveredBy (fromRecords days b s u p) (recordsHeader start days nb ns u p)
+  pub records-right : (c n : ℕ) (r : Delivered) → x ≡ Records c n → r ≡ deliveredBy (fromPlan days b s p) (planHeader start days nb ns c p) → r ≡ deliveredBy (fromInterchanges days b s u p) (interchangesHeader start days nb ns u p)
   records-right c n r y k =
       let z = scan-records (interchangesFirst (held-in stopOf (linesOf s)) (linesOf u)) (length (held-in interchangeOf (linesOf u))) m x e c n y in
-      rw (past 4 (interchangesFirst (held-in stopOf (linesOf s)) (linesOf u)) (fromPlan days b s p) (recordsHeader start days nb ns u p) (z .0), z .1) k
+      rw (past 4 (interchangesFirst (held-in stopOf (linesOf s)) (linesOf u)) (fromPlan days b s p) (interchangesHeader start days nb ns u p) (z .0), z .1) k
 
 pub records-few : (s u : List ℕ) (m c n : ℕ) (x : Scan) → x ≡ scanBy (interchangesFirst (held-in stopOf (linesOf s)) (linesOf u)) (length (held-in interchangeOf (linesOf u))) m → x ≡ Records c n → length u ≤ 16777216 → c ≤ 16777216
 records-few s u m c n x e y l = omega (arith, scan-records (interchangesFirst (held-in stopOf (linesOf s)) (linesOf u)) (length (held-in interchangeOf (linesOf u))) m x e c n y .1, held-file interchangeOf u)
 
 module _ (start days nb : ℕ) (b s u p : List ℕ) (m : ℕ) (x : Scan) (e : x ≡ scanBy (stopsFirst (linesOf s)) (length (held-in stopOf (linesOf s))) m) where
   pub stops-wrong : (a l : ℕ) → x ≡ ScanWrong a l → Wrong a 3 l ≡ deliveredBy (fromStops days b s u p) (stopsHeader start days nb s u p)
-  stops-wrong a l y = here 3 (stopsFirst (linesOf s)) (fromRecords days b s u p) (stopsHeader start days nb s u p) a l (scan-wrong (stopsFirst (linesOf s)) (length (held-in stopOf (linesOf s))) m x e a l y)
+  stops-wrong a l y = here 3 (stopsFirst (linesOf s)) (fromInterchanges days b s u p) (stopsHeader start days nb s u p) a l (scan-wrong (stopsFirst (linesOf s)) (length (held-in stopOf (linesOf s))) m x e a l y)
 
-  pub stops-right : (c n : ℕ) (r : Delivered) → x ≡ Records c n → r ≡ deliveredBy (fromRecords days b s u p) (recordsHeader start days nb c u p) → r ≡ deliveredBy (fromStops days b s u p) (stopsHeader start days nb s u p)
+  pub stops-right : (c n : ℕ) (r : Delivered) → x ≡ Records c n → r ≡ deliveredBy (fromInterchanges days b s u p) (interchangesHeader start days nb c u p) → r ≡ deliveredBy (fromStops days b s u p) (stopsHeader start days nb s u p)
   stops-right c n r y k =
       let z = scan-records (stopsFirst (linesOf s)) (length (held-in stopOf (linesOf s))) m x e c n y in
-      rw (past 3 (stopsFirst (linesOf s)) (fromRecords days b s u p) (stopsHeader start days nb s u p) (z .0), z .1) k
+      rw (past 3 (stopsFirst (linesOf s)) (fromInterchanges days b s u p) (stopsHeader start days nb s u p) (z .0), z .1) k
 
 pub stops-few : (s : List ℕ) (m c n : ℕ) (x : Scan) → x ≡ scanBy (stopsFirst (linesOf s)) (length (held-in stopOf (linesOf s))) m → x ≡ Records c n → length s ≤ 16777216 → c ≤ 16777216
 stops-few s m c n x e y l = omega (arith, scan-records (stopsFirst (linesOf s)) (length (held-in stopOf (linesOf s))) m x e c n y .1, held-file stopOf s)

@@ -27,10 +27,10 @@ use Rattle.section_words.proofs.Words.{words-fields, words-stops, words-records
 use Rattle.plan_words.specs.Services.{blockWords, fewCalls}
 use Rattle.plan_words.proofs.Few.{head-none, few-calls}
 use Rattle.table_words.specs.declared.Header.{Header}
-use Rattle.table_words.specs.Words.{headerWords, fromBitFields, fromStops as wordsStops, fromInterchanges, roomFor}
+use Rattle.table_words.specs.Words.{headerWords, fromBitFields, fromStops as wordsStops, fromInterchanges as wordsInterchanges, roomFor}
 use Rattle.load.specs.declared.Delivered.{Delivered}
 use Rattle.load.specs.declared.Delivered.the-variants.{Holds, Wrong}
-use Rattle.load.specs.Checked.{longIn, fromPlan, fromRecords, fromStops, fromFields, fromPeriod, headerOf, deliveredBy}
+use Rattle.load.specs.Checked.{longIn, fromPlan, fromInterchanges, fromStops, fromFields, fromPeriod, headerOf, deliveredBy}
 use Rattle.load.proofs.Files.{short-none, all-short}
 
 -- ---- what the answer of the checks says
@@ -69,7 +69,7 @@ module _ (e b s u p : List ℕ) where
         length-stops (linesOf s),
         length-records (linesOf u),
         length-append (sectionWords BitFields (linesOf b)) (wordsStops s u p),
-        length-append (sectionWords Stops (linesOf s)) (fromInterchanges u p),
+        length-append (sectionWords Stops (linesOf s)) (wordsInterchanges u p),
         length-append (sectionWords Interchanges (linesOf u)) (blockWords (blocks (linesOf p))),
       )
 
@@ -119,7 +119,7 @@ module _ (e b s u p : List ℕ) where
           let days = periodIn (linesOf e) .days in
           let o₁ = then-none (inFile 1 (periodFirst (linesOf e))) (fromFields days b s u p) (short-none e b s u p (clean .0) .1) in
           let o₂ = then-none (inFile 2 (bitFieldsFirst days (linesOf b))) (fromStops days b s u p) (o₁ .1) in
-          let o₃ = then-none (inFile 3 (stopsFirst (linesOf s))) (fromRecords days b s u p) (o₂ .1) in
+          let o₃ = then-none (inFile 3 (stopsFirst (linesOf s))) (fromInterchanges days b s u p) (o₂ .1) in
           let o₄ = then-none (inFile 4 (interchangesFirst (held-in stopOf (linesOf s)) (linesOf u))) (fromPlan days b s p) (o₃ .1) in
           in-none 5 _ (o₄ .1)
 

@@ -29,11 +29,11 @@ longIn e b s u p = orNumber (longAt 1 e) (orNumber (longAt 2 b) (orNumber (longA
 abbrev pub fromPlan : ℕ → List ℕ → List ℕ → List ℕ → Option Where
 fromPlan days b s p = inFile 5 (planFirst (held-in bitFieldOf (linesOf b)) (held-in stopOf (linesOf s)) days (linesOf p))
 
-abbrev pub fromRecords : ℕ → List ℕ → List ℕ → List ℕ → List ℕ → Option Where
-fromRecords days b s u p = inFile 4 (interchangesFirst (held-in stopOf (linesOf s)) (linesOf u)) <|> fromPlan days b s p
+abbrev pub fromInterchanges : ℕ → List ℕ → List ℕ → List ℕ → List ℕ → Option Where
+fromInterchanges days b s u p = inFile 4 (interchangesFirst (held-in stopOf (linesOf s)) (linesOf u)) <|> fromPlan days b s p
 
 abbrev pub fromStops : ℕ → List ℕ → List ℕ → List ℕ → List ℕ → Option Where
-fromStops days b s u p = inFile 3 (stopsFirst (linesOf s)) <|> fromRecords days b s u p
+fromStops days b s u p = inFile 3 (stopsFirst (linesOf s)) <|> fromInterchanges days b s u p
 
 abbrev pub fromFields : ℕ → List ℕ → List ℕ → List ℕ → List ℕ → Option Where
 fromFields days b s u p = inFile 2 (bitFieldsFirst days (linesOf b)) <|> fromStops days b s u p
@@ -49,11 +49,11 @@ headerBy start days b s u v w = record { words = firstService b s u + w; start =
 abbrev pub planHeader : ℕ → ℕ → ℕ → ℕ → ℕ → List ℕ → Header
 planHeader start days nb ns nu p = headerBy start days nb ns nu (length (blocks (linesOf p))) (length (blockWords (blocks (linesOf p))))
 
-abbrev pub recordsHeader : ℕ → ℕ → ℕ → ℕ → List ℕ → List ℕ → Header
-recordsHeader start days nb ns u p = planHeader start days nb ns (length (held-in interchangeOf (linesOf u))) p
+abbrev pub interchangesHeader : ℕ → ℕ → ℕ → ℕ → List ℕ → List ℕ → Header
+interchangesHeader start days nb ns u p = planHeader start days nb ns (length (held-in interchangeOf (linesOf u))) p
 
 abbrev pub stopsHeader : ℕ → ℕ → ℕ → List ℕ → List ℕ → List ℕ → Header
-stopsHeader start days nb s u p = recordsHeader start days nb (length (held-in stopOf (linesOf s))) u p
+stopsHeader start days nb s u p = interchangesHeader start days nb (length (held-in stopOf (linesOf s))) u p
 
 abbrev pub fieldsHeader : ℕ → ℕ → List ℕ → List ℕ → List ℕ → List ℕ → Header
 fieldsHeader start days b s u p = stopsHeader start days (length (held-in bitFieldOf (linesOf b))) s u p

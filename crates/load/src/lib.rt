@@ -15,7 +15,7 @@ ghost use lib.ListN.{length};
 ghost use Rattle.timetable.specs.Delivery.{filesOf};
 ghost use Rattle.timetable.specs.Files.{orNumber};
 ghost use Rattle.timetable.specs.Load.{offence, loaded, written};
-ghost use Rattle.load.specs.Checked.{longAt, longIn, fromPlan, fromRecords, fromStops, fromFields, fromPeriod, headerBy, planHeader, recordsHeader, stopsHeader, fieldsHeader, headerOf, deliveredBy};
+ghost use Rattle.load.specs.Checked.{longAt, longIn, fromPlan, fromInterchanges, fromStops, fromFields, fromPeriod, headerBy, planHeader, interchangesHeader, stopsHeader, fieldsHeader, headerOf, deliveredBy};
 
 // What all checks but the room say: the header of the table, or number, file and line of the first offence.
 pub enum Delivered {
@@ -220,7 +220,7 @@ fn from_interchanges(
 ) -> Delivered
     requires { ⌜ (days ≤ 380) × (fields ≤ 16777216) × (stops ≤ 16777216) ⌝ }
     requires { ⌜ (length (now umsteigb) ≤ 16777216) × (length (now fplan) ≤ 16777216) ⌝ }
-    ensures { λ r. ⌜ r ≡ deliveredBy (fromRecords days (now (bitfeld .entry)) (now (bahnhof .entry)) (now (umsteigb .entry)) (now (fplan .entry))) (recordsHeader start days fields stops (now (umsteigb .entry)) (now (fplan .entry))) ⌝ }
+    ensures { λ r. ⌜ r ≡ deliveredBy (fromInterchanges days (now (bitfeld .entry)) (now (bahnhof .entry)) (now (umsteigb .entry)) (now (fplan .entry))) (interchangesHeader start days fields stops (now (umsteigb .entry)) (now (fplan .entry))) ⌝ }
 {
     let scan = sections::check_interchanges(umsteigb, bahnhof);
     match scan {

@@ -183,7 +183,7 @@ fn interchanges_place(w: &[u32]) -> usize
 // ---- services
 
 // Where the record of the i-th service begins.
-pub fn service_place(w: &[u32], i: u32) -> usize
+fn service_place(w: &[u32], i: u32) -> usize
     requires { ⌜ Whole (now w) × (i < word (now w) 6) ⌝ }
     ensures { λ r. ⌜ r ≡ servicePlace (now (w .entry)) i ⌝ }
 {
@@ -207,7 +207,7 @@ pub fn service_words(w: &[u32], i: u32) -> &[u32]
 // ---- the search
 
 // The first of n records of a size from place `at` on that begins with the key.
-pub fn find(w: &[u32], at: usize, n: u32, size: usize, key: u32) -> Found
+fn find(w: &[u32], at: usize, n: u32, size: usize, key: u32) -> Found
     requires { ⌜ (1 ≤ size) × (at + size * n ≤ length (now w)) ⌝ }
     ensures { λ r. ⌜ r ≡ placeOf (now (w .entry)) key size at n ⌝ }
 {

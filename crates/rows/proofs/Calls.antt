@@ -35,11 +35,11 @@ module _ (free stated : Bool) (before time : ℕ) where
   pub fine-order : free ≡ false → not stated ≡ false → leb before time ≡ timeFine free stated before time
   fine-order e n = rw (e, not-false stated n)
 
-pub either-first : (t : Bool) (x y : ℕ) → t ≡ true → x ≡ cond t x y
-either-first t x y e = rw e
+pub choose-first : (t : Bool) (x y : ℕ) → t ≡ true → x ≡ cond t x y
+choose-first t x y e = rw e
 
-pub either-second : (t : Bool) (x y : ℕ) → t ≡ false → y ≡ cond t x y
-either-second t x y e = rw e
+pub choose-second : (t : Bool) (x y : ℕ) → t ≡ false → y ≡ cond t x y
+choose-second t x y e = rw e
 
 module _ (n i before : ℕ) (c : Call) (x : Bool) (e : x ≡ timeFine (eqb i 0) (eqb (c .flags % 2) 1) before (c .arrival)) where
   pub times-no : not x ≡ true → false ≡ timesFine n i before c
@@ -50,7 +50,7 @@ module _ (n i before : ℕ) (c : Call) (x : Bool) (e : x ≡ timeFine (eqb i 0) 
   unfolding timesFine
   times-both k b q y f = rw (sym e ∙ not-false x k) (f ∙ rw q)
 
-pub ruleset times = (tests, fine-free, fine-missing, fine-order, either-first, either-second, times-no, times-both)
+pub ruleset times = (tests, fine-free, fine-missing, fine-order, choose-first, choose-second, times-no, times-both)
 
 -- ---- one call; x says whether its stop is known, y whether its times are fine, z whether its leaving leg has one *G
 
