@@ -9,7 +9,7 @@ seed=${1:-1} count=${2:-20000} first=${3:-0}
 planner_library
 compare_library
 program trial_week planner/examples/trial_week.rs
-tests='refusals rows table'
+tests='largest refusals rows table'
 for test in $tests; do program "$test" "planner/tests/$test.rs" --test; done
 for tool in standard delivery; do program "$tool" "compare/src/bin/$tool.rs"; done
 
