@@ -133,7 +133,7 @@ fn leg_days(w: &[u32], n: u32, bits: &[u32], leg: u32) -> [u32; 12]
     twelve_at(bits, place * 4)
 }
 
-// ---- helpers
+// ---- one range, one bit field
 
 // Whether the range from call `from` to call `to` covers a leg.
 fn covers_leg(from: u32, to: u32, leg: u32) -> bool
