@@ -32,13 +32,6 @@ twelve-months y = go (isLeap y)
     go true = refl
     go false = refl
 
-pub year-le : (y : ℕ) → yearDays y ≤ 366
-year-le y = go (isLeap y)
-  where
-    go : (t : Bool) → cond t 366 365 ≤ 366
-    go true = omega arith
-    go false = omega arith
-
 -- the days before a month and the month's own are within the year
 pub months-within : (y m : ℕ) → 1 ≤ m → m ≤ 12 → monthsBefore y (m - 1) + monthDays y m ≤ yearDays y
 unfolding monthsBefore

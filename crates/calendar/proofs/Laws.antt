@@ -2,26 +2,21 @@
 use mathlib.Core.Path.{_≡_, sym, _∙_}
 use mathlib.Core.Logic.{_⊎_, inl, inr}
 use mathlib.Core.Bool.{Bool, true, false, not}
-use Prim.Native.Nat.{ℕ, suc, _+_, _-_, _^_, _≤_, _<_}
-use native.Mathlib.Nat.{le-antisymm}
+use Prim.Native.Nat.{ℕ, _+_, _-_, _^_, _≤_, _<_}
 use native.Mathlib.Omega.{arith}
+use lib.ListN.{getD}
 use lib.Dec.{ltb}
 use borrow.Author.Tests.{ne-eqb, lt-ltb, le-ltb, le-leb, lt-leb}
 use Rattle.base.proofs.Laws.{tests}
-use Rattle.calendar.specs.Calendar.{isLeap, yearDays, monthDays, yearsBefore, monthsBefore, exists, dayOf, periodOf}
+use Rattle.calendar.specs.Calendar.{isLeap, monthDays, yearsBefore, monthsBefore, exists, dayOf, periodOf}
 use Rattle.calendar.specs.declared.Date.the-variants.{Day, NoSuchDate}
 use Rattle.calendar.specs.declared.Period.the-variants.{Days, NoPeriod}
-use Rattle.calendar.proofs.Bounds.{year-le, months-within, years-within}
+use Rattle.calendar.proofs.Bounds.{months-within, years-within}
+use Rattle.calendar.proofs.Closed.{commonYear, years-closed, months-closed, table-le}
 
--- ---- the lengths of years and months; t is whether the year is a leap year
+-- ---- the lengths of months; t is whether the year is a leap year
 
 module _ (y : ℕ) (t : Bool) (e : t ≡ isLeap y) where
-  pub leap-year : t ≡ true → 366 ≡ yearDays y
-  leap-year k = rw (sym e ∙ k)
-
-  pub common-year : t ≡ false → 365 ≡ yearDays y
-  common-year k = rw (sym e ∙ k)
-
   pub leap-february : (m : ℕ) → m ≡ 2 → t ≡ true → 29 ≡ monthDays y m
   leap-february m h k = rw (h, sym e ∙ k)
 
@@ -38,38 +33,25 @@ pub long-month : (y m : ℕ) → (m ≡ 2 → ⊥) → ((m ≡ 4) ⊎ ((m ≡ 6)
 long-month y m a b =
     rw (ne-eqb m 2 a, ne-eqb m 4 (λ e. b (inl e)), ne-eqb m 6 (λ e. b (inr (inl e))), ne-eqb m 9 (λ e. b (inr (inr (inl e)))), ne-eqb m 11 (λ e. b (inr (inr (inr e)))))
 
-pub ruleset lengths = (tests, leap-year, common-year, leap-february, common-february, short-month, long-month)
+pub ruleset lengths = (tests, leap-february, common-february, short-month, long-month)
 
--- ---- the sums of years and months; t is the sum up to x, l the length of x
+-- ---- the days before a year and before a month m; t is whether the year is a leap year
 
-module _ (x t l : ℕ) where
-  pub years-again : 1900 ≤ x → t ≡ yearsBefore (x - 1900) → l ≡ yearDays x → t + l ≡ yearsBefore (x + 1 - 1900)
-  unfolding yearsBefore
-  years-again h e k =
-      let a : x + 1 - 1900 ≡ suc (x - 1900) = omega arith in
-      let b : 1900 + (x - 1900) ≡ x = omega arith in
-      rw (a, b, e, k)
+module _ (y m : ℕ) (a : 1 ≤ m) (b : m ≤ 12) where
+  pub before-leap-day : m ≤ 2 → getD commonYear (m - 1) 0 ≡ monthsBefore y (m - 1)
+  before-leap-day h = rw (months-closed y (m - 1) (omega arith), lt-ltb (m - 1) 2 (omega arith)) (omega arith)
 
-  pub years-fit : (y : ℕ) → 1900 ≤ x → x < y → y ≤ 2199 → t ≡ yearsBefore (x - 1900) → l ≡ yearDays x → t + l < 2 ^ 32
-  years-fit y g h k e m = omega (arith, years-within x g (omega arith))
+  module _ (t : Bool) (e : t ≡ isLeap y) (h : 2 < m) where
+    pub past-leap-day : t ≡ true → getD commonYear (m - 1) 0 + 1 ≡ monthsBefore y (m - 1)
+    past-leap-day k = rw (months-closed y (m - 1) (omega arith), le-ltb (m - 1) 2 (omega arith), sym e ∙ k)
 
-  pub months-again : (y : ℕ) → 1 ≤ x → t ≡ monthsBefore y (x - 1) → l ≡ monthDays y x → t + l ≡ monthsBefore y (x + 1 - 1)
-  unfolding monthsBefore
-  months-again y h e k =
-      let a : x + 1 - 1 ≡ suc (x - 1) = omega arith in
-      let b : suc (x - 1) ≡ x = omega arith in
-      rw (a, e, k, b)
+    pub no-leap-day : t ≡ false → getD commonYear (m - 1) 0 ≡ monthsBefore y (m - 1)
+    no-leap-day k = rw (months-closed y (m - 1) (omega arith), le-ltb (m - 1) 2 (omega arith), sym e ∙ k) (omega arith)
 
-  pub months-fit : (y m : ℕ) → 1 ≤ x → x < m → m ≤ 12 → t ≡ monthsBefore y (x - 1) → l ≡ monthDays y x → t + l < 2 ^ 32
-  months-fit y m g h k e q = omega (arith, months-within y x g (omega arith), year-le y)
+pub leap-day-fits : (m : ℕ) → 1 ≤ m → m ≤ 12 → getD commonYear (m - 1) 0 + 1 < 2 ^ 32
+leap-day-fits m a b = omega (arith, table-le (m - 1) (omega arith))
 
-pub years-done : (x y t : ℕ) → x ≤ y → y ≤ x → t ≡ yearsBefore (x - 1900) → t ≡ yearsBefore (y - 1900)
-years-done x y t a b e = rw (le-antisymm a b) at e
-
-pub months-done : (y x m t : ℕ) → x ≤ m → m ≤ x → t ≡ monthsBefore y (x - 1) → t ≡ monthsBefore y (m - 1)
-months-done y x m t a b e = rw (le-antisymm a b) at e
-
-pub ruleset sums = (tests, years-again, years-fit, years-done, months-again, months-fit, months-done)
+pub ruleset sums = (tests, years-closed, before-leap-day, past-leap-day, no-leap-day, leap-day-fits)
 
 -- ---- a date whose year and month are in their ranges; l is the month's length, a and b the days before the year and the month
 

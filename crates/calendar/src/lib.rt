@@ -1,7 +1,7 @@
 // Gregorian dates from 01.01.1900, day 0, to 31.12.2199, and periods of 1 to 380 days.
 ghost use mathlib.Core.Path.{_≡_};
 ghost use Prim.Native.Nat.{_≤_, _-_};
-ghost use Rattle.calendar.specs.Calendar.{isLeap, yearDays, monthDays, yearsBefore, monthsBefore, dayOf, dateIn, periodOf};
+ghost use Rattle.calendar.specs.Calendar.{isLeap, monthDays, yearsBefore, monthsBefore, dayOf, dateIn, periodOf};
 
 // What day, month and year say: a day number, or that there is no such date.
 pub enum Date {
@@ -64,38 +64,30 @@ pub fn period_of(start: u32, end: u32) -> Period
     Period::NoPeriod
 }
 
-// The days of the years from 1900 up to y.
+// The days of the years from 1900 up to y: 365 each, and the leap days. Among n years from 1900 on there are (n + 3) / 4 that 4 divides,
+// (n + 99) / 100 that 100 divides, and (n + 299) / 400 that 400 divides, the first of them 2000.
 fn years_before(y: u32) -> u32
     requires { ⌜ (1900 ≤ y) × (y ≤ 2199) ⌝ }
     ensures { λ r. ⌜ r ≡ yearsBefore (y - 1900) ⌝ }
 {
-    let mut total: u32 = 0;
-    let mut x: u32 = 1900;
-    while x < y {
-        total += year_days(x);
-        x += 1;
-    }
-    total
+    let n = y - 1900;
+    let leap_days = (n + 3) / 4 - (n + 99) / 100 + (n + 299) / 400;
+    365 * n + leap_days
 }
+
+// The days of a common year before each of its months.
+const BEFORE_MONTH: [u32; 12] = [0, 31, 59, 90, 120, 151, 181, 212, 243, 273, 304, 334];
 
 // The days of the months of year y before month m.
 fn months_before(y: u32, m: u32) -> u32
     requires { ⌜ (1 ≤ m) × (m ≤ 12) ⌝ }
     ensures { λ r. ⌜ r ≡ monthsBefore y (m - 1) ⌝ }
 {
-    let mut total: u32 = 0;
-    let mut x: u32 = 1;
-    while x < m {
-        total += month_days(y, x);
-        x += 1;
+    let days = BEFORE_MONTH[(m - 1) as usize];
+    if m <= 2 {
+        return days;
     }
-    total
-}
-
-fn year_days(y: u32) -> u32
-    ensures { λ r. ⌜ r ≡ yearDays y ⌝ }
-{
-    if leap(y) { 366 } else { 365 }
+    if leap(y) { days + 1 } else { days }
 }
 
 fn month_days(y: u32, m: u32) -> u32
