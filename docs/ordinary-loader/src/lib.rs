@@ -1,0 +1,87 @@
+//! An ordinary loader of document 01's rules, with maps: each file is read once, line by line, numbers are looked up in a
+//! `HashMap`, and the table is built in a `Vec` and copied to the words lent. Document 02, No. 13 asks for it: the proved
+//! loader should take at most three times as long. It is written from the papers, with the open points read as
+//! docs/DECISIONS.md reads them, and shares no code with the proved loader or with the comparison's reader.
+
+#![warn(missing_docs)]
+
+mod bits;
+mod calendar;
+mod fields;
+mod lines;
+mod period;
+mod plan;
+mod refusal;
+mod route;
+mod sections;
+mod service;
+mod table;
+
+pub use refusal::Refusal;
+
+use refusal::{number, Offence};
+use sections::{BitFields, Stops};
+use table::Table;
+
+/// "file over 16,777,216 bytes"
+const LONGEST_FILE: usize = 16_777_216;
+
+/// The files of a delivery, each as its bytes.
+#[derive(Clone, Copy, Debug)]
+pub struct Files<'a> {
+    /// ECKDATEN: the period.
+    pub eckdaten: &'a [u8],
+    /// BITFELD: the bit fields.
+    pub bitfeld: &'a [u8],
+    /// BAHNHOF: the stops.
+    pub bahnhof: &'a [u8],
+    /// UMSTEIGB: the interchange times.
+    pub umsteigb: &'a [u8],
+    /// FPLAN: the services.
+    pub fplan: &'a [u8],
+}
+
+impl<'a> Files<'a> {
+    /// Each file with its number, in the order in which they are checked.
+    fn numbered(&self) -> [(u32, &'a [u8]); 5] {
+        [(1, self.eckdaten), (2, self.bitfeld), (3, self.bahnhof), (4, self.umsteigb), (5, self.fplan)]
+    }
+}
+
+/// Loads a delivery into the words lent, and says how many are used; later words stay. A refusal is the first offence in
+/// document 01's order, and leaves all words as lent.
+pub fn load(files: &Files<'_>, lent: &mut [u32]) -> Result<u32, Refusal> {
+    let words = words_of(files)?;
+    let needed = words.len() as u32;
+    match lent.get_mut(..words.len()) {
+        Some(table) => table.copy_from_slice(&words),
+        None => return Err(Refusal { number: number::TABLE_SHORT, file: 0, line: 0, column: 0, needed }),
+    }
+    Ok(needed)
+}
+
+/// The words of a delivery's table, or the first offence (1 to 19).
+pub fn words_of(files: &Files<'_>) -> Result<Vec<u32>, Refusal> {
+    check_lengths(files)?;
+    let [eckdaten, bitfeld, bahnhof, umsteigb, fplan] = files.numbered();
+    let period = of(eckdaten, period::read)?;
+    let mut table = Table::new(&period);
+    let fields: BitFields = of(bitfeld, |file| sections::read_bit_fields(file, &period, &mut table))?;
+    let stops: Stops = of(bahnhof, |file| sections::read_stops(file, &mut table))?;
+    of(umsteigb, |file| sections::read_interchanges(file, &stops, &mut table))?;
+    of(fplan, |file| plan::read(file, &stops, &fields, &mut table))?;
+    Ok(table.finish())
+}
+
+/// "First, lengths in file order."
+fn check_lengths(files: &Files<'_>) -> Result<(), Refusal> {
+    match files.numbered().iter().find(|(_, bytes)| bytes.len() > LONGEST_FILE) {
+        Some((file, _)) => Err(Offence { number: number::FILE_LONG, line: 0, column: 0 }.in_file(*file)),
+        None => Ok(()),
+    }
+}
+
+/// What is read from a numbered file; an offence gets the number.
+fn of<'a, T>((file, bytes): (u32, &'a [u8]), read: impl FnOnce(&'a [u8]) -> Result<T, Offence>) -> Result<T, Refusal> {
+    read(bytes).map_err(|offence| offence.in_file(file))
+}

@@ -1,0 +1,33 @@
+//! `ordinary-loader [DIRECTORY]`: loads the delivery of a directory (else of this one), and prints what the program of
+//! document 01 prints: `accepted ..`, `refused N file F line L`, or `unread file F`.
+
+use std::path::Path;
+use std::process::exit;
+
+use ordinary_loader::{words_of, Files};
+
+const NAMES: [&str; 5] = ["ECKDATEN", "BITFELD", "BAHNHOF", "UMSTEIGB", "FPLAN"];
+
+fn main() {
+    let directory = std::env::args().nth(1).unwrap_or_else(|| ".".to_string());
+    let [eckdaten, bitfeld, bahnhof, umsteigb, fplan] = &read_all(Path::new(&directory));
+    match words_of(&Files { eckdaten, bitfeld, bahnhof, umsteigb, fplan }) {
+        Ok(words) => println!(
+            "accepted days {} bitfields {} stops {} interchange {} services {} words {}",
+            words[2], words[3], words[4], words[5], words[6], words[0]
+        ),
+        Err(refusal) => println!("refused {} file {} line {}", refusal.number, refusal.file, refusal.line),
+    }
+}
+
+/// The bytes of all files.
+fn read_all(directory: &Path) -> [Vec<u8>; 5] {
+    let mut number = 0;
+    NAMES.map(|name| {
+        number += 1;
+        std::fs::read(directory.join(name)).unwrap_or_else(|_| {
+            println!("unread file {}", number);
+            exit(1)
+        })
+    })
+}
