@@ -3,7 +3,8 @@
 # emulator (cross.sh); what is missing for that is installed.
 #
 #   tools/host.sh run CRATE PROGRAM [WORD..]   links compare/src/bin/PROGRAM.rs to the archive of CRATE, and runs it
-#   tools/host.sh selftest                     runs the tests of compare/ on this machine, with no archive
+#   tools/host.sh selftest                     runs the tests of compare/ on this machine, with no archive, and ordinary
+#   tools/host.sh ordinary [SEED COUNT [FIRST]]  compares the ordinary loader of docs/ with the reader, with no archive
 #
 # What it makes stays below target/host/.
 set -eu
@@ -60,12 +61,25 @@ run() {
 selftest() {
     need_rustc
     rustc --edition 2021 -O --test compare/src/lib.rs -o "$out/selftest"
-    exec "$out/selftest"
+    "$out/selftest"
+    ordinary
+}
+
+# Makes its libraries apart from those for x86-64.
+ordinary() {
+    need_rustc
+    [ $# -gt 0 ] || set -- 1 20000
+    mkdir -p "$out/own"
+    rustc --edition 2021 -O --crate-type rlib --crate-name compare compare/src/lib.rs --out-dir "$out/own"
+    rustc --edition 2021 -O --crate-type rlib --crate-name ordinary_loader docs/ordinary-loader/src/lib.rs --out-dir "$out/own"
+    rustc --edition 2021 -O compare/src/bin/ordinary.rs -L "$out/own" --extern compare --extern ordinary_loader -o "$out/own/ordinary"
+    "$out/own/ordinary" "$@"
 }
 
 mkdir -p "$out"
 case ${1:-} in
 run) [ $# -ge 3 ] || die 'run CRATE PROGRAM [WORD..]'; shift; run "$@" ;;
 selftest) selftest ;;
-*) die 'run CRATE PROGRAM [WORD..], or selftest' ;;
+ordinary) shift; ordinary "$@" ;;
+*) die 'run CRATE PROGRAM [WORD..], selftest, or ordinary [SEED COUNT [FIRST]]' ;;
 esac

@@ -10,8 +10,9 @@ use crate::generate::Question;
 
 const NAMES: [&str; 5] = ["ECKDATEN", "BITFELD", "BAHNHOF", "UMSTEIGB", "FPLAN"];
 
-/// Tells a difference, with what was given written below a directory.
-pub fn report(seed: u64, index: u64, difference: &Difference, below: &Path) -> String {
+/// Tells a difference, with what was given written below a directory, and the command that takes a seed, a count and a first
+/// case.
+pub fn report(seed: u64, index: u64, difference: &Difference, below: &Path, command: &str) -> String {
     let directory = below.join(format!("{}-{}", seed, index));
     let written = match write_given(&difference.call, &directory) {
         Ok(()) => format!("what was given is in {}", directory.display()),
@@ -22,7 +23,7 @@ pub fn report(seed: u64, index: u64, difference: &Difference, below: &Path) -> S
     let mut lines = vec![head];
     lines.extend(difference.expected.differs(&difference.found).into_iter().map(|line| format!("  {}", line)));
     lines.push(written);
-    lines.push(format!("run again: tools/planner.sh {} 1 {}", seed, index));
+    lines.push(format!("run again: {} {} 1 {}", command, seed, index));
     lines.join("\n")
 }
 

@@ -25,9 +25,9 @@ impl Tally {
         *self.counts.entry(kind(call, &outcome.answer)).or_insert(0) += 1;
     }
 
-    /// The kinds of answers that never came.
-    pub fn missing(&self) -> Vec<String> {
-        let all = ANSWERS.iter().flat_map(|(call, plain, refusals)| {
+    /// The kinds of answers of these calls that never came.
+    pub fn missing(&self, calls: &[&str]) -> Vec<String> {
+        let all = ANSWERS.iter().filter(|(call, _, _)| calls.contains(call)).flat_map(|(call, plain, refusals)| {
             let plain = plain.iter().map(|name| name.to_string());
             plain.chain(refusals.iter().map(|number| refused(*number))).map(move |answer| (*call, answer))
         });
@@ -62,10 +62,10 @@ fn kind(call: &Call, answer: &[u32]) -> (&'static str, String) {
 
 impl fmt::Display for Tally {
     fn fmt(&self, f: &mut fmt::Formatter<'_>) -> fmt::Result {
-        for (of, _, _) in ANSWERS {
+        for (of, _, _) in ANSWERS.iter().filter(|(of, _, _)| self.calls(of) > 0) {
             writeln!(f, "{}: {} calls", of, self.calls(of))?;
             for ((call, answer), times) in &self.counts {
-                if *call == of {
+                if call == of {
                     writeln!(f, "  {:<12} {:>9}", answer, times)?;
                 }
             }
