@@ -35,6 +35,11 @@ pub fn bitfield(number: &str, digits: &str) -> String {
     format!("{} {:0<96}", number, digits)
 }
 
+/// The 96 hex digits of a bit field.
+pub fn bit_digits(words: &[u32; 12]) -> String {
+    words.iter().map(|word| format!("{:08X}", word)).collect()
+}
+
 pub fn file(lines: &[String]) -> Vec<u8> {
     lines.iter().map(|line| format!("{}\n", line)).collect::<String>().into_bytes()
 }

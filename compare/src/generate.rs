@@ -9,18 +9,20 @@ pub mod break_plan;
 pub mod break_sheet;
 pub mod case;
 pub mod ends;
+pub mod national;
+pub mod numbers;
 pub mod plan;
 pub mod questions;
 pub mod raw_table;
 pub mod rng;
-pub mod scaled;
 pub mod sheet;
 
 pub use bend_table::damaged_table;
 pub use case::{damaged, mixed, mutated, oversized, several, valid, Aim, Case};
+pub use national::{empty_lines, national, shortest_records, National, MIB};
+pub use numbers::Numbers;
 pub use questions::{question, Question};
 pub use rng::Rng;
-pub use scaled::scaled;
 
 /// How large a delivery gets.
 #[derive(Clone, Copy, Debug, PartialEq, Eq)]

@@ -5,6 +5,7 @@ mod differ;
 mod examples;
 mod expected;
 mod ground;
+mod national;
 mod random;
 mod refusals;
 mod standard;

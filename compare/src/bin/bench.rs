@@ -11,7 +11,7 @@ use std::time::{Duration, Instant};
 
 use compare::boundary::{Boundary, Reader};
 use compare::generate::plan::date_of;
-use compare::generate::{scaled, Rng};
+use compare::generate::{national, National, Rng, MIB};
 
 #[path = "../archive.rs"]
 mod archive;
@@ -45,7 +45,7 @@ fn main() {
 }
 
 fn bench(mib: f64) {
-    let files = scaled(&mut Rng::new(1), (mib * 1_048_576.0) as usize);
+    let files = national(&mut Rng::new(1), &National::of_bytes((mib * MIB as f64) as usize));
     let [a, b, c, d, e] = &files;
     let files: [&[u8]; 5] = [a, b, c, d, e];
     let [number, _, line, words] = Reader.load(files, &mut []);
@@ -129,13 +129,14 @@ fn walk(boundary: &dyn Boundary, table: &[u32], rng: &mut Rng, rows: &mut [u32])
 }
 
 fn day(boundary: &dyn Boundary, table: &[u32], rng: &mut Rng, _: &mut [u32]) -> (Vec<u32>, Duration) {
-    let (date, field) = (date(rng, table), rng.below(table[3] + 1));
+    let (date, field) = (date(rng, table), table[8 + 13 * rng.below(table[3]) as usize]);
     let (answer, time) = timed(|| boundary.day(table, date, field));
     (answer.to_vec(), time)
 }
 
 fn interchange(boundary: &dyn Boundary, table: &[u32], rng: &mut Rng, _: &mut [u32]) -> (Vec<u32>, Duration) {
-    let (stop, classes) = (1_000_001 + rng.below(table[4]), [rng.below(4), 1]);
+    let first_stop = 8 + 13 * table[3] as usize;
+    let (stop, classes) = (table[first_stop + 3 * rng.below(table[4]) as usize], [rng.below(4), 1]);
     let (answer, time) = timed(|| boundary.interchange(table, stop, classes));
     (answer.to_vec(), time)
 }

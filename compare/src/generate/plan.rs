@@ -239,7 +239,7 @@ fn random_calls(rng: &mut Rng, stops: &[u32], calls: usize) -> Vec<Call> {
 }
 
 /// Where to cut so many legs into so many parts, both outer ends among the cuts.
-fn random_cuts(rng: &mut Rng, legs: usize, parts: usize) -> Vec<usize> {
+pub fn random_cuts(rng: &mut Rng, legs: usize, parts: usize) -> Vec<usize> {
     let mut inner: Vec<usize> = (1..legs).collect();
     rng.shuffle(&mut inner);
     inner.truncate(parts.min(legs).saturating_sub(1));

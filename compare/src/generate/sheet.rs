@@ -3,6 +3,7 @@
 use super::ends::{from_text, hours_minutes, to_text};
 use super::plan::{date_of, Given, Plan, Range, Service};
 use super::rng::Rng;
+use crate::columns::bit_digits;
 
 /// What a line stands for; the numbers are places in the plan.
 #[derive(Clone, Copy, Debug, PartialEq, Eq)]
@@ -101,8 +102,7 @@ fn dates(rng: &mut Rng, plan: &Plan) -> Vec<Row> {
 fn bitfields(rng: &mut Rng, plan: &Plan) -> Vec<Row> {
     let mut rows = Vec::new();
     for (i, (number, words)) in plan.bitfields.iter().enumerate() {
-        let hex: String = words.iter().map(|word| format!("{:08X}", word)).collect();
-        let mut text = format!("{:06} {}", number, hex).into_bytes();
+        let mut text = format!("{:06} {}", number, bit_digits(words)).into_bytes();
         if rng.once_in(8) {
             text.extend([b' '; 3]);
         }

@@ -2,6 +2,7 @@
 
 use super::question::{about, bit_bytes, What};
 use super::tally::Tally;
+use crate::columns::bit_digits;
 use crate::generate::Rng;
 use crate::reader::bits::{BitWords, BITS};
 
@@ -82,8 +83,8 @@ fn ask_sets(tally: &mut Tally, a: BitWords, b: BitWords) {
 
 /// A line with 96 hex digits; now and then one is another byte, or the line ends early.
 fn ask_line(tally: &mut Tally, rng: &mut Rng) {
-    let hex: String = random_words(rng).iter().map(|word| format!("{:08X}", word)).collect();
-    let mut line = format!("{:06} {}", rng.below(1_000_000), hex).into_bytes();
+    let digits = bit_digits(&random_words(rng));
+    let mut line = format!("{:06} {}", rng.below(1_000_000), digits).into_bytes();
     match rng.below(4) {
         0 => {
             let at = rng.index(line.len());

@@ -2,7 +2,7 @@
 
 use super::{Checked, Paper};
 use crate::boundary::Boundary;
-use crate::columns::bitfield;
+use crate::columns::{bit_digits, bitfield};
 use crate::generate::plan::{bitfield_of, date_of};
 
 const STOPS: [&str; 4] = [
@@ -33,7 +33,7 @@ const SATURDAY_DAYS: u32 = 238;
 pub fn saturdays(boundary: &dyn Boundary) -> Vec<Checked> {
     let paper = Paper::new().with(1, &["27.09.1996", "22.05.1997", ""]);
     let printed = "C0810204081020408102040810204081020";
-    let days: String = bitfield_of(SATURDAY_DAYS, |d| d % 7 == 6).iter().map(|word| format!("{:08X}", word)).collect();
+    let days = bit_digits(&bitfield_of(SATURDAY_DAYS, |d| d % 7 == 6));
     let begins = u32::from(days.starts_with(printed));
     let refused =
         |text: &str, line: String, number: u32| paper.clone().with(2, &[line]).refused(boundary, text, [number, 2, 1]);

@@ -2,14 +2,14 @@
 
 use super::{Checked, Paper};
 use crate::boundary::Boundary;
-use crate::columns::{a, bitfield, call, g, z};
+use crate::columns::{a, bit_digits, bitfield, call, g, z};
 use crate::generate::plan::bitfield_of;
 
 /// The days of 5.4.1's period.
 const DAYS: u32 = 245;
 
 fn hex(runs: impl FnMut(u32) -> bool) -> String {
-    bitfield_of(DAYS, runs).iter().map(|word| format!("{:08X}", word)).collect()
+    bit_digits(&bitfield_of(DAYS, runs))
 }
 
 /// 5.3.1, its times with five digits.

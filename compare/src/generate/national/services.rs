@@ -1,0 +1,169 @@
+//! The services of a large FPLAN: routes of neighbouring stops, some of them there and back.
+
+use super::ends::{from_end, to_end, EndText};
+use super::{stop_name, FAMILY};
+use crate::columns::{a, g, line, z};
+use crate::generate::ends::hours_minutes;
+use crate::generate::plan::{random_cuts, Call};
+use crate::generate::rng::Rng;
+
+const ADMINISTRATIONS: [&str; 5] = ["FERRY_", "80____", "000011", "BLS_33", "PAG801"];
+const CATEGORIES: [&str; 10] = ["ICE", "IC", "IR", "RE", "RB", "S", "BUS", "TRM", "BAT", "FUN"];
+const CODES: [&str; 6] = ["FA", "B", "WR", "KL", "RO", "X"];
+
+/// What services are made of: the numbers of all stops and bit fields.
+pub struct Services<'a> {
+    pub stops: &'a [u32],
+    pub fields: &'a [u32],
+}
+
+impl Services<'_> {
+    /// The lines of a service.
+    pub fn service(&self, rng: &mut Rng, number: u32) -> Vec<String> {
+        let calls = self.calls(rng);
+        let administration = rng.pick(&ADMINISTRATIONS);
+        let number = format!("{:05}", number % 100_000);
+        let mut lines = vec![opening(rng, &number, administration)];
+        lines.extend(categories(rng, &calls));
+        lines.extend(self.operating_days(rng, &calls));
+        lines.extend(self.attributes(rng, &calls));
+        lines.extend(calls.iter().map(|call| call_line(rng, call, &number, administration)));
+        lines
+    }
+
+    fn calls(&self, rng: &mut Rng) -> Vec<Call> {
+        let count = match rng.below(100) {
+            0..=14 => rng.between(2, 7),
+            15..=79 => rng.between(8, 25),
+            80..=97 => rng.between(26, 60),
+            _ => rng.between(61, 200),
+        };
+        let mut now = rng.between(240, 1_320);
+        let stops = self.route(rng, count as usize);
+        let last = stops.len() - 1;
+        let call = |(at, stop): (usize, &u32)| {
+            let arrival = now;
+            now += if rng.once_in(4) { rng.below(6) } else { 0 };
+            let departure = now;
+            now += rng.between(1, 9);
+            let stated = |time: u32, is: bool| if is { Some(time) } else { None };
+            Call { stop: *stop, arrival: stated(arrival, at > 0), departure: stated(departure, at < last) }
+        };
+        stops.iter().enumerate().map(call).collect()
+    }
+
+    /// So many stops, each near the one before; once in twenty times there and back.
+    fn route(&self, rng: &mut Rng, count: usize) -> Vec<u32> {
+        let mut at = rng.index(self.stops.len());
+        let mut route = Vec::with_capacity(count);
+        for _ in 0..count {
+            route.push(self.stops[at]);
+            at = (at + rng.between(1, 12.min(self.stops.len() as u32 - 1)) as usize) % self.stops.len();
+        }
+        if rng.once_in(20) {
+            let back: Vec<u32> = route.iter().take(count / 2).rev().copied().collect();
+            route.truncate(count - back.len());
+            route.extend(back);
+        }
+        route
+    }
+
+    /// *A VE over all legs. Where there are several, their bit fields are of one family, and the one that runs most
+    /// often has the others on both sides: no day has two stretches.
+    fn operating_days(&self, rng: &mut Rng, calls: &[Call]) -> Vec<String> {
+        let parts = rng.pick(&[1, 1, 1, 1, 1, 1, 2, 2, 3, 5]);
+        let cuts = random_cuts(rng, calls.len() - 1, parts);
+        let (peak, family) = (rng.index(cuts.len() - 1), self.family(rng));
+        let field = |part: usize| family.get(part.abs_diff(peak).min(FAMILY - 1)).map(|field| format!("{:06}", field));
+        let range = |(part, ends): (usize, &[usize])| {
+            range_line(rng, calls, ends, |from, to| a("VE", from, to, &field(part).unwrap_or_default()))
+        };
+        cuts.windows(2).enumerate().map(range).collect()
+    }
+
+    /// Bit fields of a family; none for a service that runs daily.
+    fn family(&self, rng: &mut Rng) -> &[u32] {
+        let families = self.fields.chunks_exact(FAMILY);
+        if families.len() == 0 || rng.once_in(8) {
+            return &[];
+        }
+        let chosen = FAMILY * rng.index(families.len());
+        &self.fields[chosen..chosen + FAMILY]
+    }
+
+    /// Other *A, up to four, some only on some days.
+    fn attributes(&self, rng: &mut Rng, calls: &[Call]) -> Vec<String> {
+        let count = rng.pick(&[0, 0, 0, 1, 1, 2, 4]);
+        let mut lines = Vec::new();
+        for _ in 0..count {
+            let (one, other) = (rng.index(calls.len()), rng.index(calls.len()));
+            let whole = [0, calls.len() - 1];
+            let ends = if rng.coin() { whole } else { [one.min(other), one.max(other)] };
+            let (code, family) = (rng.pick(&CODES), self.family(rng));
+            let field = family.first().filter(|_| rng.once_in(3)).map(|field| format!("{:06}", field));
+            lines.push(range_line(rng, calls, &ends, |from, to| a(code, from, to, &field.unwrap_or_default())));
+        }
+        lines
+    }
+}
+
+/// Now and then with repeats.
+fn opening(rng: &mut Rng, number: &str, administration: &str) -> String {
+    if rng.once_in(8) {
+        return z(
+            number,
+            administration,
+            &format!("{:03}", rng.between(1, 30)),
+            &format!("{:03}", rng.between(5, 120)),
+        );
+    }
+    z(number, administration, "", "")
+}
+
+/// *G over all legs, mostly one.
+fn categories(rng: &mut Rng, calls: &[Call]) -> Vec<String> {
+    let parts = rng.pick(&[1, 1, 1, 1, 1, 1, 1, 2, 2, 3]);
+    let cuts = random_cuts(rng, calls.len() - 1, parts);
+    let range = |ends: &[usize]| {
+        let category = rng.pick(&CATEGORIES);
+        range_line(rng, calls, ends, |from, to| g(category, from, to))
+    };
+    cuts.windows(2).map(range).collect()
+}
+
+/// A range from the first of two indexes to the second.
+fn range_line(
+    rng: &mut Rng,
+    calls: &[Call],
+    ends: &[usize],
+    line: impl FnOnce((&str, &str), (&str, &str)) -> String,
+) -> String {
+    let from = from_end(rng, calls, ends[0]);
+    let to = to_end(rng, calls, ends[1]);
+    line(parts_of(&from), parts_of(&to))
+}
+
+fn parts_of((end, detail): &EndText) -> (&str, &str) {
+    (end, detail)
+}
+
+/// With the stop's name; now and then with number and administration, a time that forbids, or an X.
+fn call_line(rng: &mut Rng, call: &Call, number: &str, administration: &str) -> String {
+    let (number, administration) = if rng.once_in(12) { (number, administration) } else { ("", "") };
+    let cross = if rng.once_in(200) { "X" } else { "" };
+    line(&[
+        (1, &format!("{:07}", call.stop)),
+        (9, &stop_name(call.stop)),
+        (30, &time_text(rng, call.arrival)),
+        (37, &time_text(rng, call.departure)),
+        (44, number),
+        (50, administration),
+        (57, cross),
+        (59, "%"),
+    ])
+}
+
+fn time_text(rng: &mut Rng, time: Option<u32>) -> String {
+    let sign = if rng.once_in(30) { '-' } else { ' ' };
+    time.map_or_else(String::new, |minutes| format!("{}{}", sign, hours_minutes(minutes)))
+}

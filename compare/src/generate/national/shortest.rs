@@ -1,0 +1,27 @@
+//! BITFELD, BAHNHOF and UMSTEIGB of the shortest lines, as many as a file may hold; FPLAN is empty.
+
+use super::{bit_field_file, interchange_file, year};
+use crate::generate::numbers::Numbers;
+use crate::generate::rng::Rng;
+
+/// The bytes of a record with its LF.
+const BIT_FIELD_BYTES: usize = 104;
+const STOP_BYTES: usize = 14;
+const INTERCHANGE_BYTES: usize = 14;
+
+/// At most so many bytes in each file, its records as short as they may be.
+pub fn shortest_records(rng: &mut Rng, bytes: usize, numbers: Numbers) -> [Vec<u8>; 5] {
+    let fields = numbers.bit_fields(rng, bytes / BIT_FIELD_BYTES);
+    let stops = numbers.stops(rng, bytes / STOP_BYTES);
+    let own = &stops[..(bytes / INTERCHANGE_BYTES).saturating_sub(1)];
+    let names = stops.iter().flat_map(|stop| format!("{:07}     Q\n", stop).into_bytes()).collect();
+    [year(), bit_field_file(rng, &fields), names, interchange_file(rng, own), Vec::new()]
+}
+
+/// So many line ends in BITFELD and BAHNHOF, and in UMSTEIGB before its first record.
+pub fn empty_lines(bytes: usize) -> [Vec<u8>; 5] {
+    const RECORD: &[u8] = b"9999999  2  3\n";
+    let mut records = vec![b'\n'; bytes.saturating_sub(RECORD.len())];
+    records.extend_from_slice(RECORD);
+    [year(), vec![b'\n'; bytes], vec![b'\n'; bytes], records, Vec::new()]
+}
