@@ -44,6 +44,10 @@ compare_library() {
     rust --crate-type rlib --crate-name compare compare/src/lib.rs --out-dir "$out"
 }
 
+ordinary_library() {
+    rust --crate-type rlib --crate-name ordinary_loader docs/ordinary-loader/src/lib.rs --out-dir "$out"
+}
+
 # program NAME SOURCE [FLAG ..]: a program over these libraries
 program() {
     name=$1

@@ -4,6 +4,7 @@
 pub mod boundary;
 pub mod columns;
 pub mod differ;
+pub mod files;
 pub mod generate;
 pub mod ground;
 pub mod reader;

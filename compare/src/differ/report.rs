@@ -6,9 +6,8 @@ use std::path::Path;
 
 use super::lent::Call;
 use super::Difference;
+use crate::files;
 use crate::generate::Question;
-
-const NAMES: [&str; 5] = ["ECKDATEN", "BITFELD", "BAHNHOF", "UMSTEIGB", "FPLAN"];
 
 /// Tells a difference, with what was given written below a directory, and the command that takes a seed, a count and a first
 /// case.
@@ -51,9 +50,7 @@ fn write_given(call: &Call, directory: &Path) -> io::Result<()> {
     }
     fs::create_dir_all(directory)?;
     match call {
-        Call::Load { files, .. } => {
-            NAMES.iter().zip(files).try_for_each(|(name, bytes)| fs::write(directory.join(name), bytes))
-        }
+        Call::Load { files, .. } => files::write(directory, files),
         Call::Ask { table, .. } => {
             let words: Vec<String> = table.iter().map(u32::to_string).collect();
             fs::write(directory.join("TABLE"), words.join("\n"))
