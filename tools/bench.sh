@@ -7,7 +7,7 @@ cd "$(dirname "$0")/.."
 
 planner_library
 compare_library
-program bench compare/src/bin/bench.rs
+linked bench compare/src/bin/bench.rs
 echo "$(rust --version); $(uname -m), $(getconf _NPROCESSORS_ONLN) cores"
 EMULATOR=$emulator
 export EMULATOR

@@ -54,5 +54,5 @@ echo "drift: $(grep -c ^struct "$said/rattle") answers and $(grep -c ^fn "$said/
 c -std=c99 -Wall -Wextra -Wpedantic -Werror -Iinclude -c tools/drift/layout.c -o "$said/layout.o"
 if command -v c++ >/dev/null; then c++ -std=c++98 -Wall -Wextra -Werror -Iinclude -fsyntax-only -x c++ include/estelunya.h; fi
 planner_library
-program layout tools/drift/layout.rs -C link-arg="$said/layout.o"
+linked layout tools/drift/layout.rs -C link-arg="$said/layout.o"
 run "$out/layout"

@@ -5,8 +5,8 @@ cd "$(dirname "$0")/.."
 root=$PWD
 sample=$root/crates/ferry/data
 place=target/ferry
-emulator=
-[ "$(uname -m)" = x86_64 ] || emulator=qemu-x86_64
+. tools/cross.sh
+for_x86_64
 
 mkdir -p target
 rt check ferry >target/ferry.log 2>&1 || { cat target/ferry.log >&2; exit 1; }
@@ -20,7 +20,7 @@ fresh() {
 
 # says NAME EXPECTED: the program prints exactly this on the delivery at hand
 says() {
-    said=$(cd "$place" && $emulator "$root/target/bin/ferry")
+    said=$(cd "$place" && run "$root/target/bin/ferry")
     [ "$said" = "$2" ] || { echo "ferry.sh: $1: '$said' instead of '$2'" >&2; exit 1; }
     echo "  $1: $said"
 }

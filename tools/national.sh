@@ -26,7 +26,7 @@ build() {
     planner_library
     compare_library
     ordinary_library
-    program national compare/src/bin/national.rs --extern ordinary_loader
+    linked national compare/src/bin/national.rs --extern ordinary_loader
 }
 build
 national=$out/national

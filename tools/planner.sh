@@ -8,10 +8,10 @@ seed=${1:-1} count=${2:-20000} first=${3:-0}
 
 planner_library
 compare_library
-program trial_week planner/examples/trial_week.rs
+linked trial_week planner/examples/trial_week.rs
 tests='largest refusals rows table'
-for test in $tests; do program "$test" "planner/tests/$test.rs" --test; done
-for tool in standard delivery; do program "$tool" "compare/src/bin/$tool.rs"; done
+for test in $tests; do linked "$test" "planner/tests/$test.rs" --test; done
+for tool in standard delivery; do linked "$tool" "compare/src/bin/$tool.rs"; done
 
 # An emulator cannot run the crate's documentation. It reads the sample delivery from the crate's directory, as with cargo.
 [ -n "$emulator" ] ||
