@@ -21,16 +21,6 @@
 extern "C" {
 #endif
 
-/* The words of a row, and words that are enough for every walk: a service has at most 200 calls. */
-#define ESTELUNYA_ROW_WORDS 7
-#define ESTELUNYA_MOST_ROW_WORDS 1400
-
-/* The flags of a call and of a row. */
-#define ESTELUNYA_ARRIVAL 1u      /* has an arrival */
-#define ESTELUNYA_DEPARTURE 2u    /* has a departure */
-#define ESTELUNYA_NO_ALIGHTING 4u /* alighting is forbidden */
-#define ESTELUNYA_NO_BOARDING 8u  /* boarding is forbidden */
-
 typedef struct EstelunyaLoadResult {
     uint32_t number; /* 0: accepted; else the refusal, 1 to 20 */
     uint32_t file;   /* 1 ECKDATEN, 2 BITFELD, 3 BAHNHOF, 4 UMSTEIGB, 5 FPLAN; 0 if accepted, and for 20 */
@@ -56,21 +46,81 @@ typedef struct EstelunyaWalkResult {
 
 /*
  * A table is 32-bit words: a header, then all bit fields, stops, interchange records and services, each in the order of their file, and within a
- * service all its calls, *G, *A VE and other *A. Places of words count from 0.
- *   header       8 words: words used; first day (01.01.1900 is 0); days of the period n; bit fields B; stops S; interchange records U; services V;
- *                place of the first service, which is 8 + 13 B + 3 S + 3 U
- *   bit field    13 words: number; 12 words of bits, bit 0 the highest of the first. Bit d + 2 is day d of the period, counted from 0.
- *   stop         3 words: number; byte of BAHNHOF at which its name starts, counted from 0; length of the name without trailing blanks
- *   interchange  3 words: number of the stop (9999999 in the first record: every stop without its own); time for two classes that are both 0 or 1;
- *                time for all other classes
- *   service      11 words: words of this service; number; administration in two words of three bytes; repeats; offset in minutes; calls c; *G g;
- *                *A VE v; other *A a; line of its *Z in FPLAN. Then
- *     call       4 words: number of the stop; arrival; departure, both in minutes, 0 if there is none; flags
- *     *G         3 words: category in three bytes; from; to
- *     *A VE      3 words: number of the bit field, 0 for daily; from; to
- *     other *A   4 words: code in two bytes; number of the bit field; from; to
- * From and to are indexes of calls, from 0. Bytes share a word with the first byte highest.
+ * service its head, then all its calls, *G, *A VE and other *A. Below, .._WORDS is how many words a record has, and .._AT is where a word stands in it,
+ * counted from 0. Bytes share a word with the first byte highest.
+ *
+ * These numbers stand again in planner/src/layout.rs, and those that the loader names in crates/timetable/src/lib.rt: tools/drift.sh holds them
+ * together, name by name.
  */
+
+/* Header */
+#define ESTELUNYA_HEADER_WORDS 8
+#define ESTELUNYA_USED_AT 0          /* words used */
+#define ESTELUNYA_FIRST_DAY_AT 1     /* first day of the period; 01.01.1900 is 0 */
+#define ESTELUNYA_PERIOD_DAYS_AT 2   /* days of the period */
+#define ESTELUNYA_BIT_FIELDS_AT 3    /* how many bit fields there are */
+#define ESTELUNYA_STOPS_AT 4         /* stops */
+#define ESTELUNYA_INTERCHANGES_AT 5  /* interchange records */
+#define ESTELUNYA_SERVICES_AT 6      /* services */
+#define ESTELUNYA_FIRST_SERVICE_AT 7 /* place of the first service: the words of the header and of all records before it */
+
+/* Bit field: number; then bits, bit 0 the highest of the first word. Bit d + 2 is day d of the period, counted from 0. */
+#define ESTELUNYA_BIT_FIELD_WORDS 13
+#define ESTELUNYA_BIT_WORDS 12 /* of its bits */
+
+/* Stop: number; byte of BAHNHOF at which its name starts, counted from 0; length of the name without trailing blanks */
+#define ESTELUNYA_STOP_WORDS 3
+
+/*
+ * Interchange: number of the stop (9999999 in the first record: every stop without its own); time for two classes that are both 0 or 1; time for all
+ * other classes
+ */
+#define ESTELUNYA_INTERCHANGE_WORDS 3
+
+/* Head of a service */
+#define ESTELUNYA_SERVICE_WORDS 11
+#define ESTELUNYA_SIZE_AT 0           /* words of this service, with its head */
+#define ESTELUNYA_NUMBER_AT 1         /* its number */
+#define ESTELUNYA_ADMINISTRATION_AT 2 /* two words of three bytes */
+#define ESTELUNYA_REPEATS_AT 4
+#define ESTELUNYA_OFFSET_AT 5         /* in minutes */
+#define ESTELUNYA_CALLS_AT 6          /* how many calls it has */
+#define ESTELUNYA_CATEGORIES_AT 7     /* *G */
+#define ESTELUNYA_DAYS_AT 8           /* *A VE */
+#define ESTELUNYA_EXTRAS_AT 9         /* other *A */
+#define ESTELUNYA_OPENING_LINE_AT 10  /* line of its *Z in FPLAN */
+
+/* Call: number of the stop; arrival; departure, both in minutes, 0 if there is none; flags */
+#define ESTELUNYA_CALL_WORDS 4
+
+/* *G: category in three bytes; from; to. From and to are indexes of calls, from 0. */
+#define ESTELUNYA_CATEGORY_WORDS 3
+
+/* *A VE: number of the bit field, 0 for daily; from; to */
+#define ESTELUNYA_DAYS_WORDS 3
+
+/* Other *A: code in two bytes; number of the bit field; from; to */
+#define ESTELUNYA_EXTRA_WORDS 4
+
+/* Row of a walk */
+#define ESTELUNYA_ROW_WORDS 7
+#define ESTELUNYA_ROW_STOP_AT 0        /* number of the stop */
+#define ESTELUNYA_ROW_ARRIVAL_AT 1     /* in minutes from the start of the date, so that it may pass 1,440; 0 in the first row */
+#define ESTELUNYA_ROW_DEPARTURE_AT 2   /* in the same way; 0 in the last row */
+#define ESTELUNYA_ROW_FLAGS_AT 3       /* ARRIVAL and NO_ALIGHTING are not set in the first row, DEPARTURE and NO_BOARDING not in the last */
+#define ESTELUNYA_ROW_CATEGORY_AT 4    /* of the leg that leaves: columns 4-6 of its *G line; 0 in the last row */
+#define ESTELUNYA_ROW_FIRST_TIME_AT 5  /* the stop's interchange time for two classes that are both 0 or 1 */
+#define ESTELUNYA_ROW_SECOND_TIME_AT 6 /* the stop's interchange time for all other classes */
+
+/* The calls that a service has at most, and words that are enough for every walk. */
+#define ESTELUNYA_MOST_CALLS 200
+#define ESTELUNYA_MOST_ROW_WORDS (ESTELUNYA_MOST_CALLS * ESTELUNYA_ROW_WORDS)
+
+/* The flags of a call and of a row. */
+#define ESTELUNYA_ARRIVAL 1u      /* has an arrival */
+#define ESTELUNYA_DEPARTURE 2u    /* has a departure */
+#define ESTELUNYA_NO_ALIGHTING 4u /* alighting is forbidden */
+#define ESTELUNYA_NO_BOARDING 8u  /* boarding is forbidden */
 
 /*
  * Loads a delivery: the bytes of its five files, each of any length (over 16,777,216 is refusal 1).
@@ -109,17 +159,8 @@ EstelunyaInterchangeResult estelunya_interchange(
  * Walks a run that starts on a date: `service` is the index of the service from 0, in the order of FPLAN; `repeat` is 0 for the run itself, up to the
  * service's repeats.
  *
- * Listed: `rows` begins with the rows, as many as the answer says, 7 words each, one for each call of the stretch that is operated on that date; the
- * words after them hold what they held. Not running, or refused: all words of `rows` hold what they held.
- *
- * A row is seven words:
- *   0  number of the stop
- *   1  arrival, in minutes from the start of the date, so that it may pass 1,440; 0 in the first row
- *   2  departure, in the same way; 0 in the last row
- *   3  flags; ARRIVAL and NO_ALIGHTING are not set in the first row, DEPARTURE and NO_BOARDING not in the last
- *   4  category of the leg that leaves: columns 4-6 of its *G line, the first byte highest; 0 in the last row
- *   5  the stop's interchange time for two classes that are both 0 or 1
- *   6  the stop's interchange time for all other classes
+ * Listed: `rows` begins with the rows, as many as the answer says, ESTELUNYA_ROW_WORDS each, one for each call of the stretch that is operated on that
+ * date; the words after them hold what they held. Not running, or refused: all words of `rows` hold what they held.
  */
 EstelunyaWalkResult estelunya_walk(
     const uint32_t *table, size_t table_len,

@@ -1,13 +1,22 @@
 #!/bin/sh
-# drift.sh [SOURCE]: fails if the three declarations of the boundary drift apart: the Rattle source, include/estelunya.h and planner/src/raw.rs.
-# By text: the same answers with the same fields, the same functions with the same parameters, each in the same order. By the compilers: a C
-# side made from the header and a Rust side made from raw.rs, linked with the archive, agree on layouts, prototypes and answers.
+# drift.sh [SOURCE]: fails, and says where, if what is said of the boundary in several places drifts apart.
+#
+# Declarations: the Rattle source (SOURCE), include/estelunya.h and planner/src/raw.rs have the same answers with the same fields, and the same functions
+# with the same parameters, each in the same order: by text; and by the compilers, a C side and a Rust side, both written from the Rattle source
+# (drift/sides.awk) and linked with the archive, agree on layouts, prototypes and answers.
+#
+# The table's layout: each .._WORDS, .._AT and flag of the header has the same value in planner/src/layout.rs, which compare/ takes too; those that the
+# loader (crates/timetable) or the ordinary loader name are the header's.
 set -eu
 cd "$(dirname "$0")/.."
 rattle=${1:-crates/estelunya/src/lib.rt}
+header=include/estelunya.h
+raw=planner/src/raw.rs
 . tools/archive.sh
 said=$out/drift
 mkdir -p "$said"
+
+# ---- declarations, by text
 
 # A source without // comments (/* */ for C), in one line.
 bare_rust() { sed -e 's|//.*||' "$1" | tr -s ' \t\n' ' '; }
@@ -38,21 +47,59 @@ of_c() {
 # A declaration that the patterns above do not see would be missed on all sides: each name of the source is there.
 all_said() {
     for name in $(bare_rust "$rattle" | grep -o 'extern "C" fn [a-z_]*\|pub struct [A-Za-z]*' | sed 's/.* //'); do
-        grep -q "^\(struct\|fn\) $name\>" "$1" || { echo "drift.sh: $name of $rattle is not in $1" >&2; exit 1; }
+        grep -q "^\(struct\|fn\) $name\>" "$1" || die "$name of $rattle is not in $1"
     done
 }
 
 of_rattle "$rattle" >"$said/rattle"
-of_rust planner/src/raw.rs >"$said/rust"
-of_c include/estelunya.h >"$said/c"
+of_rust "$raw" >"$said/rust"
+of_c "$header" >"$said/c"
 all_said "$said/rattle"
-[ -s "$said/rattle" ] || { echo "drift.sh: $rattle declares nothing" >&2; exit 1; }
-diff -u "$said/rattle" "$said/c" || { echo "drift.sh: $rattle and include/estelunya.h differ" >&2; exit 1; }
-diff -u "$said/rattle" "$said/rust" || { echo "drift.sh: $rattle and planner/src/raw.rs differ" >&2; exit 1; }
+[ -s "$said/rattle" ] || die "$rattle declares nothing"
+diff -u "$said/rattle" "$said/c" || die "$rattle and $header differ"
+diff -u "$said/rattle" "$said/rust" || die "$rattle and $raw differ"
 echo "drift: $(grep -c ^struct "$said/rattle") answers and $(grep -c ^fn "$said/rattle") functions, by text, agree"
 
-c -std=c99 -Wall -Wextra -Wpedantic -Werror -Iinclude -c tools/drift/layout.c -o "$said/layout.o"
-if command -v c++ >/dev/null; then c++ -std=c++98 -Wall -Wextra -Werror -Iinclude -fsyntax-only -x c++ include/estelunya.h; fi
+# ---- the table's layout, by text: a line "NAME VALUE" for each constant
+
+constants_c() { sed -n 's/^#define ESTELUNYA_\([A-Z_]*\) \([0-9]*\)u\{0,1\}\( .*\)\{0,1\}$/\1 \2/p' "$1"; }
+constants_rust() { sed -n 's/^ *\(pub \)\{0,1\}const \([A-Z_]*\): u[a-z0-9]* = \([0-9]*\);$/\2 \3/p' "$@"; }
+
+# held NAME AGAINST [PATTERN]: each constant of the list NAME (that has the PATTERN) is in AGAINST, with the same value
+held() {
+    awk -v list="$1" -v against="$2" -v pattern="${3:-.}" '
+        FNR == NR { value[$1] = $2; next }
+        $1 !~ pattern || (($1 in value) && value[$1] == $2) { next }
+        { printf "drift.sh: %s is %s in %s, and %s in %s\n", $1, $2, list, ($1 in value) ? value[$1] : "missing", against; bad = 1 }
+        END { exit bad }' "$said/$2" "$said/$1" >&2 || exit 1
+}
+
+mkdir -p "$said/include" "$said/planner/src" "$said/crates" "$said/docs"
+timetable=crates/timetable
+planner=planner/src/layout.rs
+ordinary=docs/ordinary-loader
+constants_c "$header" >"$said/$header"
+constants_rust "$planner" >"$said/$planner"
+constants_rust "$timetable/src/lib.rt" | grep '_WORDS \|_AT ' | grep -v '^MOST_' >"$said/$timetable"
+constants_rust "$ordinary"/src/*.rs >"$said/all"
+awk 'FNR == NR { named[$1] = 1; next } $1 in named' "$said/$header" "$said/all" >"$said/$ordinary"
+for list in "$header" "$planner" "$timetable" "$ordinary"; do [ -s "$said/$list" ] || die "no constants are seen in $list"; done
+
+held "$header" "$planner"
+held "$planner" "$header"
+held "$timetable" "$header"
+held "$header" "$timetable" '_WORDS$'
+held "$ordinary" "$header"
+echo "drift: $(grep -c . "$said/$header") constants of the layout agree"
+
+# ---- declarations, by the compilers
+
+awk -v side=c -f tools/drift/sides.awk "$said/rattle" >"$said/side.c"
+awk -v side=rust -f tools/drift/sides.awk "$said/rattle" >"$said/side.rs"
+c -std=c99 -Wall -Wextra -Wpedantic -Werror -Iinclude -c "$said/side.c" -o "$said/side.o"
+if command -v c++ >/dev/null; then c++ -std=c++98 -Wall -Wextra -Werror -Iinclude -fsyntax-only -x c++ "$header"; fi
 planner_library
-linked layout tools/drift/layout.rs -C link-arg="$said/layout.o"
+DRIFT_SIDE=$PWD/$said/side.rs
+export DRIFT_SIDE
+program layout tools/drift/layout.rs --extern estelunya_planner -C link-arg="$said/side.o"
 run "$out/layout"

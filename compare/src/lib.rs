@@ -7,6 +7,9 @@ pub mod differ;
 pub mod files;
 pub mod generate;
 pub mod ground;
+/// The planner's; `tools/drift.sh` holds it against the header and the loader.
+#[path = "../../planner/src/layout.rs"]
+pub mod layout;
 pub mod reader;
 pub mod standard;
 

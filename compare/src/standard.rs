@@ -80,11 +80,11 @@ impl Paper {
     }
 
     /// The words used that it must bring, with no later word changed; and the table.
-    fn accepted(&self, boundary: &dyn Boundary, text: &str, words: u32) -> (Checked, Vec<u32>) {
+    fn accepted(&self, boundary: &dyn Boundary, text: &str, words: usize) -> (Checked, Vec<u32>) {
         let (answer, table) = self.load(boundary);
-        let later = table[words as usize..].iter().filter(|word| **word != LENT).count() as u32;
+        let later = table[words..].iter().filter(|word| **word != LENT).count() as u32;
         let [number, _, _, used] = answer;
-        (Checked::new(&format!("{}: accepted", text), &[0, words, 0], &[number, used, later]), table)
+        (Checked::new(&format!("{}: accepted", text), &[0, words as u32, 0], &[number, used, later]), table)
     }
 }
 

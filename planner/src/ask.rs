@@ -18,8 +18,7 @@ pub struct Date {
 /// Words to ask. Any words may be asked; each question first looks whether they are a table, and answers
 /// [`Refusal::NotATable`] if not. Words after the table's own are not looked at.
 ///
-/// Its first eight words are words used, first day (from 01.01.1900, which is 0), days, bit fields, stops, interchange
-/// records, services, and the place of the first service. `include/estelunya.h` says the whole layout.
+/// Their layout: [`layout`](crate::layout), and `include/estelunya.h`.
 #[derive(Clone, Copy, Debug)]
 pub struct Table<'a> {
     words: &'a [u32],

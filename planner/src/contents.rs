@@ -4,30 +4,21 @@
 //! that are none it tells what stands in these places, or nothing where there are no such words.
 
 use crate::ask::Table;
-
-/// The header's words.
-const HEADER: u64 = 8;
-const USED: usize = 0;
-const BIT_FIELDS: usize = 3;
-const STOPS: usize = 4;
-const SERVICES: usize = 6;
-const FIRST_SERVICE: usize = 7;
-
-/// The words of a bit field's record, of a stop's, and of a service's before its calls.
-const BIT_FIELD_WORDS: u64 = 13;
-const STOP_WORDS: usize = 3;
-const SERVICE_HEAD: usize = 11;
+use crate::layout::{
+    BIT_FIELDS_AT, BIT_FIELD_WORDS, FIRST_SERVICE_AT, HEADER_WORDS, NUMBER_AT, SERVICES_AT, SERVICE_WORDS, SIZE_AT,
+    STOPS_AT, STOP_WORDS, USED_AT,
+};
 
 impl<'a> Table<'a> {
     /// How many services there are: a walk takes an index below it. 0 where there are fewer words than a header has.
     pub fn services(self) -> u32 {
-        self.header(SERVICES)
+        self.header(SERVICES_AT)
     }
 
     /// The numbers of all services (columns 4-8 of their *Z lines), in FPLAN's order: the first is that of index 0.
     pub fn service_numbers(self) -> impl Iterator<Item = u32> + 'a {
-        let services = self.from(u64::from(self.header(FIRST_SERVICE)));
-        heads(services).take(self.services() as usize).map(|head| head[1])
+        let services = self.from(u64::from(self.header(FIRST_SERVICE_AT)));
+        heads(services).take(self.services() as usize).map(|head| head[NUMBER_AT])
     }
 
     /// The number of the service with this index, columns 4-8 of its *Z line; `None` if there is no such service. It
@@ -38,7 +29,7 @@ impl<'a> Table<'a> {
 
     /// How many stops there are; 0 where there are fewer words than a header has.
     pub fn stops(self) -> u32 {
-        self.header(STOPS)
+        self.header(STOPS_AT)
     }
 
     /// The number of the stop with this index, in BAHNHOF's order; `None` if there is no such stop.
@@ -57,7 +48,7 @@ impl<'a> Table<'a> {
 
     /// A word of the header.
     fn header(self, at: usize) -> u32 {
-        if self.words().len() < HEADER as usize {
+        if self.words().len() < HEADER_WORDS {
             return 0;
         }
         self.words()[at]
@@ -65,14 +56,14 @@ impl<'a> Table<'a> {
 
     /// The table's own words from a place on.
     fn from(self, place: u64) -> &'a [u32] {
-        let used = self.words().len().min(self.header(USED) as usize);
+        let used = self.words().len().min(self.header(USED_AT) as usize);
         let start = used.min(usize::try_from(place).unwrap_or(used));
         &self.words()[start..used]
     }
 
     /// Number, place and length of the name of each stop.
     fn stop_records(self) -> impl Iterator<Item = &'a [u32]> {
-        let first = HEADER + BIT_FIELD_WORDS * u64::from(self.header(BIT_FIELDS));
+        let first = HEADER_WORDS as u64 + BIT_FIELD_WORDS as u64 * u64::from(self.header(BIT_FIELDS_AT));
         self.from(first).chunks_exact(STOP_WORDS).take(self.stops() as usize)
     }
 }
@@ -80,8 +71,8 @@ impl<'a> Table<'a> {
 /// The first words of each service; its word count says where the next one is.
 fn heads(mut services: &[u32]) -> impl Iterator<Item = &[u32]> {
     std::iter::from_fn(move || {
-        let head = services.get(..SERVICE_HEAD)?;
-        let count = (head[0] as usize).max(SERVICE_HEAD);
+        let head = services.get(..SERVICE_WORDS)?;
+        let count = (head[SIZE_AT] as usize).max(SERVICE_WORDS);
         services = services.get(count..).unwrap_or(&[]);
         Some(head)
     })

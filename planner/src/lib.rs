@@ -62,12 +62,14 @@
 
 mod ask;
 mod contents;
+pub mod layout;
 mod load;
 pub mod raw;
 mod refusal;
 mod row;
 
 pub use ask::{Date, Table, Walk};
+pub use layout::{MOST_ROW_WORDS, ROW_WORDS};
 pub use load::{load, Files, Loaded};
 pub use refusal::{File, LoadRefusal, Offence, Refusal};
-pub use row::{Row, Rows, MOST_ROW_WORDS, ROW_WORDS};
+pub use row::{Row, Rows};

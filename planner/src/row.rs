@@ -1,15 +1,9 @@
 //! The rows of a walk.
 
-/// Words of a row.
-pub const ROW_WORDS: usize = 7;
-
-/// Words that are enough for every walk: a service has at most 200 calls.
-pub const MOST_ROW_WORDS: usize = 200 * ROW_WORDS;
-
-const ARRIVAL: u32 = 1;
-const DEPARTURE: u32 = 2;
-const NO_ALIGHTING: u32 = 4;
-const NO_BOARDING: u32 = 8;
+use crate::layout::{
+    ARRIVAL, DEPARTURE, NO_ALIGHTING, NO_BOARDING, ROW_ARRIVAL_AT, ROW_CATEGORY_AT, ROW_DEPARTURE_AT,
+    ROW_FIRST_TIME_AT, ROW_FLAGS_AT, ROW_SECOND_TIME_AT, ROW_STOP_AT, ROW_WORDS,
+};
 
 /// One call of a walk. Times are minutes from the start of the date that was asked; they may pass 1,440.
 #[derive(Clone, Copy, Debug, PartialEq, Eq)]
@@ -18,49 +12,49 @@ pub struct Row<'r> {
 }
 
 impl<'r> Row<'r> {
-    /// The row's seven words: stop, arrival, departure, flags, category, the stop's two interchange times.
+    /// The row's words: stop, arrival, departure, flags, category, the stop's two interchange times.
     pub fn words(self) -> &'r [u32] {
         self.words
     }
 
     /// The number of the stop that is called at.
     pub fn stop(self) -> u32 {
-        self.words[0]
+        self.words[ROW_STOP_AT]
     }
 
     /// The arrival; `None` at the first row.
     pub fn arrival(self) -> Option<u32> {
-        self.stated(ARRIVAL, self.words[1])
+        self.stated(ARRIVAL, self.words[ROW_ARRIVAL_AT])
     }
 
     /// The departure; `None` at the last row.
     pub fn departure(self) -> Option<u32> {
-        self.stated(DEPARTURE, self.words[2])
+        self.stated(DEPARTURE, self.words[ROW_DEPARTURE_AT])
     }
 
     /// Whether there is an arrival at which alighting is not forbidden.
     pub fn may_alight(self) -> bool {
-        self.words[3] & (ARRIVAL | NO_ALIGHTING) == ARRIVAL
+        self.words[ROW_FLAGS_AT] & (ARRIVAL | NO_ALIGHTING) == ARRIVAL
     }
 
     /// Whether there is a departure at which boarding is not forbidden.
     pub fn may_board(self) -> bool {
-        self.words[3] & (DEPARTURE | NO_BOARDING) == DEPARTURE
+        self.words[ROW_FLAGS_AT] & (DEPARTURE | NO_BOARDING) == DEPARTURE
     }
 
     /// The category of the leaving leg, columns 4-6 of its *G line; `None` at the last row.
     pub fn category(self) -> Option<[u8; 3]> {
-        let [_, first, second, third] = self.words[4].to_be_bytes();
+        let [_, first, second, third] = self.words[ROW_CATEGORY_AT].to_be_bytes();
         self.stated(DEPARTURE, [first, second, third])
     }
 
     /// The stop's first interchange time, for two classes of which both are 0 or 1, and its second, for all others.
     pub fn interchange_times(self) -> [u32; 2] {
-        [self.words[5], self.words[6]]
+        [self.words[ROW_FIRST_TIME_AT], self.words[ROW_SECOND_TIME_AT]]
     }
 
     fn stated<T>(self, flag: u32, value: T) -> Option<T> {
-        if self.words[3] & flag == flag {
+        if self.words[ROW_FLAGS_AT] & flag == flag {
             Some(value)
         } else {
             None
@@ -80,7 +74,7 @@ impl<'r> Rows<'r> {
         Rows { words: &lent[..ROW_WORDS * rows as usize] }
     }
 
-    /// All words of the rows, seven a row.
+    /// All words of the rows, [`ROW_WORDS`] a row.
     pub fn words(self) -> &'r [u32] {
         self.words
     }

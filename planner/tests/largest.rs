@@ -2,14 +2,25 @@
 
 use std::thread::Builder;
 
+use estelunya_planner::layout::{
+    CALL_WORDS, CATEGORY_WORDS, DAYS_WORDS, EXTRA_WORDS, HEADER_WORDS, INTERCHANGE_WORDS, MOST_CALLS, SERVICE_WORDS,
+    STOP_WORDS,
+};
 use estelunya_planner::{load, Date, Files, Table, Walk, MOST_ROW_WORDS};
 
 const STACK_BYTES: usize = 64 * 1024;
 
-const CALLS: usize = 200;
+const CALLS: usize = MOST_CALLS;
 
-/// Header, two stops and an interchange record; then 11 + 4 * 200 + 3 * 50 + 3 * 50 + 4 * 100 words.
-const WORDS: u32 = 8 + 2 * 3 + 3 + 1_511;
+/// Header, two stops, an interchange record and the service.
+const WORDS: usize = HEADER_WORDS
+    + 2 * STOP_WORDS
+    + INTERCHANGE_WORDS
+    + SERVICE_WORDS
+    + CALL_WORDS * CALLS
+    + CATEGORY_WORDS * 50
+    + DAYS_WORDS * 50
+    + EXTRA_WORDS * 100;
 
 /// A line of FPLAN with texts from given columns on.
 fn line(texts: &[(usize, &str)]) -> String {
@@ -49,7 +60,7 @@ fn fplan() -> String {
 #[test]
 fn in_64_kib() {
     let fplan = fplan();
-    let mut words = vec![0; WORDS as usize];
+    let mut words = vec![0; WORDS];
     let mut lent = vec![0; MOST_ROW_WORDS];
     let asked = move || {
         let files = Files {
@@ -67,5 +78,5 @@ fn in_64_kib() {
         }
     };
     let answer = Builder::new().stack_size(STACK_BYTES).spawn(asked).unwrap().join().unwrap();
-    assert_eq!(answer, (Ok(WORDS), CALLS));
+    assert_eq!(answer, (Ok(WORDS as u32), CALLS));
 }

@@ -1,6 +1,6 @@
 //! A walk through its typed rows, and those of document 01's checked examples that no theorem proves.
 
-use estelunya_planner::{load, Date, File, Files, LoadRefusal, Offence, Refusal, Table, Walk};
+use estelunya_planner::{load, Date, File, Files, LoadRefusal, Offence, Refusal, Table, Walk, ROW_WORDS};
 
 const FPLAN: &str = "\
 *Z 00007 FERRY_       002 030                             %
@@ -35,7 +35,7 @@ fn words() -> Vec<u32> {
 #[test]
 fn typed() {
     let words = words();
-    let mut lent = [9; 23];
+    let mut lent = [9; 3 * ROW_WORDS + 2];
     let rows = match Table::new(&words).walk(0, 2, NEW_YEAR, &mut lent).unwrap() {
         Walk::Rows(rows) => rows,
         Walk::NotRunning => panic!("not running"),
@@ -54,8 +54,8 @@ fn typed() {
     assert_eq!(rows.iter().map(|row| row.stop()).collect::<Vec<_>>(), [1_000_011, 1_000_022, 1_000_033]);
     assert_eq!((first.category(), between.category(), last.category()), (Some(*b"BAT"), Some(*b"BAT"), None));
     assert_eq!((first.interchange_times(), between.interchange_times()), ([2, 3], [4, 15]));
-    assert_eq!(between.words().len(), 7);
-    assert_eq!(lent[21..], [9, 9]);
+    assert_eq!(between.words().len(), ROW_WORDS);
+    assert_eq!(lent[3 * ROW_WORDS..], [9, 9]);
 }
 
 #[test]
@@ -99,7 +99,7 @@ fn last_repeat() {
     let words = table_of(&Files { fplan: fplan.as_bytes(), ..ONE_NIGHT }).unwrap();
     let table = Table::new(&words);
     let departure = |repeat| -> Result<Option<u32>, Refusal> {
-        let mut lent = [0; 21];
+        let mut lent = [0; 3 * ROW_WORDS];
         match table.walk(0, repeat, NEW_YEAR, &mut lent)? {
             Walk::Rows(rows) => Ok(rows.iter().next().and_then(|first| first.departure())),
             Walk::NotRunning => Ok(None),

@@ -12,6 +12,10 @@ use std::time::{Duration, Instant};
 use compare::boundary::{Boundary, Reader};
 use compare::generate::plan::date_of;
 use compare::generate::{national, National, Rng, MIB};
+use compare::layout::{
+    BIT_FIELDS_AT, BIT_FIELD_WORDS, FIRST_DAY_AT, HEADER_WORDS, MOST_ROW_WORDS, PERIOD_DAYS_AT, SERVICES_AT, STOPS_AT,
+    STOP_WORDS,
+};
 
 #[path = "../archive.rs"]
 mod archive;
@@ -20,9 +24,6 @@ use archive::Archive;
 
 const TURNS: u32 = 3;
 const QUESTIONS: u32 = 20;
-
-/// Room for the rows of any walk.
-const ROW_ROOM: usize = 1_400;
 
 fn main() {
     let sizes: Option<Vec<f64>> = std::env::args().skip(1).map(|text| text.parse().ok()).collect();
@@ -60,9 +61,9 @@ fn bench(mib: f64) {
     println!(
         "FPLAN {} bytes, {} services, {} stops, {} bit fields, table {} words",
         e.len(),
-        table[6],
-        table[4],
-        table[3],
+        table[SERVICES_AT],
+        table[STOPS_AT],
+        table[BIT_FIELDS_AT],
         words
     );
     println!("  {:<12} {:>12} {:>12} {:>8}", "ms", "archive", "reader", "ratio");
@@ -105,7 +106,7 @@ type Ask = fn(&dyn Boundary, &[u32], &mut Rng, &mut [u32]) -> (Vec<u32>, Duratio
 
 /// All answers with the words lent, and the time of all calls; both boundaries start the generator alike.
 fn asked(boundary: &dyn Boundary, table: &[u32], ask: Ask) -> (Vec<u32>, Duration) {
-    let (mut rng, mut rows) = (Rng::new(2), vec![0; ROW_ROOM]);
+    let (mut rng, mut rows) = (Rng::new(2), vec![0; MOST_ROW_WORDS]);
     let (mut given, mut total) = (Vec::new(), Duration::ZERO);
     for _ in 0..QUESTIONS {
         rows.fill(u32::MAX);
@@ -118,25 +119,26 @@ fn asked(boundary: &dyn Boundary, table: &[u32], ask: Ask) -> (Vec<u32>, Duratio
 }
 
 fn date(rng: &mut Rng, table: &[u32]) -> [u32; 3] {
-    let (day, month, year) = date_of(table[1] + rng.below(table[2]));
+    let (day, month, year) = date_of(table[FIRST_DAY_AT] + rng.below(table[PERIOD_DAYS_AT]));
     [day, month, year]
 }
 
 fn walk(boundary: &dyn Boundary, table: &[u32], rng: &mut Rng, rows: &mut [u32]) -> (Vec<u32>, Duration) {
-    let (service, repeat, date) = (rng.below(table[6]), rng.below(4), date(rng, table));
+    let (service, repeat, date) = (rng.below(table[SERVICES_AT]), rng.below(4), date(rng, table));
     let (answer, time) = timed(|| boundary.walk(table, service, repeat, date, rows));
     (answer.to_vec(), time)
 }
 
 fn day(boundary: &dyn Boundary, table: &[u32], rng: &mut Rng, _: &mut [u32]) -> (Vec<u32>, Duration) {
-    let (date, field) = (date(rng, table), table[8 + 13 * rng.below(table[3]) as usize]);
+    let (date, field) =
+        (date(rng, table), table[HEADER_WORDS + BIT_FIELD_WORDS * rng.below(table[BIT_FIELDS_AT]) as usize]);
     let (answer, time) = timed(|| boundary.day(table, date, field));
     (answer.to_vec(), time)
 }
 
 fn interchange(boundary: &dyn Boundary, table: &[u32], rng: &mut Rng, _: &mut [u32]) -> (Vec<u32>, Duration) {
-    let first_stop = 8 + 13 * table[3] as usize;
-    let (stop, classes) = (table[first_stop + 3 * rng.below(table[4]) as usize], [rng.below(4), 1]);
+    let first_stop = HEADER_WORDS + BIT_FIELD_WORDS * table[BIT_FIELDS_AT] as usize;
+    let (stop, classes) = (table[first_stop + STOP_WORDS * rng.below(table[STOPS_AT]) as usize], [rng.below(4), 1]);
     let (answer, time) = timed(|| boundary.interchange(table, stop, classes));
     (answer.to_vec(), time)
 }

@@ -1,7 +1,7 @@
 //! What a case is made of.
 
 use crate::generate::{mixed, oversized, Case, Rng};
-use crate::reader::ask::ROW;
+use crate::layout::ROW_WORDS;
 
 /// Once in so many cases a file has 16,777,216 bytes or more.
 const OVERSIZED_EVERY: u64 = 2_500;
@@ -42,7 +42,7 @@ pub fn senseless(rng: &mut Rng) -> Vec<u32> {
 pub fn other_room(rng: &mut Rng, answer: &[u32]) -> Option<usize> {
     let needed = match answer {
         [29, _, needed] => *needed as usize,
-        [0, rows, _] if *rows > 0 => ROW * *rows as usize,
+        [0, rows, _] if *rows > 0 => ROW_WORDS * *rows as usize,
         _ => return None,
     };
     Some(rng.pick(&[needed, needed, needed - 1, needed + 5, 0]))

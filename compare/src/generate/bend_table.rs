@@ -5,6 +5,10 @@
 
 use super::raw_table::{parts, RawService, RawTable};
 use super::rng::Rng;
+use crate::layout::{
+    BIT_FIELDS_AT, BIT_FIELD_WORDS, BIT_WORDS, CALLS_AT, CALL_WORDS, EXTRAS_AT, EXTRA_WORDS, FIRST_SERVICE_AT,
+    HEADER_WORDS, OFFSET_AT, REPEATS_AT, SERVICES_AT, SERVICE_WORDS, SIZE_AT, STOPS_AT, STOP_WORDS, USED_AT,
+};
 
 /// A damage to a table; `None` where the table has no place for it.
 pub type Bend = fn(&mut Rng, &mut RawTable) -> Option<()>;
@@ -52,8 +56,8 @@ pub const NO_TABLES: &[Bend] = &[
 
 /// Damages to words after which they are no table (21).
 pub const POKES: &[Poke] = &[
-    under_8_words,
-    used_under_8,
+    under_a_header,
+    used_under_a_header,
     lent_cut_short,
     used_over_lent,
     used_one_more,
@@ -78,7 +82,7 @@ fn some_service<'a>(rng: &mut Rng, table: &'a mut RawTable) -> Option<&'a mut Ra
     some(rng, &mut table.services)
 }
 
-fn some_call<'a>(rng: &mut Rng, table: &'a mut RawTable) -> Option<&'a mut [u32; 4]> {
+fn some_call<'a>(rng: &mut Rng, table: &'a mut RawTable) -> Option<&'a mut [u32; CALL_WORDS]> {
     let service = some_service(rng, table)?;
     some(rng, &mut service.calls)
 }
@@ -92,7 +96,7 @@ fn some_range<'a>(rng: &mut Rng, table: &'a mut RawTable) -> Option<(&'a mut [u3
 }
 
 /// Another *A, with the calls of its service.
-fn some_other<'a>(rng: &mut Rng, table: &'a mut RawTable) -> Option<(&'a mut [u32; 4], u32)> {
+fn some_other<'a>(rng: &mut Rng, table: &'a mut RawTable) -> Option<(&'a mut [u32; EXTRA_WORDS], u32)> {
     let service = some_service(rng, table)?;
     let calls = service.calls.len() as u32;
     Some((some(rng, &mut service.others)?, calls))
@@ -110,7 +114,7 @@ fn bitfield_renamed(rng: &mut Rng, table: &mut RawTable) -> Option<()> {
 }
 
 fn bitfield_word(rng: &mut Rng, table: &mut RawTable) -> Option<()> {
-    let (which, word) = (1 + rng.index(12), rng.draw() as u32);
+    let (which, word) = (1 + rng.index(BIT_WORDS), rng.draw() as u32);
     some(rng, &mut table.bitfields)?[which] = word;
     Some(())
 }
@@ -184,7 +188,7 @@ fn bend_range(rng: &mut Rng, ranges: &mut Vec<[u32; 3]>) -> Option<()> {
 
 /// A service in three parts, of which the middle one never runs.
 fn tear(rng: &mut Rng, table: &mut RawTable) -> Option<()> {
-    let mut never = [0; 13];
+    let mut never = [0; BIT_FIELD_WORDS];
     never[0] = some(rng, &mut table.bitfields)?[0];
     let service = some_service(rng, table)?;
     let legs = service.calls.len() as u32 - 1;
@@ -201,8 +205,8 @@ fn tear(rng: &mut Rng, table: &mut RawTable) -> Option<()> {
 fn other_repeats(rng: &mut Rng, table: &mut RawTable) -> Option<()> {
     let (repeats, offset) = (rng.below(1_000), rng.below(1_000));
     let service = some_service(rng, table)?;
-    service.head[4] = repeats;
-    service.head[5] = offset;
+    service.head[REPEATS_AT] = repeats;
+    service.head[OFFSET_AT] = offset;
     Some(())
 }
 
@@ -260,7 +264,7 @@ fn over_100_others(rng: &mut Rng, table: &mut RawTable) -> Option<()> {
 }
 
 fn repeats_over_999(rng: &mut Rng, table: &mut RawTable) -> Option<()> {
-    let which = 4 + rng.index(2);
+    let which = rng.pick(&[REPEATS_AT, OFFSET_AT]);
     some_service(rng, table)?.head[which] = rng.pick(&[1_000, u32::MAX]);
     Some(())
 }
@@ -305,77 +309,78 @@ fn other_wrong_order(rng: &mut Rng, table: &mut RawTable) -> Option<()> {
     Some(())
 }
 
-fn under_8_words(rng: &mut Rng, words: &mut Vec<u32>) -> Option<()> {
-    words.truncate(rng.index(8));
+fn under_a_header(rng: &mut Rng, words: &mut Vec<u32>) -> Option<()> {
+    words.truncate(rng.index(HEADER_WORDS));
     Some(())
 }
 
-fn used_under_8(rng: &mut Rng, words: &mut Vec<u32>) -> Option<()> {
-    words[0] = rng.below(8);
+fn used_under_a_header(rng: &mut Rng, words: &mut Vec<u32>) -> Option<()> {
+    words[USED_AT] = rng.below(HEADER_WORDS as u32);
     Some(())
 }
 
 fn lent_cut_short(rng: &mut Rng, words: &mut Vec<u32>) -> Option<()> {
-    let used = words[0] as usize;
+    let used = words[USED_AT] as usize;
     words.truncate(used.saturating_sub(1 + rng.index(3)));
     Some(())
 }
 
 fn used_over_lent(rng: &mut Rng, words: &mut Vec<u32>) -> Option<()> {
-    words[0] = rng.pick(&[words.len() as u32 + 1, u32::MAX]);
+    words[USED_AT] = rng.pick(&[words.len() as u32 + 1, u32::MAX]);
     Some(())
 }
 
 fn used_one_more(_: &mut Rng, words: &mut Vec<u32>) -> Option<()> {
-    let used = words[0] as usize;
+    let used = words[USED_AT] as usize;
     words.insert(used, 0);
-    words[0] += 1;
+    words[USED_AT] += 1;
     Some(())
 }
 
 fn used_one_less(_: &mut Rng, words: &mut Vec<u32>) -> Option<()> {
-    words[0] -= 1;
+    words[USED_AT] -= 1;
     Some(())
 }
 
-/// Word 7 right, but beyond words used.
+/// The first service's place right, but beyond words used.
 fn place_beyond_used(_: &mut Rng, words: &mut Vec<u32>) -> Option<()> {
-    words[6] = 0;
-    words[0] = words[7] - 1;
+    words[SERVICES_AT] = 0;
+    words[USED_AT] = words[FIRST_SERVICE_AT] - 1;
     Some(())
 }
 
 fn place_off(rng: &mut Rng, words: &mut Vec<u32>) -> Option<()> {
-    words[7] = rng.pick(&[words[7] - 1, words[7] + 1, 0, u32::MAX]);
+    let place = words[FIRST_SERVICE_AT];
+    words[FIRST_SERVICE_AT] = rng.pick(&[place - 1, place + 1, 0, u32::MAX]);
     Some(())
 }
 
-/// One more bit field and these stops are 2^32 words together: word 7 is right modulo 2^32 only.
+/// One more bit field and these stops are 2^32 words together: the first service's place is right modulo 2^32 only.
 fn right_modulo_2_to_32(_: &mut Rng, words: &mut Vec<u32>) -> Option<()> {
-    words[3] += 1;
-    words[4] += 1_431_655_761;
+    words[BIT_FIELDS_AT] += 1;
+    words[STOPS_AT] += (((1_u64 << 32) - BIT_FIELD_WORDS as u64) / STOP_WORDS as u64) as u32;
     Some(())
 }
 
 fn header_count_off(rng: &mut Rng, words: &mut Vec<u32>) -> Option<()> {
-    let which = rng.between(3, 6) as usize;
+    let which = rng.between(BIT_FIELDS_AT as u32, SERVICES_AT as u32) as usize;
     words[which] = rng.pick(&[words[which].wrapping_sub(1), words[which] + 1, 1 << 31]);
     Some(())
 }
 
 /// A count of a service that is not the sum of its parts.
 fn service_count_off(rng: &mut Rng, words: &mut Vec<u32>) -> Option<()> {
-    let first = words[7] as usize;
-    if words[6] == 0 {
+    let size = words[FIRST_SERVICE_AT] as usize + SIZE_AT;
+    if words[SERVICES_AT] == 0 {
         return None;
     }
-    words[first] = rng.pick(&[words[first] - 1, words[first] + 1, 0, 11, u32::MAX]);
+    words[size] = rng.pick(&[words[size] - 1, words[size] + 1, 0, SERVICE_WORDS as u32, u32::MAX]);
     Some(())
 }
 
 fn section_count_off(rng: &mut Rng, words: &mut Vec<u32>) -> Option<()> {
-    let which = words[7] as usize + rng.between(6, 9) as usize;
-    if words[6] == 0 {
+    let which = words[FIRST_SERVICE_AT] as usize + rng.between(CALLS_AT as u32, EXTRAS_AT as u32) as usize;
+    if words[SERVICES_AT] == 0 {
         return None;
     }
     words[which] = rng.pick(&[words[which] + 1, u32::MAX, 1 << 30, 201]);

@@ -7,6 +7,10 @@ use super::plan::{self, Given, Plan};
 use super::rng::Rng;
 use super::sheet::{bytes, sheet, Row, Sheet, Tag};
 use super::Size;
+use crate::layout::{
+    BIT_FIELD_WORDS, CALL_WORDS, CATEGORY_WORDS, DAYS_WORDS, EXTRA_WORDS, HEADER_WORDS, INTERCHANGE_WORDS,
+    SERVICE_WORDS, STOP_WORDS,
+};
 
 /// The refusal that a damage must bring; the column is 0 unless 4.
 #[derive(Clone, Copy, Debug, PartialEq, Eq)]
@@ -38,11 +42,19 @@ impl Case {
 /// The words that the table of a plan takes.
 pub fn planned_words(plan: &Plan) -> usize {
     let service_words = |service: &plan::Service| {
-        let range_words = |range: &plan::Range| if let Given::Other(..) = range.given { 4 } else { 3 };
-        11 + 4 * service.calls.len() + service.ranges.iter().map(range_words).sum::<usize>()
+        let range_words = |range: &plan::Range| match range.given {
+            Given::Category(_) => CATEGORY_WORDS,
+            Given::Days(_) => DAYS_WORDS,
+            Given::Other(..) => EXTRA_WORDS,
+        };
+        SERVICE_WORDS + CALL_WORDS * service.calls.len() + service.ranges.iter().map(range_words).sum::<usize>()
     };
     let services: usize = plan.services.iter().map(service_words).sum();
-    8 + 13 * plan.bitfields.len() + 3 * plan.stops.len() + 3 * plan.interchange.len() + services
+    HEADER_WORDS
+        + BIT_FIELD_WORDS * plan.bitfields.len()
+        + STOP_WORDS * plan.stops.len()
+        + INTERCHANGE_WORDS * plan.interchange.len()
+        + services
 }
 
 /// Room for so many words: just enough, or more.

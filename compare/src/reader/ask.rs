@@ -3,9 +3,11 @@
 use super::bits::{runs_on, BitWords};
 use super::calendar::{day_number, LAST_DAY, MOST_DAYS};
 use super::service::stretches;
-use super::table::{
-    BITFIELD, CALL, CATEGORY, DAYS, HAS_ARRIVAL, HAS_DEPARTURE, HEADER, INTERCHANGE, NO_ALIGHTING, NO_BOARDING, OTHER,
-    SERVICE, STOP,
+use crate::layout::{
+    ARRIVAL, BIT_FIELDS_AT, BIT_FIELD_WORDS, CALLS_AT, CALL_WORDS, CATEGORIES_AT, CATEGORY_WORDS, DAYS_AT, DAYS_WORDS,
+    DEPARTURE, EXTRAS_AT, EXTRA_WORDS, FIRST_DAY_AT, FIRST_SERVICE_AT, HEADER_WORDS, INTERCHANGES_AT,
+    INTERCHANGE_WORDS, MOST_CALLS, NO_ALIGHTING, NO_BOARDING, OFFSET_AT, PERIOD_DAYS_AT, REPEATS_AT, ROW_WORDS,
+    SERVICES_AT, SERVICE_WORDS, SIZE_AT, STOPS_AT, STOP_WORDS, USED_AT,
 };
 
 /// The answer of a day question.
@@ -30,9 +32,6 @@ pub enum Walked {
     NotRunning,
     Refused { number: u32, needed: u32 },
 }
-
-/// Words of a row.
-pub const ROW: usize = 7;
 
 /// A range of the table: what it gives (category or bit field), over which route indexes.
 #[derive(Clone, Copy, Debug)]
@@ -77,20 +76,20 @@ pub fn is_table(words: &[u32]) -> bool {
 /// The conditions of 21 in the paper's order, counted exactly.
 fn table(words: &[u32]) -> Option<Table<'_>> {
     // "fewer than 8, or words used under 8 or over those lent"
-    let used = *words.first()? as usize;
-    if used < HEADER || used > words.len() {
+    let used = *words.get(USED_AT)? as usize;
+    if used < HEADER_WORDS || used > words.len() {
         return None;
     }
     let words = &words[..used];
     // "n not 1 to 380, or last day after 31.12.2199"
-    let (first_day, n) = (u64::from(words[1]), words[2]);
+    let (first_day, n) = (u64::from(words[FIRST_DAY_AT]), words[PERIOD_DAYS_AT]);
     if !(1..=MOST_DAYS).contains(&n) || first_day + u64::from(n) - 1 > u64::from(LAST_DAY) {
         return None;
     }
     // "U is 0; word 7 is not 8 + 13B + 3S + 3U or is beyond words used"
-    let (b, s, u) = (u64::from(words[3]), u64::from(words[4]), u64::from(words[5]));
-    let place = HEADER as u64 + BITFIELD as u64 * b + STOP as u64 * s + INTERCHANGE as u64 * u;
-    if u == 0 || u64::from(words[7]) != place || place > used as u64 {
+    let [b, s, u] = [BIT_FIELDS_AT, STOPS_AT, INTERCHANGES_AT].map(|at| u64::from(words[at]));
+    let place = HEADER_WORDS as u64 + BIT_FIELD_WORDS as u64 * b + STOP_WORDS as u64 * s + INTERCHANGE_WORDS as u64 * u;
+    if u == 0 || u64::from(words[FIRST_SERVICE_AT]) != place || place > used as u64 {
         return None;
     }
     let services = services(words)?;
@@ -99,11 +98,11 @@ fn table(words: &[u32]) -> Option<Table<'_>> {
 
 /// "the V records do not end exactly at words used": the services from word 7 on, or nothing if they do not fit.
 fn services(words: &[u32]) -> Option<Vec<Service>> {
-    let mut rest = &words[words[7] as usize..];
+    let mut rest = &words[words[FIRST_SERVICE_AT] as usize..];
     let mut found = Vec::new();
-    for _ in 0..words[6] {
+    for _ in 0..words[SERVICES_AT] {
         let service = service(rest)?;
-        rest = &rest[rest[0] as usize..];
+        rest = &rest[rest[SIZE_AT] as usize..];
         found.push(service);
     }
     if rest.is_empty() {
@@ -115,29 +114,30 @@ fn services(words: &[u32]) -> Option<Vec<Service>> {
 
 /// The service at the start of the words, if it stands there whole and keeps the conditions of 21.
 fn service(words: &[u32]) -> Option<Service> {
-    if words.len() < SERVICE {
+    if words.len() < SERVICE_WORDS {
         return None;
     }
-    let (c, g, v, a) = (words[6] as usize, words[7] as usize, words[8] as usize, words[9] as usize);
+    let [c, g, v, a] = [CALLS_AT, CATEGORIES_AT, DAYS_AT, EXTRAS_AT].map(|at| words[at] as usize);
+    let (repeats, offset) = (words[REPEATS_AT], words[OFFSET_AT]);
     // "c outside 2 to 200, g, v, a over 50, 50, 100"; "repeats or offset over 999"
-    if !(2..=200).contains(&c) || g > 50 || v > 50 || a > 100 || words[4] > 999 || words[5] > 999 {
+    if !(2..=MOST_CALLS).contains(&c) || g > 50 || v > 50 || a > 100 || repeats > 999 || offset > 999 {
         return None;
     }
     // "a count differs from 11 + 4c + 3g + 3v + 4a"
-    let count = SERVICE + CALL * c + CATEGORY * g + DAYS * v + OTHER * a;
-    if words[0] as usize != count || count > words.len() {
+    let count = SERVICE_WORDS + CALL_WORDS * c + CATEGORY_WORDS * g + DAYS_WORDS * v + EXTRA_WORDS * a;
+    if words[SIZE_AT] as usize != count || count > words.len() {
         return None;
     }
-    let (calls, rest) = words[SERVICE..count].split_at(CALL * c);
-    let (categories, rest) = rest.split_at(CATEGORY * g);
-    let (days, others) = rest.split_at(DAYS * v);
+    let (calls, rest) = words[SERVICE_WORDS..count].split_at(CALL_WORDS * c);
+    let (categories, rest) = rest.split_at(CATEGORY_WORDS * g);
+    let (days, others) = rest.split_at(DAYS_WORDS * v);
     let service = Service {
-        repeats: words[4],
-        offset: words[5],
-        calls: calls.chunks_exact(CALL).map(call).collect(),
-        categories: categories.chunks_exact(CATEGORY).map(over).collect(),
-        days: days.chunks_exact(DAYS).map(over).collect(),
-        others: others.chunks_exact(OTHER).map(|other| over(&other[1..])).collect(),
+        repeats,
+        offset,
+        calls: calls.chunks_exact(CALL_WORDS).map(call).collect(),
+        categories: categories.chunks_exact(CATEGORY_WORDS).map(over).collect(),
+        days: days.chunks_exact(DAYS_WORDS).map(over).collect(),
+        others: others.chunks_exact(EXTRA_WORDS).map(|other| over(&other[1..])).collect(),
     };
     if in_bounds(&service) {
         Some(service)
@@ -168,21 +168,21 @@ impl<'a> Table<'a> {
     /// 22 "no such date", 23 "outside the period"; else the day of the period.
     fn day_of(&self, d: u32, m: u32, y: u32) -> Result<u32, u32> {
         let day = day_number(d, m, y).ok_or(22_u32)?;
-        match day.checked_sub(self.words[1]) {
-            Some(in_period) if in_period < self.words[2] => Ok(in_period),
+        match day.checked_sub(self.words[FIRST_DAY_AT]) {
+            Some(in_period) if in_period < self.words[PERIOD_DAYS_AT] => Ok(in_period),
             _ => Err(23),
         }
     }
 
     fn stop_known(&self, stop: u32) -> bool {
-        let start = HEADER + BITFIELD * self.bitfields;
-        self.words[start..].chunks_exact(STOP).take(self.stops).any(|record| record[0] == stop)
+        let start = HEADER_WORDS + BIT_FIELD_WORDS * self.bitfields;
+        self.words[start..].chunks_exact(STOP_WORDS).take(self.stops).any(|record| record[0] == stop)
     }
 
     /// "the stop's record, else the first record"; "Lookups take the first match."
     fn interchange_times(&self, stop: u32) -> [u32; 2] {
-        let start = HEADER + BITFIELD * self.bitfields + STOP * self.stops;
-        let mut records = self.words[start..].chunks_exact(INTERCHANGE).take(self.records);
+        let start = HEADER_WORDS + BIT_FIELD_WORDS * self.bitfields + STOP_WORDS * self.stops;
+        let mut records = self.words[start..].chunks_exact(INTERCHANGE_WORDS).take(self.records);
         match records.find(|record| record[0] == stop) {
             Some(record) => [record[1], record[2]],
             None => [self.words[start + 1], self.words[start + 2]],
@@ -194,7 +194,7 @@ impl<'a> Table<'a> {
         if number == 0 {
             return Some(true);
         }
-        let mut records = self.words[HEADER..].chunks_exact(BITFIELD).take(self.bitfields);
+        let mut records = self.words[HEADER_WORDS..].chunks_exact(BIT_FIELD_WORDS).take(self.bitfields);
         let record = records.find(|record| record[0] == number)?;
         let mut bits: BitWords = [0; 12];
         bits.copy_from_slice(&record[1..]);
@@ -273,7 +273,7 @@ pub fn walk(words: &[u32], service: u32, repeat: u32, d: u32, m: u32, y: u32, ro
 }
 
 /// The rows of a walk, none if it is "not running"; all of its refusals but 29.
-fn walked_rows(words: &[u32], service: u32, repeat: u32, d: u32, m: u32, y: u32) -> Result<Vec<[u32; ROW]>, u32> {
+fn walked_rows(words: &[u32], service: u32, repeat: u32, d: u32, m: u32, y: u32) -> Result<Vec<[u32; ROW_WORDS]>, u32> {
     let table = table(words).ok_or(21_u32)?;
     let day = table.day_of(d, m, y)?;
     // "24 service index not below V"
@@ -305,7 +305,7 @@ fn row(
     (first, i, last): (usize, usize, usize),
     late: u32,
     before: &mut u32,
-) -> Result<[u32; ROW], u32> {
+) -> Result<[u32; ROW_WORDS], u32> {
     let call = service.calls[i];
     if !table.stop_known(call.stop) {
         return Err(32);
@@ -313,14 +313,14 @@ fn row(
     // "First row: arrival 0, flags 1 and 4 cleared. Last: departure 0, flags 2 and 8 cleared, category 0."
     let (mut arrival, mut departure, mut category, mut flags) = (0, 0, 0, call.flags);
     if i == first {
-        flags &= !(HAS_ARRIVAL | NO_ALIGHTING);
+        flags &= !(ARRIVAL | NO_ALIGHTING);
     } else {
-        arrival = late + needed_time(call.arrival, call.flags & HAS_ARRIVAL, before)?;
+        arrival = late + needed_time(call.arrival, call.flags & ARRIVAL, before)?;
     }
     if i == last {
-        flags &= !(HAS_DEPARTURE | NO_BOARDING);
+        flags &= !(DEPARTURE | NO_BOARDING);
     } else {
-        departure = late + needed_time(call.departure, call.flags & HAS_DEPARTURE, before)?;
+        departure = late + needed_time(call.departure, call.flags & DEPARTURE, before)?;
         category = only_one(&service.categories, i).ok_or(33_u32)?;
     }
     let [same, other] = table.interchange_times(call.stop);

@@ -3,27 +3,14 @@
 use super::fields::Time;
 use super::load::Delivery;
 use super::service::{Call, Given, Service};
-
-/// Words of the header, and of each record.
-pub const HEADER: usize = 8;
-pub const BITFIELD: usize = 13;
-pub const STOP: usize = 3;
-pub const INTERCHANGE: usize = 3;
-pub const SERVICE: usize = 11;
-pub const CALL: usize = 4;
-pub const CATEGORY: usize = 3;
-pub const DAYS: usize = 3;
-pub const OTHER: usize = 4;
-
-/// "flags: 1 arrival, 2 departure, 4 no alighting, 8 no boarding"
-pub const HAS_ARRIVAL: u32 = 1;
-pub const HAS_DEPARTURE: u32 = 2;
-pub const NO_ALIGHTING: u32 = 4;
-pub const NO_BOARDING: u32 = 8;
+use crate::layout::{
+    ARRIVAL, CALL_WORDS, CATEGORY_WORDS, DAYS_WORDS, DEPARTURE, EXTRA_WORDS, HEADER_WORDS, NO_ALIGHTING, NO_BOARDING,
+    SERVICE_WORDS,
+};
 
 /// Header, bit fields, stops, interchange records, services, "all in file order".
 pub fn words(delivery: &Delivery) -> Vec<u32> {
-    let mut words = vec![0; HEADER];
+    let mut words = vec![0; HEADER_WORDS];
     for (number, bits) in &delivery.bitfields {
         words.push(*number);
         words.extend_from_slice(bits);
@@ -39,7 +26,7 @@ pub fn words(delivery: &Delivery) -> Vec<u32> {
         words.extend(service_words(service));
     }
     // "words used, first day, n, bit fields B, stops S, interchange records U, services V, place of first service"
-    let header = [
+    let header: [u32; HEADER_WORDS] = [
         words.len() as u32,
         delivery.first_day,
         delivery.days,
@@ -49,7 +36,7 @@ pub fn words(delivery: &Delivery) -> Vec<u32> {
         delivery.services.len() as u32,
         first_service as u32,
     ];
-    words[..HEADER].copy_from_slice(&header);
+    words[..HEADER_WORDS].copy_from_slice(&header);
     words
 }
 
@@ -67,29 +54,30 @@ fn service_words(service: &Service) -> Vec<u32> {
             Given::Other { code, bitfield } => others.extend_from_slice(&[code, bitfield, from, to]),
         }
     }
-    let mut words = vec![
-        (SERVICE + calls.len() + categories.len() + days.len() + others.len()) as u32,
+    let head: [u32; SERVICE_WORDS] = [
+        (SERVICE_WORDS + calls.len() + categories.len() + days.len() + others.len()) as u32,
         draft.number,
         draft.administration[0],
         draft.administration[1],
         draft.repeats,
         draft.offset,
         draft.calls.len() as u32,
-        (categories.len() / CATEGORY) as u32,
-        (days.len() / DAYS) as u32,
-        (others.len() / OTHER) as u32,
+        (categories.len() / CATEGORY_WORDS) as u32,
+        (days.len() / DAYS_WORDS) as u32,
+        (others.len() / EXTRA_WORDS) as u32,
         draft.line,
     ];
+    let mut words = head.to_vec();
     for section in [calls, categories, days, others] {
         words.extend(section);
     }
     words
 }
 
-/// "calls of 4 (stop, arrival, departure, flags ...; absent time 0)"
-fn call_words(call: &Call) -> [u32; CALL] {
-    let (arrival, arrival_flags) = time_words(call.arrival, HAS_ARRIVAL, NO_ALIGHTING);
-    let (departure, departure_flags) = time_words(call.departure, HAS_DEPARTURE, NO_BOARDING);
+/// "calls of 4 (stop, arrival, departure, flags: 1 arrival, 2 departure, 4 no alighting, 8 no boarding; absent time 0)"
+fn call_words(call: &Call) -> [u32; CALL_WORDS] {
+    let (arrival, arrival_flags) = time_words(call.arrival, ARRIVAL, NO_ALIGHTING);
+    let (departure, departure_flags) = time_words(call.departure, DEPARTURE, NO_BOARDING);
     [call.stop, arrival, departure, arrival_flags | departure_flags]
 }
 

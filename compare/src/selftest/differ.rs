@@ -2,6 +2,7 @@
 
 use crate::boundary::{Boundary, Reader};
 use crate::differ::{compare, Tally};
+use crate::layout::ROW_WORDS;
 
 /// The reader with one slip each, and the list of them.
 macro_rules! slips {
@@ -80,7 +81,7 @@ impl Boundary for Slip {
         match self {
             NoRows => rows.copy_from_slice(&before),
             RowsOnShort if answer[0] == 29 => bump(rows, 0),
-            WordAfterRows if answer[0] == 0 => bump(rows, 7 * answer[1] as usize),
+            WordAfterRows if answer[0] == 0 => bump(rows, ROW_WORDS * answer[1] as usize),
             AlwaysIdle if answer[0] == 0 => return [0, 0, 0],
             _ => {}
         }

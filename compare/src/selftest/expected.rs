@@ -2,6 +2,10 @@
 
 use crate::generate::plan::{Call, Given, Plan, Range, Service};
 use crate::generate::sheet::{Sheet, Tag};
+use crate::layout::{
+    ARRIVAL, CALL_WORDS, CATEGORY_WORDS, DAYS_WORDS, DEPARTURE, EXTRA_WORDS, FIRST_SERVICE_AT, NO_ALIGHTING,
+    NO_BOARDING, ROW_WORDS, SIZE_AT, USED_AT,
+};
 use crate::reader::bits::bit;
 
 fn packed(bytes: &[u8]) -> u32 {
@@ -11,7 +15,9 @@ fn packed(bytes: &[u8]) -> u32 {
 /// The table of a plan whose lines are these; BAHNHOF's bytes say where the names stand.
 pub fn expected_table(plan: &Plan, sheet: &Sheet, bahnhof: &[u8]) -> Vec<u32> {
     let mut words = vec![0, plan.first_day, plan.days];
-    words.extend([plan.bitfields.len(), plan.stops.len(), plan.interchange.len(), plan.services.len(), 0].map(|n| n as u32));
+    words.extend(
+        [plan.bitfields.len(), plan.stops.len(), plan.interchange.len(), plan.services.len(), 0].map(|n| n as u32),
+    );
     for (number, bits) in &plan.bitfields {
         words.push(*number);
         words.extend(bits);
@@ -20,11 +26,11 @@ pub fn expected_table(plan: &Plan, sheet: &Sheet, bahnhof: &[u8]) -> Vec<u32> {
     for (number, same, other) in &plan.interchange {
         words.extend([number, same, other]);
     }
-    words[7] = words.len() as u32;
+    words[FIRST_SERVICE_AT] = words.len() as u32;
     for (s, service) in plan.services.iter().enumerate() {
         words.extend(expected_service(service, s, sheet));
     }
-    words[0] = words.len() as u32;
+    words[USED_AT] = words.len() as u32;
     words
 }
 
@@ -56,22 +62,22 @@ fn expected_service(service: &Service, s: usize, sheet: &Sheet) -> Vec<u32> {
     }
     let (repeats, offset) = service.repeats.unwrap_or((0, 0));
     let (front, back) = service.administration.split_at(3);
-    let counts = [calls.len(), g.len() / 3, v.len() / 3, a.len() / 4].map(|n| n as u32);
+    let counts = [calls.len(), g.len() / CATEGORY_WORDS, v.len() / DAYS_WORDS, a.len() / EXTRA_WORDS].map(|n| n as u32);
     let mut words = vec![0, service.number, packed(front), packed(back), repeats, offset];
     words.extend(counts);
     words.push(line);
     words.extend(calls.concat());
     words.extend([g, v, a].concat());
-    words[0] = words.len() as u32;
+    words[SIZE_AT] = words.len() as u32;
     words
 }
 
-fn call_words(call: &Call, line: &[u8]) -> [u32; 4] {
+fn call_words(call: &Call, line: &[u8]) -> [u32; CALL_WORDS] {
     let flag = |holds: bool, value: u32| if holds { value } else { 0 };
-    let flags = flag(call.arrival.is_some(), 1)
-        + flag(call.departure.is_some(), 2)
-        + flag(line[29] == b'-', 4)
-        + flag(line[36] == b'-', 8);
+    let flags = flag(call.arrival.is_some(), ARRIVAL)
+        + flag(call.departure.is_some(), DEPARTURE)
+        + flag(line[29] == b'-', NO_ALIGHTING)
+        + flag(line[36] == b'-', NO_BOARDING);
     [call.stop, call.arrival.unwrap_or(0), call.departure.unwrap_or(0), flags]
 }
 
@@ -107,7 +113,7 @@ pub fn expected_walk(plan: &Plan, s: usize, repeat: u32, day: u32) -> Vec<u32> {
     (first..=last).flat_map(|i| expected_row(plan, service, i, late, i == first, i == last)).collect()
 }
 
-fn expected_row(plan: &Plan, service: &Service, i: usize, late: u32, first: bool, last: bool) -> [u32; 7] {
+fn expected_row(plan: &Plan, service: &Service, i: usize, late: u32, first: bool, last: bool) -> [u32; ROW_WORDS] {
     let call = &service.calls[i];
     let category = service.ranges.iter().find_map(|range| match range.given {
         Given::Category(category) if range.from <= i && i < range.to => Some(packed(&category)),

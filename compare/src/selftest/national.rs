@@ -1,6 +1,7 @@
 //! Large deliveries: each is accepted, and is what was wanted.
 
 use crate::generate::{empty_lines, national, shortest_records, National, Numbers, Rng};
+use crate::layout::{BIT_FIELDS_AT, SERVICES_AT, STOPS_AT};
 use crate::reader::{load, Loaded};
 
 const NUMBERS: [Numbers; 3] = [Numbers::Consecutive, Numbers::EqualEnding, Numbers::Random];
@@ -24,7 +25,7 @@ fn services() {
             let size = National { fplan_bytes: 300_000, stops, bit_fields, numbers };
             let files = national(&mut rng, &size);
             let table = table_of(&files);
-            assert_eq!((table[3] as usize, table[4] as usize), (bit_fields, stops));
+            assert_eq!((table[BIT_FIELDS_AT] as usize, table[STOPS_AT] as usize), (bit_fields, stops));
             assert!((280_000..=300_000).contains(&files[4].len()), "{}", files[4].len());
         }
     }
@@ -52,9 +53,9 @@ fn shortest_lines() {
         let files = shortest_records(&mut Rng::new(1), 1_000_000, numbers);
         let lengths = |file: usize| files[file].split(|byte| *byte == b'\n').map(<[u8]>::len).max();
         assert_eq!([1, 2, 3].map(lengths), [Some(103), Some(13), Some(13)]);
-        assert_eq!(table_of(&files)[3..7], [9_615, 71_428, 71_428, 0]);
+        assert_eq!(table_of(&files)[BIT_FIELDS_AT..=SERVICES_AT], [9_615, 71_428, 71_428, 0]);
     }
     let files = empty_lines(10_000);
     assert_eq!(files[1..4].iter().map(Vec::len).collect::<Vec<_>>(), [10_000; 3]);
-    assert_eq!(table_of(&files)[3..7], [0, 0, 1, 0]);
+    assert_eq!(table_of(&files)[BIT_FIELDS_AT..=SERVICES_AT], [0, 0, 1, 0]);
 }

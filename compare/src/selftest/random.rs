@@ -8,6 +8,7 @@ use crate::generate::bend_table::{BENDS, NO_TABLES, POKES};
 use crate::generate::plan::date_of;
 use crate::generate::raw_table::parts;
 use crate::generate::{damaged_table, mixed, oversized, question, valid, Aim, Case, Question, Rng, Size};
+use crate::layout::{ROW_FLAGS_AT, ROW_WORDS};
 use crate::reader::{day, interchange, is_table, load, refused_column, walk, Changed, DayAnswer, Loaded, Walked};
 
 const LENT: u32 = 0xAAAA_AAAA;
@@ -24,6 +25,13 @@ fn show(title: &str, histogram: &Histogram) {
     for (answer, times) in histogram {
         println!("  {:<24} {:>7}", answer, times);
     }
+}
+
+/// A refusal came more than a hundred times, whatever else its answers say.
+fn came_often(histogram: &Histogram, number: u32) {
+    let refused = format!("refused {:02}", number);
+    let times: u32 = histogram.iter().filter(|(answer, _)| answer.contains(&refused)).map(|(_, times)| times).sum();
+    assert!(times > 100, "{} only {} times", refused, times);
 }
 
 /// A turn of a test, told if something fails in it.
@@ -104,11 +112,7 @@ fn loads() {
         }
     });
     show("loads", &histogram);
-    for number in 2..=20 {
-        let prefix = format!("refused {:02}", number);
-        let times: u32 = histogram.iter().filter(|(answer, _)| answer.starts_with(&prefix)).map(|(_, times)| *times).sum();
-        assert!(times > 100, "{} only {} times", prefix, times);
-    }
+    (2..=20).for_each(|number| came_often(&histogram, number));
 }
 
 #[test]
@@ -148,9 +152,9 @@ fn walks() {
                 let mut rows = vec![LENT; expected.len() + 3];
                 let walked = walk(&table, s as u32, repeat, d, m, y, &mut rows);
                 note(&mut histogram, format!("{:?}", walked).split('(').next().unwrap().to_string());
-                let listed = (expected.len() / 7) as u32;
+                let listed = (expected.len() / ROW_WORDS) as u32;
                 assert_eq!(walked, if listed == 0 { Walked::NotRunning } else { Walked::Rows(listed) });
-                rows.chunks_mut(7).take(listed as usize).for_each(|row| row[3] = 0);
+                rows.chunks_mut(ROW_WORDS).take(listed as usize).for_each(|row| row[ROW_FLAGS_AT] = 0);
                 assert_eq!(rows[..expected.len()], expected);
                 assert_eq!(rows[expected.len()..], [LENT; 3]);
             }
@@ -172,7 +176,7 @@ fn answer(words: &[u32], question: Question) -> String {
         Question::Walk { service, repeat, date: [d, m, y], room } => {
             let mut rows = vec![LENT; room];
             let walked = walk(words, service, repeat, d, m, y, &mut rows);
-            let written = if let Walked::Rows(listed) = walked { 7 * listed as usize } else { 0 };
+            let written = if let Walked::Rows(listed) = walked { ROW_WORDS * listed as usize } else { 0 };
             assert!(rows[written..].iter().all(|word| *word == LENT));
             match walked {
                 Walked::Rows(_) => "walk rows".to_string(),
@@ -199,11 +203,7 @@ fn questions() {
         }
     });
     show("questions", &histogram);
-    for number in (21..=36).filter(|number| *number != 30) {
-        let suffix = format!("refused {}", number);
-        let times: u32 = histogram.iter().filter(|(answer, _)| answer.ends_with(&suffix)).map(|(_, times)| *times).sum();
-        assert!(times > 100, "{} only {} times", suffix, times);
-    }
+    (21..=36).filter(|number| *number != 30).for_each(|number| came_often(&histogram, number));
 }
 
 /// Each condition of 21 in turn, and each damage that keeps a table.

@@ -4,6 +4,7 @@ use super::{Checked, Paper};
 use crate::boundary::Boundary;
 use crate::columns::{bit_digits, bitfield};
 use crate::generate::plan::{bitfield_of, date_of};
+use crate::layout::{BIT_FIELD_WORDS, FIRST_DAY_AT, HEADER_WORDS, INTERCHANGE_WORDS, PERIOD_DAYS_AT, STOP_WORDS};
 
 const STOPS: [&str; 4] = [
     "8800002     Bruxelles-Nord$Brüssel Nord$<d>$Brussel Noord$<n>",
@@ -14,15 +15,25 @@ const STOPS: [&str; 4] = [
 
 /// 5.1: the name field as it stands; "a maximum of the first 50 characters", of the second line's 52.
 pub fn stops(boundary: &dyn Boundary) -> Vec<Checked> {
-    let (accepted, table) = Paper::new().with(3, &STOPS).accepted(boundary, "5.1 the four stops", 8 + 4 * 3 + 3);
+    let (accepted, table) = Paper::new().with(3, &STOPS).accepted(
+        boundary,
+        "5.1 the four stops",
+        HEADER_WORDS + 4 * STOP_WORDS + INTERCHANGE_WORDS,
+    );
     let records = [8_800_002, 12, 49, 8_833_001, 74, 50, 1_234_567, 139, 29, 7_654_321, 181, 19];
-    vec![accepted, Checked::new("5.1 places and lengths of the names", &records, &table[8..20])]
+    vec![
+        accepted,
+        Checked::new("5.1 places and lengths of the names", &records, &table[HEADER_WORDS..][..4 * STOP_WORDS]),
+    ]
 }
 
 /// 5.4.1: 30.09.1996 to 01.06.1997.
 pub fn period(boundary: &dyn Boundary) -> Vec<Checked> {
     let (accepted, table) = Paper::new().accepted(boundary, "5.4.1 the period", 11);
-    vec![accepted, Checked::new("5.4.1 first day 35,336, 245 days", &[35_336, 245], &table[1..3])]
+    vec![
+        accepted,
+        Checked::new("5.4.1 first day 35,336, 245 days", &[35_336, 245], &table[FIRST_DAY_AT..=PERIOD_DAYS_AT]),
+    ]
 }
 
 /// 27.09.1996, and the days from it to 22.05.1997.
@@ -38,7 +49,11 @@ pub fn saturdays(boundary: &dyn Boundary) -> Vec<Checked> {
     let refused =
         |text: &str, line: String, number: u32| paper.clone().with(2, &[line]).refused(boundary, text, [number, 2, 1]);
     let mended = paper.clone().with(2, &[bitfield("000001", &days)]);
-    let (accepted, table) = mended.accepted(boundary, "5.4.2 with all Saturdays and both frames", 8 + 13 + 3);
+    let (accepted, table) = mended.accepted(
+        boundary,
+        "5.4.2 with all Saturdays and both frames",
+        HEADER_WORDS + BIT_FIELD_WORDS + INTERCHANGE_WORDS,
+    );
     let runs = |d: u32| {
         let (day, month, year) = date_of(SATURDAY_START + d);
         boundary.day(&table, [day, month, year], 1)
@@ -60,7 +75,11 @@ pub fn interchange_times(boundary: &dyn Boundary) -> Vec<Checked> {
     let printed = Paper::new().with(4, &["9999999 2 3 STANDARD", "5800010 5 5 Basel SBB"]);
     let records = Paper::new().with(4, &["9999999  2  3 STANDARD", "5800010  5  5 Basel SBB"]);
     let listed = records.clone().with(3, &["5800010     Basel SBB", STOPS[0]]);
-    let (accepted, table) = listed.accepted(boundary, "5.7 the two records, Basel listed", 8 + 2 * 3 + 2 * 3);
+    let (accepted, table) = listed.accepted(
+        boundary,
+        "5.7 the two records, Basel listed",
+        HEADER_WORDS + 2 * STOP_WORDS + 2 * INTERCHANGE_WORDS,
+    );
     let minutes = |stop, class| boundary.interchange(&table, stop, [class, class])[1];
     let asked = [minutes(8_800_002, 1), minutes(8_800_002, 2), minutes(5_800_010, 1), minutes(5_800_010, 2)];
     vec![

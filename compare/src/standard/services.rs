@@ -4,6 +4,10 @@ use super::{Checked, Paper};
 use crate::boundary::Boundary;
 use crate::columns::{a, bit_digits, bitfield, call, g, z};
 use crate::generate::plan::bitfield_of;
+use crate::layout::{
+    BIT_FIELD_WORDS, CALL_WORDS, CATEGORY_WORDS, DAYS_WORDS, EXTRA_WORDS, HEADER_WORDS, INTERCHANGE_WORDS, ROW_WORDS,
+    SERVICE_WORDS, STOP_WORDS,
+};
 
 /// The days of 5.4.1's period.
 const DAYS: u32 = 245;
@@ -41,9 +45,18 @@ pub fn service_1554(boundary: &dyn Boundary) -> Vec<Checked> {
     let names: Vec<String> = stops.iter().map(|stop| format!("{}     Stop {}", stop, stop)).collect();
     let paper = Paper::new().with(2, &[bitfield("046149", &hex(|_| true))]).with(3, &names);
     let old: Vec<String> = fplan_1554().iter().map(|line| line.replace("    %", "%")).collect();
-    let words = 8 + 13 + 8 * 3 + 3 + 11 + 9 * 4 + 3 + 3 + 4 * 4;
+    let words = HEADER_WORDS
+        + BIT_FIELD_WORDS
+        + 8 * STOP_WORDS
+        + INTERCHANGE_WORDS
+        + SERVICE_WORDS
+        + 9 * CALL_WORDS
+        + CATEGORY_WORDS
+        + DAYS_WORDS
+        + 4 * EXTRA_WORDS;
     let (accepted, table) = paper.clone().with(5, &fplan_1554()).accepted(boundary, "5.3.1 service 1554", words);
-    let ends: Vec<u32> = table[101..117].chunks(4).flat_map(|other| [other[2], other[3]]).collect();
+    let ends: Vec<u32> =
+        table[words - 4 * EXTRA_WORDS..words].chunks(EXTRA_WORDS).flat_map(|other| [other[2], other[3]]).collect();
     vec![
         paper.with(5, &old).refused(boundary, "5.3.1 with \"%\" in column 55", [4, 5, 1]),
         accepted,
@@ -167,10 +180,17 @@ fn rows_114(calls: usize, late: u32) -> Vec<u32> {
 /// 5.3.14 mended: Monday to the end, Sunday to Koblanckstrasse, and the eleven runs that follow.
 pub fn service_114_mended(boundary: &dyn Boundary) -> Vec<Checked> {
     let lines: Vec<String> = without(&NOT_TAKEN).iter().map(|line| mended(line)).collect();
-    let words = 8 + 13 + 13 * 3 + 3 + 11 + 18 * 4 + 3 + 2 * 3;
+    let words = HEADER_WORDS
+        + BIT_FIELD_WORDS
+        + 13 * STOP_WORDS
+        + INTERCHANGE_WORDS
+        + SERVICE_WORDS
+        + 18 * CALL_WORDS
+        + CATEGORY_WORDS
+        + 2 * DAYS_WORDS;
     let (accepted, table) = paper_114().with(5, &lines).accepted(boundary, "5.3.14 mended", words);
     let walked = |repeat, date, calls: usize| {
-        let mut rows = vec![0; 7 * calls];
+        let mut rows = vec![0; ROW_WORDS * calls];
         let mut answer = boundary.walk(&table, 0, repeat, date, &mut rows).to_vec();
         answer.extend(rows);
         answer

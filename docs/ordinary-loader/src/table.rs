@@ -7,11 +7,11 @@ use crate::route::Call;
 use crate::service::{Found, Ranges, Service};
 
 const HEADER_WORDS: usize = 8;
-const SERVICE_HEAD_WORDS: usize = 11;
+const SERVICE_WORDS: usize = 11;
 const CALL_WORDS: usize = 4;
 const CATEGORY_WORDS: usize = 3;
 const DAYS_WORDS: usize = 3;
-const OTHER_WORDS: usize = 4;
+const EXTRA_WORDS: usize = 4;
 
 const ARRIVAL: u32 = 1;
 const DEPARTURE: u32 = 2;
@@ -80,12 +80,12 @@ impl Table {
     fn head(&mut self, service: &Service, ranges: &Ranges) {
         let (calls, categories) = (service.calls.len(), ranges.categories.len());
         let (days, others) = (ranges.days.len(), ranges.others.len());
-        let body = CALL_WORDS * calls + CATEGORY_WORDS * categories + DAYS_WORDS * days + OTHER_WORDS * others;
+        let body = CALL_WORDS * calls + CATEGORY_WORDS * categories + DAYS_WORDS * days + EXTRA_WORDS * others;
         let opening = &service.opening;
         let [first, second] = opening.administration;
         let [calls, categories, days, others] = [calls, categories, days, others].map(|count| count as u32);
         self.words.extend_from_slice(&[
-            (SERVICE_HEAD_WORDS + body) as u32,
+            (SERVICE_WORDS + body) as u32,
             opening.number,
             first,
             second,

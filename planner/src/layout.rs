@@ -1,0 +1,93 @@
+//! The table's layout, as `include/estelunya.h` says it under the same names: how many words a record has, and where a word
+//! stands in it, counted from 0. `tools/drift.sh` holds the two together.
+
+/// Words of the header.
+pub const HEADER_WORDS: usize = 8;
+/// Header: words used.
+pub const USED_AT: usize = 0;
+/// Header: first day of the period; 01.01.1900 is 0.
+pub const FIRST_DAY_AT: usize = 1;
+/// Header: days of the period.
+pub const PERIOD_DAYS_AT: usize = 2;
+/// Header: how many bit fields there are.
+pub const BIT_FIELDS_AT: usize = 3;
+/// Header: how many stops.
+pub const STOPS_AT: usize = 4;
+/// Header: how many interchange records.
+pub const INTERCHANGES_AT: usize = 5;
+/// Header: how many services.
+pub const SERVICES_AT: usize = 6;
+/// Header: place of the first service.
+pub const FIRST_SERVICE_AT: usize = 7;
+
+/// Words of a bit field: number, then its bits.
+pub const BIT_FIELD_WORDS: usize = 13;
+/// Words of its bits, bit 0 the highest of the first.
+pub const BIT_WORDS: usize = 12;
+/// Words of a stop: number, byte of BAHNHOF at which its name starts, length of the name.
+pub const STOP_WORDS: usize = 3;
+/// Words of an interchange record: number of the stop, two times.
+pub const INTERCHANGE_WORDS: usize = 3;
+
+/// Words of a service's head.
+pub const SERVICE_WORDS: usize = 11;
+/// Head of a service: words of this service, with its head.
+pub const SIZE_AT: usize = 0;
+/// Head of a service: its number.
+pub const NUMBER_AT: usize = 1;
+/// Head of a service: its administration, two words of three bytes.
+pub const ADMINISTRATION_AT: usize = 2;
+/// Head of a service: repeats.
+pub const REPEATS_AT: usize = 4;
+/// Head of a service: offset in minutes.
+pub const OFFSET_AT: usize = 5;
+/// Head of a service: how many calls it has.
+pub const CALLS_AT: usize = 6;
+/// Head of a service: how many *G.
+pub const CATEGORIES_AT: usize = 7;
+/// Head of a service: how many *A VE.
+pub const DAYS_AT: usize = 8;
+/// Head of a service: how many other *A.
+pub const EXTRAS_AT: usize = 9;
+/// Head of a service: line of its *Z in FPLAN.
+pub const OPENING_LINE_AT: usize = 10;
+
+/// Words of a call: stop, arrival, departure, flags.
+pub const CALL_WORDS: usize = 4;
+/// Words of a *G: category, from, to.
+pub const CATEGORY_WORDS: usize = 3;
+/// Words of a *A VE: bit field, from, to.
+pub const DAYS_WORDS: usize = 3;
+/// Words of another *A: code, bit field, from, to.
+pub const EXTRA_WORDS: usize = 4;
+
+/// Words of a row.
+pub const ROW_WORDS: usize = 7;
+/// Row: number of the stop.
+pub const ROW_STOP_AT: usize = 0;
+/// Row: arrival.
+pub const ROW_ARRIVAL_AT: usize = 1;
+/// Row: departure.
+pub const ROW_DEPARTURE_AT: usize = 2;
+/// Row: flags.
+pub const ROW_FLAGS_AT: usize = 3;
+/// Row: category of the leaving leg.
+pub const ROW_CATEGORY_AT: usize = 4;
+/// Row: the stop's interchange time for two classes of which both are 0 or 1.
+pub const ROW_FIRST_TIME_AT: usize = 5;
+/// Row: the stop's interchange time for all other classes.
+pub const ROW_SECOND_TIME_AT: usize = 6;
+
+/// The calls that a service has at most.
+pub const MOST_CALLS: usize = 200;
+/// Words that are enough for the rows of every walk.
+pub const MOST_ROW_WORDS: usize = MOST_CALLS * ROW_WORDS;
+
+/// Flag: has an arrival.
+pub const ARRIVAL: u32 = 1;
+/// Flag: has a departure.
+pub const DEPARTURE: u32 = 2;
+/// Flag: alighting is forbidden.
+pub const NO_ALIGHTING: u32 = 4;
+/// Flag: boarding is forbidden.
+pub const NO_BOARDING: u32 = 8;
