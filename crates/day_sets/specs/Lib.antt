@@ -1,0 +1,2 @@
+pub mod DaySets
+pub mod Algebra
