@@ -1,5 +1,8 @@
-// The C boundary: load, walk, day and interchange, with numbers and slices. Nothing is asked of the caller: bad input gets its numbered refusal,
+// The C boundary: load, walk, day and interchange, and the arithmetic on operating days, with numbers and slices. Nothing is asked of the caller: bad input gets its numbered refusal,
 // and the lent words then hold what they held.
+use day_sets::CountAnswer;
+use day_sets::Operation;
+use day_sets::SetAnswer;
 use timetable::DayAnswer;
 use timetable::InterchangeAnswer;
 use timetable::Loaded;
@@ -9,7 +12,10 @@ ghost use lib.ListN.{length};
 ghost use Rattle.timetable.specs.Delivery.{filesOf};
 ghost use Rattle.timetable.specs.Load.{loaded, written};
 ghost use Rattle.timetable.specs.Questions.{dayAsked, interchangeAsked, walked, walkRows};
+ghost use Rattle.day_sets.specs.declared.Operation.the-variants.{Union, Intersection, Difference};
+ghost use Rattle.day_sets.specs.DaySets.{combineAsked, combineWritten, complementAsked, complementWritten, countAsked};
 ghost use Rattle.estelunya.specs.Answers.{loadResult, dayResult, interchangeResult, walkResult};
+ghost use Rattle.estelunya.specs.DaySets.{daySetResult, dayCountResult};
 
 // number 0: accepted, and words is the words used; else the refusal's number, file and line, and words is the words needed (0 unless 20).
 #[repr(C)]
@@ -40,6 +46,19 @@ pub struct WalkResult {
     pub number: u32,
     pub rows: u32,
     pub needed: u32,
+}
+
+// number 0: the result holds the field; another number is a refusal.
+#[repr(C)]
+pub struct DaySetResult {
+    pub number: u32,
+}
+
+// number 0: the number of days; another number is a refusal.
+#[repr(C)]
+pub struct DayCountResult {
+    pub number: u32,
+    pub days: u32,
 }
 
 #[no_mangle]
@@ -96,6 +115,64 @@ pub extern "C" fn estelunya_walk(
     ensures words { λ r. ⌜ now (rows .exit) ≡ walkRows (now (table .entry)) service repeat day month year (now (rows .entry)) ⌝ }
 {
     walk_result(walk::walk(table, service, repeat, day, month, year, rows))
+}
+
+#[no_mangle]
+pub extern "C" fn estelunya_days_union(
+    n: u32,
+    first: &[u32],
+    second: &[u32],
+    result: &mut [u32],
+) -> DaySetResult
+    ensures answer { λ r. ⌜ r ≡ daySetResult (combineAsked n (now (first .entry)) (now (second .entry)) (now (result .entry))) ⌝ }
+    ensures words { λ r. ⌜ now (result .exit) ≡ combineWritten Union n (now (first .entry)) (now (second .entry)) (now (result .entry)) ⌝ }
+{
+    day_set_result(day_sets::combine(Operation::Union, n, first, second, result))
+}
+
+#[no_mangle]
+pub extern "C" fn estelunya_days_intersection(
+    n: u32,
+    first: &[u32],
+    second: &[u32],
+    result: &mut [u32],
+) -> DaySetResult
+    ensures answer { λ r. ⌜ r ≡ daySetResult (combineAsked n (now (first .entry)) (now (second .entry)) (now (result .entry))) ⌝ }
+    ensures words { λ r. ⌜ now (result .exit) ≡ combineWritten Intersection n (now (first .entry)) (now (second .entry)) (now (result .entry)) ⌝ }
+{
+    day_set_result(day_sets::combine(Operation::Intersection, n, first, second, result))
+}
+
+#[no_mangle]
+pub extern "C" fn estelunya_days_difference(
+    n: u32,
+    first: &[u32],
+    second: &[u32],
+    result: &mut [u32],
+) -> DaySetResult
+    ensures answer { λ r. ⌜ r ≡ daySetResult (combineAsked n (now (first .entry)) (now (second .entry)) (now (result .entry))) ⌝ }
+    ensures words { λ r. ⌜ now (result .exit) ≡ combineWritten Difference n (now (first .entry)) (now (second .entry)) (now (result .entry)) ⌝ }
+{
+    day_set_result(day_sets::combine(Operation::Difference, n, first, second, result))
+}
+
+#[no_mangle]
+pub extern "C" fn estelunya_days_complement(
+    n: u32,
+    field: &[u32],
+    result: &mut [u32],
+) -> DaySetResult
+    ensures answer { λ r. ⌜ r ≡ daySetResult (complementAsked n (now (field .entry)) (now (result .entry))) ⌝ }
+    ensures words { λ r. ⌜ now (result .exit) ≡ complementWritten n (now (field .entry)) (now (result .entry)) ⌝ }
+{
+    day_set_result(day_sets::complement(n, field, result))
+}
+
+#[no_mangle]
+pub extern "C" fn estelunya_days_count(n: u32, field: &[u32]) -> DayCountResult
+    ensures { λ r. ⌜ r ≡ dayCountResult (countAsked n (now (field .entry))) ⌝ }
+{
+    day_count_result(day_sets::count(n, field))
 }
 
 fn load_result(a: Loaded) -> LoadResult
@@ -160,5 +237,23 @@ fn walk_result(a: Walked) -> WalkResult
             rows: 0,
             needed,
         },
+    }
+}
+
+fn day_set_result(a: SetAnswer) -> DaySetResult
+    ensures { λ r. ⌜ r ≡ daySetResult a ⌝ }
+{
+    match a {
+        SetAnswer::Given => DaySetResult { number: 0 },
+        SetAnswer::Refused(number) => DaySetResult { number },
+    }
+}
+
+fn day_count_result(a: CountAnswer) -> DayCountResult
+    ensures { λ r. ⌜ r ≡ dayCountResult a ⌝ }
+{
+    match a {
+        CountAnswer::Days(days) => DayCountResult { number: 0, days },
+        CountAnswer::Refused(number) => DayCountResult { number, days: 0 },
     }
 }
