@@ -1,11 +1,12 @@
 /*
  * Estelunya: the proved timetable loader. Link libestelunya.a.
  *
- * Four functions: a load makes a table from the five files of a delivery; day, interchange and walk are asked of a table. The rules, and the
- * numbers of the refusals, are document 01's; docs/REFUSALS.md tells them to people.
+ * A load makes a table from the five files of a delivery; day, interchange and walk are asked of a table; and there is arithmetic on operating days.
+ * The rules, and the numbers of the refusals, are those of documents 01 and 02; docs/REFUSALS.md tells them to people.
  *
  * What the caller owes: each pointer is good for its length, given in items (bytes or 32-bit words), and aligned as its type is; it may be null
- * where that length is 0. The words that a call writes (table of a load, rows of a walk) overlap none of its other arguments.
+ * where that length is 0. The words that a call writes (table of a load, rows of a walk, result of arithmetic) overlap none of its other
+ * arguments.
  * Nothing else: any bytes, any words and any numbers may be given, and have exactly one answer.
  *
  * A call writes into the words lent to it and nowhere else. It keeps nothing: no pointer, no memory, no state between calls. So calls may run
@@ -43,6 +44,15 @@ typedef struct EstelunyaWalkResult {
     uint32_t rows;   /* the rows listed, two or more; 0 if the service is not running on the date, and if refused */
     uint32_t needed; /* 29: the words needed; else 0 */
 } EstelunyaWalkResult;
+
+typedef struct EstelunyaDaySetResult {
+    uint32_t number; /* 0: the result holds the bit field; else the refusal, 42 */
+} EstelunyaDaySetResult;
+
+typedef struct EstelunyaDayCountResult {
+    uint32_t number; /* 0: answered; else the refusal, 42 */
+    uint32_t days;   /* the number of days; 0 if refused */
+} EstelunyaDayCountResult;
 
 /*
  * A table is 32-bit words: a header, then all bit fields, stops, interchange records and services, each in the order of their file, and within a
@@ -167,6 +177,46 @@ EstelunyaWalkResult estelunya_walk(
     uint32_t service, uint32_t repeat,
     uint32_t day, uint32_t month, uint32_t year,
     uint32_t *rows, size_t rows_len);
+
+/*
+ * Arithmetic on operating days, inside a period of `n` days: no table is asked for. A field is the BIT_WORDS words that a table has after a bit field's
+ * number: bits 0 and 1 are 1, bit d + 2 is day d, bits n + 2 and n + 3 are 1, the rest 0. The result is such a field again.
+ *
+ * Refused with 42: `n` is not 1 to 380; a field, or `result`, does not have exactly so many words; or a field's bits that are no days are not those above.
+ * All words of `result` then hold what they held.
+ */
+
+/* The days of either. */
+EstelunyaDaySetResult estelunya_days_union(
+    uint32_t n,
+    const uint32_t *first, size_t first_len,
+    const uint32_t *second, size_t second_len,
+    uint32_t *result, size_t result_len);
+
+/* The days of both. */
+EstelunyaDaySetResult estelunya_days_intersection(
+    uint32_t n,
+    const uint32_t *first, size_t first_len,
+    const uint32_t *second, size_t second_len,
+    uint32_t *result, size_t result_len);
+
+/* The days of the first that the second has not. */
+EstelunyaDaySetResult estelunya_days_difference(
+    uint32_t n,
+    const uint32_t *first, size_t first_len,
+    const uint32_t *second, size_t second_len,
+    uint32_t *result, size_t result_len);
+
+/* The days of the period that the field has not. */
+EstelunyaDaySetResult estelunya_days_complement(
+    uint32_t n,
+    const uint32_t *field, size_t field_len,
+    uint32_t *result, size_t result_len);
+
+/* How many days the field has. */
+EstelunyaDayCountResult estelunya_days_count(
+    uint32_t n,
+    const uint32_t *field, size_t field_len);
 
 #ifdef __cplusplus
 }

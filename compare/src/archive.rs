@@ -2,6 +2,7 @@
 //! A module of the programs that link it; the library does not.
 
 use compare::boundary::Boundary;
+use compare::reader::Combination;
 use estelunya_planner::raw;
 
 pub struct Archive;
@@ -35,5 +36,30 @@ impl Boundary for Archive {
         let answer = unsafe { raw::estelunya_walk(words, used, service, repeat, day, month, year, lent, room) };
         let raw::WalkResult { number, rows, needed } = answer;
         [number, rows, needed]
+    }
+
+    fn combine(&self, of: Combination, n: u32, first: &[u32], second: &[u32], result: &mut [u32]) -> [u32; 1] {
+        let function = match of {
+            Combination::Union => raw::estelunya_days_union,
+            Combination::Intersection => raw::estelunya_days_intersection,
+            Combination::Difference => raw::estelunya_days_difference,
+        };
+        let (lent, room) = (result.as_mut_ptr(), result.len());
+        let answer = unsafe { function(n, first.as_ptr(), first.len(), second.as_ptr(), second.len(), lent, room) };
+        let raw::DaySetResult { number } = answer;
+        [number]
+    }
+
+    fn complement(&self, n: u32, field: &[u32], result: &mut [u32]) -> [u32; 1] {
+        let (lent, room) = (result.as_mut_ptr(), result.len());
+        let answer = unsafe { raw::estelunya_days_complement(n, field.as_ptr(), field.len(), lent, room) };
+        let raw::DaySetResult { number } = answer;
+        [number]
+    }
+
+    fn day_count(&self, n: u32, field: &[u32]) -> [u32; 2] {
+        let answer = unsafe { raw::estelunya_days_count(n, field.as_ptr(), field.len()) };
+        let raw::DayCountResult { number, days } = answer;
+        [number, days]
     }
 }

@@ -1,6 +1,6 @@
-//! The boundary's four functions as numbers, and the independent reader behind them.
+//! The boundary's functions as numbers, and the independent reader behind them.
 
-use crate::reader::{self, Changed, DayAnswer, Loaded, Walked};
+use crate::reader::{self, Changed, Combination, DayAnswer, Loaded, Refused, Walked};
 
 /// Whatever answers as the archive does. An answer's numbers stand in the order of its fields.
 pub trait Boundary {
@@ -15,6 +15,15 @@ pub trait Boundary {
 
     /// number, rows, needed
     fn walk(&self, table: &[u32], service: u32, repeat: u32, date: [u32; 3], rows: &mut [u32]) -> [u32; 3];
+
+    /// number
+    fn combine(&self, of: Combination, n: u32, first: &[u32], second: &[u32], result: &mut [u32]) -> [u32; 1];
+
+    /// number
+    fn complement(&self, n: u32, field: &[u32], result: &mut [u32]) -> [u32; 1];
+
+    /// number, days
+    fn day_count(&self, n: u32, field: &[u32]) -> [u32; 2];
 }
 
 /// The independent reader.
@@ -51,4 +60,22 @@ impl Boundary for Reader {
             Walked::Refused { number, needed } => [number, 0, needed],
         }
     }
+    fn combine(&self, of: Combination, n: u32, first: &[u32], second: &[u32], result: &mut [u32]) -> [u32; 1] {
+        number(reader::combine(of, n, first, second, result))
+    }
+
+    fn complement(&self, n: u32, field: &[u32], result: &mut [u32]) -> [u32; 1] {
+        number(reader::complement(n, field, result))
+    }
+
+    fn day_count(&self, n: u32, field: &[u32]) -> [u32; 2] {
+        match reader::day_count(n, field) {
+            Ok(days) => [0, days],
+            Err(Refused { number }) => [number, 0],
+        }
+    }
+}
+
+fn number(given: Result<(), Refused>) -> [u32; 1] {
+    [given.map_or_else(|refused| refused.number, |_| 0)]
 }

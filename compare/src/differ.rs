@@ -1,7 +1,7 @@
 //! The comparison of boundaries with the independent reader: the same calls to all, answers and every word lent.
 //!
-//! A case is a seed and an index: one delivery, and questions on the table that it gives, on bent tables, and on words
-//! of no sense. It depends on nothing before it, so that a failing case runs again alone.
+//! A case is a seed and an index: one delivery, questions on the table that it gives, on bent tables, and on words of no
+//! sense, and arithmetic on operating days. It depends on nothing before it, so that a failing case runs again alone.
 
 mod cases;
 mod lent;
@@ -16,7 +16,7 @@ pub use report::report;
 pub use tally::Tally;
 
 use crate::boundary::{Boundary, Reader};
-use crate::generate::{damaged_table, question, Case, Question, Rng};
+use crate::generate::{arithmetic, damaged_table, question, Case, Question, Rng};
 use cases::{delivery, other_room};
 
 /// A boundary to compare, and what it is called in a report.
@@ -24,6 +24,7 @@ pub type Named<'a> = (&'static str, &'a dyn Boundary);
 
 const QUESTIONS_ON_TABLE: u32 = 6;
 const QUESTIONS_ON_BENT: u32 = 8;
+const ARITHMETIC: u32 = 8;
 
 /// The first call of a case that a boundary answered otherwise than the reader.
 pub struct Difference {
@@ -49,14 +50,9 @@ pub fn compare(seed: u64, index: u64, boundaries: &[Named], tally: &mut Tally) -
     let mut run = Run { boundaries, tally };
     let case = delivery(&mut rng, index);
     let loaded = run.call(Call::Load { files: case.files, room: case.room })?;
-    if loaded.answer[0] != 0 {
-        return run.ask(&mut rng, senseless);
-    }
-    for _ in 0..QUESTIONS_ON_TABLE {
-        run.ask(&mut rng, |_| loaded.lent().to_vec())?;
-    }
-    for _ in 0..QUESTIONS_ON_BENT {
-        run.ask(&mut rng, |rng| damaged_table(rng, loaded.lent()))?;
+    run.ask_all(&mut rng, &loaded)?;
+    for _ in 0..ARITHMETIC {
+        run.call(Call::Days(arithmetic(&mut rng)))?;
     }
     Ok(())
 }
@@ -78,6 +74,20 @@ impl Run<'_, '_> {
             }
         }
         Ok(expected)
+    }
+
+    /// Questions on what a load left.
+    fn ask_all(&mut self, rng: &mut Rng, loaded: &Outcome) -> Compared<()> {
+        if loaded.answer[0] != 0 {
+            return self.ask(rng, senseless);
+        }
+        for _ in 0..QUESTIONS_ON_TABLE {
+            self.ask(rng, |_| loaded.lent().to_vec())?;
+        }
+        for _ in 0..QUESTIONS_ON_BENT {
+            self.ask(rng, |rng| damaged_table(rng, loaded.lent()))?;
+        }
+        Ok(())
     }
 
     /// A question on words, and if it was a walk that has rows, the same walk with another room.

@@ -1,4 +1,4 @@
-//! Seeded deliveries, damaged tables and questions for the comparison.
+//! Seeded deliveries, damaged tables, questions and arithmetic on operating days for the comparison.
 //!
 //! A `Plan` says what a delivery means, a `Sheet` holds its lines, a `Case` its bytes. A damage changes a plan or a
 //! sheet in one clause of one refusal, and knows the refusal and the line that it must bring.
@@ -8,6 +8,7 @@ pub mod break_form;
 pub mod break_plan;
 pub mod break_sheet;
 pub mod case;
+pub mod day_sets;
 pub mod ends;
 pub mod national;
 pub mod numbers;
@@ -19,6 +20,7 @@ pub mod sheet;
 
 pub use bend_table::damaged_table;
 pub use case::{damaged, mixed, mutated, oversized, several, valid, Aim, Case};
+pub use day_sets::{arithmetic, Arithmetic};
 pub use national::{empty_lines, national, shortest_records, National, MIB};
 pub use numbers::Numbers;
 pub use questions::{question, Question};

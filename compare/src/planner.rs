@@ -2,7 +2,9 @@
 //! the programs that link it.
 
 use compare::boundary::Boundary;
-use estelunya_planner::{load, Date, File, Files, Refusal, Table, Walk};
+use compare::reader::Combination;
+use estelunya_planner::layout::BIT_WORDS;
+use estelunya_planner::{load, BitField, Date, File, Files, Refusal, Table, Walk};
 
 pub struct Planner;
 
@@ -39,6 +41,46 @@ impl Boundary for Planner {
             Err(Refusal::RowsTooShort { needed }) => [29, 0, needed],
             Err(refusal) => [refusal.number(), 0, 0],
         }
+    }
+
+    fn combine(&self, of: Combination, n: u32, first: &[u32], second: &[u32], result: &mut [u32]) -> [u32; 1] {
+        let header = header(n);
+        let table = Table::new(&header);
+        let fields = table.bit_field_from(first).and_then(|first| Ok((first, table.bit_field_from(second)?)));
+        let made = fields.map(|(first, second)| match of {
+            Combination::Union => first | second,
+            Combination::Intersection => first & second,
+            Combination::Difference => first - second,
+        });
+        lent(made, result)
+    }
+
+    fn complement(&self, n: u32, field: &[u32], result: &mut [u32]) -> [u32; 1] {
+        lent(Table::new(&header(n)).bit_field_from(field).map(|field| !field), result)
+    }
+
+    fn day_count(&self, n: u32, field: &[u32]) -> [u32; 2] {
+        match Table::new(&header(n)).bit_field_from(field) {
+            Ok(field) => [0, field.day_count()],
+            Err(refusal) => [refusal.number(), 0],
+        }
+    }
+}
+
+/// The header of a table of n days that lists nothing.
+fn header(n: u32) -> [u32; 8] {
+    [8, 0, n, 0, 0, 0, 0, 8]
+}
+
+/// The planner's layer gives a field by value. What it would do with words lent is said here: it takes twelve only.
+fn lent(made: Result<BitField<'_>, Refusal>, result: &mut [u32]) -> [u32; 1] {
+    match made {
+        Ok(field) if result.len() == BIT_WORDS => {
+            result.copy_from_slice(&field.words());
+            [0]
+        }
+        Ok(_) => [42],
+        Err(refusal) => [refusal.number()],
     }
 }
 

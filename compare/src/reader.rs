@@ -4,6 +4,7 @@
 pub mod ask;
 pub mod bits;
 pub mod calendar;
+pub mod day_sets;
 pub mod fields;
 pub mod forms;
 pub mod lines;
@@ -12,4 +13,5 @@ pub mod service;
 pub mod table;
 
 pub use ask::{day, interchange, is_table, walk, Changed, DayAnswer, Walked};
+pub use day_sets::{combine, complement, day_count, Combination, Refused};
 pub use load::{load, refused_column, Loaded};

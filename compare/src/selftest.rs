@@ -1,6 +1,7 @@
 //! The reader held against document 01's checked examples, the standard's printed ones, generated deliveries and
 //! docs/REFUSALS.md; and the comparison against boundaries that slip.
 
+mod day_sets;
 mod differ;
 mod examples;
 mod expected;

@@ -90,7 +90,7 @@ impl<'a> Table<'a> {
     }
 }
 
-fn answered<T>(number: u32, needed: u32, answer: T) -> Result<T, Refusal> {
+pub(crate) fn answered<T>(number: u32, needed: u32, answer: T) -> Result<T, Refusal> {
     match (number, Refusal::from_number(number, needed)) {
         (0, _) => Ok(answer),
         (_, Some(refusal)) => Err(refusal),

@@ -1,15 +1,20 @@
-//! What a table lists: its services and stops, read from the places that document 01's section "Table" gives them.
+//! What a table lists: its services, stops and bit fields, read from the places that document 01's section "Table" gives them.
 //!
 //! None of this asks the archive, or whether the words are a table ([`Table::day`] and the other questions do): of words
 //! that are none it tells what stands in these places, or nothing where there are no such words.
 
 use crate::ask::Table;
 use crate::layout::{
-    BIT_FIELDS_AT, BIT_FIELD_WORDS, FIRST_SERVICE_AT, HEADER_WORDS, NUMBER_AT, SERVICES_AT, SERVICE_WORDS, SIZE_AT,
-    STOPS_AT, STOP_WORDS, USED_AT,
+    BIT_FIELDS_AT, BIT_FIELD_WORDS, FIRST_SERVICE_AT, HEADER_WORDS, NUMBER_AT, PERIOD_DAYS_AT, SERVICES_AT,
+    SERVICE_WORDS, SIZE_AT, STOPS_AT, STOP_WORDS, USED_AT,
 };
 
 impl<'a> Table<'a> {
+    /// How many days the period has; 0 where there are fewer words than a header has.
+    pub fn period_days(self) -> u32 {
+        self.header(PERIOD_DAYS_AT)
+    }
+
     /// How many services there are: a walk takes an index below it. 0 where there are fewer words than a header has.
     pub fn services(self) -> u32 {
         self.header(SERVICES_AT)
@@ -44,6 +49,13 @@ impl<'a> Table<'a> {
         let record = self.stop_records().find(|record| record[0] == stop)?;
         let (start, length) = (record[1] as usize, record[2] as usize);
         bahnhof.get(start..)?.get(..length)
+    }
+
+    /// The words of the bits of the bit field with this number.
+    pub(crate) fn bit_field_words(self, number: u32) -> Option<&'a [u32]> {
+        let fields = self.from(HEADER_WORDS as u64).chunks_exact(BIT_FIELD_WORDS);
+        let mut listed = fields.take(self.header(BIT_FIELDS_AT) as usize);
+        listed.find(|record| record[0] == number).map(|record| &record[1..])
     }
 
     /// A word of the header.

@@ -35,6 +35,11 @@
 //! }
 //! let saturday = Date { day: 6, month: 12, year: 2025 };
 //! assert_eq!(table.walk(0, 0, saturday, &mut lent)?, Walk::NotRunning);
+//!
+//! // operating days as sets: bit field 000001 is Monday to Friday, 000000 each day of the period
+//! let (weekdays, daily) = (table.bit_field(1)?, table.bit_field(0)?);
+//! assert_eq!((weekdays.day_count(), (daily - weekdays).day_count()), (5, 2));
+//! assert_eq!(weekdays | !weekdays, daily);
 //! # Ok(())
 //! # }
 //! ```
@@ -62,6 +67,7 @@
 
 mod ask;
 mod contents;
+mod days;
 pub mod layout;
 mod load;
 pub mod raw;
@@ -69,6 +75,7 @@ mod refusal;
 mod row;
 
 pub use ask::{Date, Table, Walk};
+pub use days::BitField;
 pub use layout::{MOST_ROW_WORDS, ROW_WORDS};
 pub use load::{load, Files, Loaded};
 pub use refusal::{File, LoadRefusal, Offence, Refusal};

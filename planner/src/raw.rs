@@ -1,4 +1,4 @@
-//! The archive's four functions and their answers, as `include/estelunya.h` and `crates/estelunya/src/lib.rt` declare
+//! The archive's functions and their answers, as `include/estelunya.h` and `crates/estelunya/src/lib.rt` declare
 //! them. A slice is a pointer, then its length in items. `tools/drift.sh` holds the three declarations together.
 
 /// The answer of [`estelunya_load`].
@@ -47,7 +47,26 @@ pub struct WalkResult {
     pub needed: u32,
 }
 
-// The contract of all four: each pointer is good for its length (reads, and writes for `table` of the load and `rows`);
+/// The answer of [`estelunya_days_union`], [`estelunya_days_intersection`], [`estelunya_days_difference`] and
+/// [`estelunya_days_complement`].
+#[repr(C)]
+#[derive(Clone, Copy, Debug, PartialEq, Eq)]
+pub struct DaySetResult {
+    /// 0: the result holds the bit field; else the refusal, 42.
+    pub number: u32,
+}
+
+/// The answer of [`estelunya_days_count`].
+#[repr(C)]
+#[derive(Clone, Copy, Debug, PartialEq, Eq)]
+pub struct DayCountResult {
+    /// 0: answered; else the refusal, 42.
+    pub number: u32,
+    /// The number of days; 0 if refused.
+    pub days: u32,
+}
+
+// The contract of all: each pointer is good for its length (reads, and writes for `table` of the load, `rows` and `result`);
 // the words lent overlap no other argument. Nothing is asked of what the bytes, words and numbers say.
 extern "C" {
     /// Loads the five files into the words lent. Accepted: the first `words` of them are the table, later words stay.
@@ -93,4 +112,49 @@ extern "C" {
         rows: *mut u32,
         rows_len: usize,
     ) -> WalkResult;
+
+    /// The days of either of two bit fields of n days. Refused: the result words stay.
+    pub fn estelunya_days_union(
+        n: u32,
+        first: *const u32,
+        first_len: usize,
+        second: *const u32,
+        second_len: usize,
+        result: *mut u32,
+        result_len: usize,
+    ) -> DaySetResult;
+
+    /// The days of both of two bit fields of n days. Refused: the result words stay.
+    pub fn estelunya_days_intersection(
+        n: u32,
+        first: *const u32,
+        first_len: usize,
+        second: *const u32,
+        second_len: usize,
+        result: *mut u32,
+        result_len: usize,
+    ) -> DaySetResult;
+
+    /// The days of the first of two bit fields of n days that the second has not. Refused: the result words stay.
+    pub fn estelunya_days_difference(
+        n: u32,
+        first: *const u32,
+        first_len: usize,
+        second: *const u32,
+        second_len: usize,
+        result: *mut u32,
+        result_len: usize,
+    ) -> DaySetResult;
+
+    /// The days of the period that a bit field of n days has not. Refused: the result words stay.
+    pub fn estelunya_days_complement(
+        n: u32,
+        field: *const u32,
+        field_len: usize,
+        result: *mut u32,
+        result_len: usize,
+    ) -> DaySetResult;
+
+    /// The number of days of a bit field of n days.
+    pub fn estelunya_days_count(n: u32, field: *const u32, field_len: usize) -> DayCountResult;
 }

@@ -170,7 +170,7 @@ impl fmt::Display for LoadRefusal {
 
 impl Error for LoadRefusal {}
 
-/// Why a question is refused. 31 to 36 cannot occur on the unaltered table of an accepted delivery: that is proved.
+/// Why a question, or arithmetic on operating days, is refused. 31 to 36 cannot occur on the unaltered table of an accepted delivery: that is proved.
 #[derive(Clone, Copy, Debug, PartialEq, Eq)]
 pub enum Refusal {
     /// 21: the words are not a table.
@@ -206,9 +206,11 @@ pub enum Refusal {
     TwoStretches,
     /// 36: a call has no time where the run needs one, or one that is earlier than the one needed before.
     Times,
+    /// 42: the words are not twelve with the frame of the period, or the period does not have 1 to 380 days.
+    NotAField,
 }
 
-const REFUSALS: [(u32, Refusal, &str); 15] = [
+const REFUSALS: [(u32, Refusal, &str); 16] = [
     (21, Refusal::NotATable, "the words are not a table"),
     (22, Refusal::NoSuchDate, "there is no such date"),
     (23, Refusal::OutsidePeriod, "the date is outside the period"),
@@ -224,15 +226,16 @@ const REFUSALS: [(u32, Refusal, &str); 15] = [
     (34, Refusal::OperatingDays, "a leg does not have exactly one range of operating days"),
     (35, Refusal::TwoStretches, "on that day the service runs on two or more separate stretches"),
     (36, Refusal::Times, "a time that the run needs is missing, or earlier than the one before it"),
+    (42, Refusal::NotAField, "the words are not a bit field with the frame of the period"),
 ];
 
 impl Refusal {
-    /// Document 01's number, 21 to 29 or 31 to 36.
+    /// Its number, 21 to 29, 31 to 36 or 42.
     pub fn number(self) -> u32 {
         self.entry().0
     }
 
-    /// The refusal of a number, with the words needed if it is 29; `None` unless 21 to 29 or 31 to 36.
+    /// The refusal of a number, with the words needed if it is 29; `None` unless 21 to 29, 31 to 36 or 42.
     pub fn from_number(number: u32, needed: u32) -> Option<Refusal> {
         match REFUSALS.iter().find(|entry| entry.0 == number)?.1 {
             Refusal::RowsTooShort { .. } => Some(Refusal::RowsTooShort { needed }),

@@ -4,7 +4,7 @@
 use std::mem::{size_of, MaybeUninit};
 use std::ptr::addr_of;
 
-use estelunya_planner::layout::MOST_ROW_WORDS;
+use estelunya_planner::layout::{BIT_WORDS, MOST_ROW_WORDS};
 use estelunya_planner::raw;
 
 /// The size of an answer and the places of its fields.
@@ -34,6 +34,7 @@ fn main() {
     rust_types();
     nothing_given();
     handed_on();
+    days_handed_on();
     println!("drift: layouts, prototypes and calls of C and Rust agree");
 }
 
@@ -65,5 +66,29 @@ fn handed_on() {
         assert_eq!((day, day.runs), (raw::estelunya_day(words, length, 5, 12, 2025, 1), 1));
         let change = drift_estelunya_interchange(words, length, 1_000_011, 2, 1);
         assert_eq!((change, change.minutes), (raw::estelunya_interchange(words, length, 1_000_011, 2, 1), 3));
+    }
+}
+
+/// Days 0 to 4 and days 4 to 6 of seven, reckoned by C.
+fn days_handed_on() {
+    let field = |digits: u32| {
+        let mut words = [0; BIT_WORDS];
+        words[0] = digits << 20;
+        words
+    };
+    let (first, second) = (field(0xFE6), field(0xC3E));
+    let (a, b) = ((first.as_ptr(), first.len()), (second.as_ptr(), second.len()));
+    let results = [
+        both!(drift_estelunya_days_union, raw::estelunya_days_union, BIT_WORDS, (7, a.0, a.1, b.0, b.1)),
+        both!(drift_estelunya_days_intersection, raw::estelunya_days_intersection, BIT_WORDS, (7, a.0, a.1, b.0, b.1)),
+        both!(drift_estelunya_days_difference, raw::estelunya_days_difference, BIT_WORDS, (7, a.0, a.1, b.0, b.1)),
+        both!(drift_estelunya_days_complement, raw::estelunya_days_complement, BIT_WORDS, (7, a.0, a.1)),
+    ];
+    let expected = [0xFFE, 0xC26, 0xFC6, 0xC1E].map(|digits| (raw::DaySetResult { number: 0 }, field(digits)));
+    assert_eq!(results, expected);
+    // SAFETY: pointer and length are those of an array.
+    unsafe {
+        let count = drift_estelunya_days_count(7, a.0, a.1);
+        assert_eq!((count, count.days), (raw::estelunya_days_count(7, a.0, a.1), 5));
     }
 }

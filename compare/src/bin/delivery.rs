@@ -1,9 +1,9 @@
-//! Compares the linked archive with the independent reader on generated deliveries and tables.
+//! Compares the linked archive with the independent reader on generated deliveries, tables and bit fields.
 //!
 //!     delivery SEED COUNT [FIRST]
 //!
-//! Each case is loaded and asked by the C functions and by the planner's safe layer over them; answers and every word lent
-//! must be the reader's. `Program::run` says how it ends.
+//! Each case is loaded, asked and reckoned by the C functions and by the planner's safe layer over them; answers and every
+//! word lent must be the reader's. `Program::run` says how it ends.
 
 use compare::differ::{compare, Named, Program};
 
@@ -15,8 +15,21 @@ mod planner;
 use archive::Archive;
 use planner::Planner;
 
-const DELIVERY: Program =
-    Program { name: "delivery", command: "tools/planner.sh", calls: &["load", "day", "interchange", "walk"] };
+const DELIVERY: Program = Program {
+    name: "delivery",
+    command: "tools/planner.sh",
+    calls: &[
+        "load",
+        "day",
+        "interchange",
+        "walk",
+        "union",
+        "intersection",
+        "difference",
+        "complement",
+        "count",
+    ],
+};
 
 fn main() {
     let boundaries: [Named; 2] = [("the archive", &Archive), ("the planner's layer", &Planner)];

@@ -7,7 +7,7 @@
 
 use compare::boundary::Boundary;
 use compare::differ::{compare_load, Named, Program};
-use compare::reader::{refused_column, Loaded};
+use compare::reader::{refused_column, Combination, Loaded};
 use ordinary_loader::{load, Files, Refusal};
 
 /// The ordinary loader; it is only asked for loads.
@@ -30,6 +30,18 @@ impl Boundary for Ordinary {
     }
 
     fn walk(&self, _: &[u32], _: u32, _: u32, _: [u32; 3], _: &mut [u32]) -> [u32; 3] {
+        unreachable!()
+    }
+
+    fn combine(&self, _: Combination, _: u32, _: &[u32], _: &[u32], _: &mut [u32]) -> [u32; 1] {
+        unreachable!()
+    }
+
+    fn complement(&self, _: u32, _: &[u32], _: &mut [u32]) -> [u32; 1] {
+        unreachable!()
+    }
+
+    fn day_count(&self, _: u32, _: &[u32]) -> [u32; 2] {
         unreachable!()
     }
 }

@@ -1,7 +1,7 @@
 //! One call of the boundary, with words lent in a pattern, and all that it left.
 
 use crate::boundary::Boundary;
-use crate::generate::Question;
+use crate::generate::{Arithmetic, Question};
 
 /// Words on each side of the words lent that no call may touch.
 const GUARD: usize = 16;
@@ -11,6 +11,7 @@ const GUARD: usize = 16;
 pub enum Call {
     Load { files: [Vec<u8>; 5], room: usize },
     Ask { table: Vec<u32>, question: Question },
+    Days(Arithmetic),
 }
 
 /// The answer's numbers, the words lent with their guards, and whether all that was only read is as it was.
@@ -36,12 +37,13 @@ fn lent(words: &mut [u32]) -> &mut [u32] {
 }
 
 impl Call {
-    /// The words that the call lends; a question but a walk lends none.
+    /// The words that the call lends; a question but a walk lends none, and so a count of days.
     fn room(&self) -> usize {
         match self {
             Call::Load { room, .. } => *room,
             Call::Ask { question: Question::Walk { room, .. }, .. } => *room,
-            Call::Ask { .. } => 0,
+            Call::Days(Arithmetic::Combine { room, .. } | Arithmetic::Complement { room, .. }) => *room,
+            Call::Ask { .. } | Call::Days(Arithmetic::Count { .. }) => 0,
         }
     }
 
@@ -52,6 +54,7 @@ impl Call {
         let (answer, read_only) = match self {
             Call::Load { files, .. } => loaded(boundary, files, lent),
             Call::Ask { table, question } => asked(boundary, table, *question, lent),
+            Call::Days(arithmetic) => reckoned(boundary, arithmetic, lent),
         };
         Outcome { answer, words, read_only }
     }
@@ -72,6 +75,16 @@ fn asked(boundary: &dyn Boundary, table: &[u32], question: Question, lent: &mut 
         Question::Walk { service, repeat, date, .. } => boundary.walk(&given, service, repeat, date, lent).to_vec(),
     };
     (answer, given == table)
+}
+
+fn reckoned(boundary: &dyn Boundary, arithmetic: &Arithmetic, lent: &mut [u32]) -> (Vec<u32>, bool) {
+    let given = arithmetic.clone();
+    let answer = match &given {
+        Arithmetic::Combine { of, n, first, second, .. } => boundary.combine(*of, *n, first, second, lent).to_vec(),
+        Arithmetic::Complement { n, field, .. } => boundary.complement(*n, field, lent).to_vec(),
+        Arithmetic::Count { n, field } => boundary.day_count(*n, field).to_vec(),
+    };
+    (answer, given == *arithmetic)
 }
 
 impl Outcome {

@@ -7,7 +7,7 @@ use std::path::Path;
 use super::lent::Call;
 use super::Difference;
 use crate::files;
-use crate::generate::Question;
+use crate::generate::{Arithmetic, Question};
 
 /// Tells a difference, with what was given written below a directory, and the command that takes a seed, a count and a first
 /// case.
@@ -30,6 +30,15 @@ fn call_text(call: &Call) -> String {
     match call {
         Call::Load { room, .. } => format!("load into {} words", room),
         Call::Ask { question, .. } => question_text(*question),
+        Call::Days(arithmetic) => arithmetic_text(arithmetic),
+    }
+}
+
+fn arithmetic_text(arithmetic: &Arithmetic) -> String {
+    match arithmetic {
+        Arithmetic::Combine { of, n, room, .. } => format!("{:?} of {} days into {} words", of, n, room),
+        Arithmetic::Complement { n, room, .. } => format!("complement in {} days into {} words", n, room),
+        Arithmetic::Count { n, .. } => format!("count of {} days", n),
     }
 }
 
@@ -43,7 +52,7 @@ fn question_text(question: Question) -> String {
     }
 }
 
-/// The five files under their names, or the words asked as decimal numbers in TABLE.
+/// The five files under their names; the words asked as decimal numbers in TABLE; or fields in the same way in FIRST, SECOND.
 fn write_given(call: &Call, directory: &Path) -> io::Result<()> {
     if directory.exists() {
         fs::remove_dir_all(directory)?;
@@ -51,9 +60,17 @@ fn write_given(call: &Call, directory: &Path) -> io::Result<()> {
     fs::create_dir_all(directory)?;
     match call {
         Call::Load { files, .. } => files::write(directory, files),
-        Call::Ask { table, .. } => {
-            let words: Vec<String> = table.iter().map(u32::to_string).collect();
-            fs::write(directory.join("TABLE"), words.join("\n"))
+        Call::Ask { table, .. } => fs::write(directory.join("TABLE"), words_text(table)),
+        Call::Days(Arithmetic::Combine { first, second, .. }) => {
+            fs::write(directory.join("FIRST"), words_text(first))?;
+            fs::write(directory.join("SECOND"), words_text(second))
+        }
+        Call::Days(Arithmetic::Complement { field, .. } | Arithmetic::Count { field, .. }) => {
+            fs::write(directory.join("FIRST"), words_text(field))
         }
     }
+}
+
+fn words_text(words: &[u32]) -> String {
+    words.iter().map(u32::to_string).collect::<Vec<_>>().join("\n")
 }

@@ -4,14 +4,20 @@ use std::collections::BTreeMap;
 use std::fmt;
 
 use super::lent::{Call, Outcome};
-use crate::generate::Question;
+use crate::generate::{Arithmetic, Question};
+use crate::reader::Combination;
 
 /// Every kind of answer that there is, by call: what it is called without a refusal, and its refusals.
-const ANSWERS: [(&str, &[&str], &[u32]); 4] = [
+const ANSWERS: [(&str, &[&str], &[u32]); 9] = [
     ("load", &["accepted"], &[1, 2, 3, 4, 5, 6, 7, 8, 9, 10, 11, 12, 13, 14, 15, 16, 17, 18, 19, 20]),
     ("day", &["runs", "rests"], &[21, 22, 23, 28]),
     ("interchange", &["minutes"], &[21, 26, 27]),
     ("walk", &["rows", "not running"], &[21, 22, 23, 24, 25, 29, 31, 32, 33, 34, 35, 36]),
+    ("union", &["given"], &[42]),
+    ("intersection", &["given"], &[42]),
+    ("difference", &["given"], &[42]),
+    ("complement", &["given"], &[42]),
+    ("count", &["none", "some"], &[42]),
 ];
 
 /// The answers counted, by the name of the call and of the answer.
@@ -53,6 +59,11 @@ fn kind(call: &Call, answer: &[u32]) -> (&'static str, String) {
         Call::Ask { question: Question::Walk { .. }, .. } => {
             ("walk", if answer[1] > 0 { "rows" } else { "not running" })
         }
+        Call::Days(Arithmetic::Combine { of: Combination::Union, .. }) => ("union", "given"),
+        Call::Days(Arithmetic::Combine { of: Combination::Intersection, .. }) => ("intersection", "given"),
+        Call::Days(Arithmetic::Combine { of: Combination::Difference, .. }) => ("difference", "given"),
+        Call::Days(Arithmetic::Complement { .. }) => ("complement", "given"),
+        Call::Days(Arithmetic::Count { .. }) => ("count", if answer[1] > 0 { "some" } else { "none" }),
     };
     match answer[0] {
         0 => (name, plain.to_string()),

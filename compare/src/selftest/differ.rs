@@ -3,6 +3,7 @@
 use crate::boundary::{Boundary, Reader};
 use crate::differ::{compare, Tally};
 use crate::layout::ROW_WORDS;
+use crate::reader::Combination;
 
 /// The reader with one slip each, and the list of them.
 macro_rules! slips {
@@ -33,6 +34,13 @@ slips!(
     WordAfterRows,
     FirstServiceOnly,
     AlwaysIdle,
+    FrameFlipped,
+    FramesJoined,
+    SecondFrameOnly,
+    SecondWithoutFirst,
+    ThirteenWords,
+    FieldOnRefusal,
+    FrameCounted,
 );
 
 fn bump(words: &mut [u32], at: usize) {
@@ -86,6 +94,45 @@ impl Boundary for Slip {
             _ => {}
         }
         answer
+    }
+
+    fn combine(&self, of: Combination, n: u32, first: &[u32], second: &[u32], result: &mut [u32]) -> [u32; 1] {
+        let (first, second) = match (self, of) {
+            (SecondWithoutFirst, Combination::Difference) => (second, first),
+            _ => (first, second),
+        };
+        let answer = Reader.combine(of, n, first, second, result);
+        let all_twelve = [first.len(), second.len(), result.len()] == [12; 3];
+        match self {
+            FieldOnRefusal if answer == [42] => bump(result, 0),
+            SecondFrameOnly if all_twelve && Reader.day_count(n, second)[0] == 0 => return [0],
+            FramesJoined if all_twelve && of == Combination::Union && Reader.day_count(n, first)[0] == 0 => {
+                (0..12).for_each(|i| result[i] = first[i] | second[i]);
+                return [0];
+            }
+            _ => {}
+        }
+        answer
+    }
+
+    fn complement(&self, n: u32, field: &[u32], result: &mut [u32]) -> [u32; 1] {
+        let answer = Reader.complement(n, field, result);
+        if let (FrameFlipped, [0]) = (self, answer) {
+            (0..12).for_each(|i| result[i] = !field[i]);
+        }
+        answer
+    }
+
+    fn day_count(&self, n: u32, field: &[u32]) -> [u32; 2] {
+        let twelve = field.len().min(12);
+        match self {
+            ThirteenWords => Reader.day_count(n, &field[..twelve]),
+            FrameCounted => match Reader.day_count(n, field) {
+                [0, days] => [0, days + 4],
+                refused => refused,
+            },
+            _ => Reader.day_count(n, field),
+        }
     }
 }
 
