@@ -13,7 +13,7 @@ use Rattle.base.proofs.Loops.{and-true}
 use Rattle.bitfield.specs.BitField.{runsOn}
 use Rattle.day_sets.specs.declared.Operation.{Operation}
 use Rattle.day_sets.specs.declared.Operation.the-variants.{Union, Intersection, Difference}
-use Rattle.day_sets.specs.DaySets.{fieldOf, onDay, combined, complement, dayCount, isField}
+use Rattle.day_sets.specs.DaySets.{onDay, combined, complement, dayCount, isField}
 use Rattle.day_sets.specs.Algebra.{Field, Two, union-first, intersection-first}
 use Rattle.day_sets.proofs.Fields.{field-days, field-is, field-same, own-days}
 

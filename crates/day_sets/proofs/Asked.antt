@@ -1,14 +1,13 @@
 -- The needs of the functions on lent words and on fields by value: `fields` and `answers`. Assumes nothing.
 use mathlib.Core.Path.{_≡_, refl, sym, ap, _∙_}
-use mathlib.Core.List.{List, [], _∷_, append-nil}
+use mathlib.Core.List.{List, append-nil}
 use mathlib.Core.Bool.{Bool, true, false, cond, not, _&&_, _||_}
 use Prim.Native.Nat.{ℕ, zero, suc, _+_, _-_, _≤_, _<_}
-use native.Mathlib.Nat.{zero-add}
 use native.Mathlib.Omega.{arith}
-use lib.ListN.{length, drop, drop-of-length-le}
+use lib.ListN.{length, drop-of-length-le}
 use lib.Dec.{eqb, leb}
 use borrow.Author.Tests.{not-true, not-false, eq-eqb, ne-eqb, eqb-true, leb-true, lt-leb, le-leb}
-use Rattle.base.specs.Lists.{countIf, upto, below}
+use Rattle.base.specs.Lists.{countIf, upto}
 use Rattle.base.proofs.Laws.{tests}
 use Rattle.base.proofs.Loops.{and-true}
 use Rattle.bitfield.specs.BitField.{bit, runsOn, framed}
@@ -18,7 +17,7 @@ use Rattle.day_sets.specs.declared.Operation.{Operation}
 use Rattle.day_sets.specs.declared.Operation.the-variants.{Union, Intersection, Difference}
 use Rattle.day_sets.specs.declared.SetAnswer.the-variants.{Given, Refused}
 use Rattle.day_sets.specs.declared.CountAnswer.the-variants.{Days, Refused as CountRefused}
-use Rattle.day_sets.specs.DaySets.{fieldOf, onDay, combined, complement, dayCount, isField, pairTaken, combineAsked, combineWritten, oneTaken, complementAsked, complementWritten, countAsked}
+use Rattle.day_sets.specs.DaySets.{fieldOf, combined, complement, dayCount, isField, pairTaken, combineAsked, combineWritten, oneTaken, complementAsked, complementWritten, countAsked}
 use Rattle.day_sets.proofs.Fields.{field-length, field-same}
 
 -- ---- on fields by value, for `search fields`

@@ -1,14 +1,14 @@
 -- A field said by its days: `field-days` and `field-framed` (what days and what frame it has), `determined` (they are all there is to it). Assumes nothing.
 use mathlib.Core.Path.{_≡_, refl, sym, ap, ap₂, _∙_}
-use mathlib.Core.List.{List, [], _∷_, map}
-use mathlib.Core.Bool.{Bool, true, false, cond, not, _&&_}
+use mathlib.Core.List.{List, _∷_, map}
+use mathlib.Core.Bool.{Bool, true, false, cond, not}
 use Prim.Native.Nat.{ℕ, zero, suc, _+_, _-_, _*_, _/_, _%_, _^_, _≤_, _<_}
 use native.Mathlib.Nat.{pow-suc, div-one, div-div-eq-div-mul, div-lt-iff-lt-mul, one-le-pow, zero-add}
 use native.Mathlib.Omega.{arith}
 use lib.ListN.{length, getD}
-use lib.Dec.{eqb, ltb, leb}
+use lib.Dec.{eqb, ltb}
 use borrow.Author.Tests.{lt-ltb, le-ltb, not-true}
-use Rattle.base.specs.Lists.{every, upto, below}
+use Rattle.base.specs.Lists.{every, upto}
 use Rattle.base.proofs.Laws.{by-ltb}
 use Rattle.base.proofs.Lists.{length-map-upto}
 use Rattle.bitfield.specs.BitField.{bit, runsOn, frameBit, framed}

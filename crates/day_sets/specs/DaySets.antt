@@ -33,13 +33,13 @@ wordOf bits i = bitsFrom 0 (map bits (upto 32 (i * 32)))
 unfoldable pub fieldOf : ℕ → (ℕ → Bool) → List ℕ
 fieldOf n days = map (wordOf (λ (k : ℕ). framedBit n k (days (k - 2)))) (below 12)
 
--- bit k of the field that has the days of some bits (for the contract of `framed_word` only)
+-- bit k of the field that has the days of some bits (for the contracts of `framed_bit` and `framed_word` only)
 unfoldable pub bitIn : ℕ → List ℕ → ℕ → Bool
 bitIn n bits k = framedBit n k (bit bits k)
 
 -- ---- the arithmetic
 
--- whether a day of the result is one, by whether it is one of the first and of the second
+-- whether a day is one of the result, by whether it is one of the first and of the second
 abbrev pub onDay : Operation → Bool → Bool → Bool
 onDay Union first second = first || second
 onDay Intersection first second = first && second

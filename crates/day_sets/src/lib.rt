@@ -139,7 +139,7 @@ fn other_days(n: u32, field: [u32; 12]) -> [u32; 12]
     in_frame(n, bitfield::without(bitfield::all_bits(), field))
 }
 
-// The number of its days: bit d + 2 is day d.
+// The number of its days, which stand at bits 2 to n + 1.
 fn day_count(n: u32, field: [u32; 12]) -> u32
     requires { ⌜ n ≤ 380 ⌝ }
     ensures { λ r. ⌜ r ≡ dayCount n field ⌝ }
@@ -149,7 +149,7 @@ fn day_count(n: u32, field: [u32; 12]) -> u32
 
 // How many bits from one place up to another are 1.
 fn count_bits(bits: [u32; 12], from: u32, to: u32) -> u32
-    requires { ⌜ (from ≤ to) × (to ≤ 384) ⌝ }
+    requires { ⌜ to ≤ 384 ⌝ }
     ensures { λ r. ⌜ r ≡ countIf (bit bits) (upto (to - from) from) ⌝ }
 {
     let mut count: u32 = 0;

@@ -1,5 +1,4 @@
 -- The answers of the arithmetic on operating days as numbers: 0 says that nothing was refused. Assumes nothing.
-use Prim.Native.Nat.{ℕ}
 use Rattle.day_sets.specs.declared.SetAnswer.{SetAnswer}
 use Rattle.day_sets.specs.declared.SetAnswer.the-variants.{Given, Refused}
 use Rattle.day_sets.specs.declared.CountAnswer.{CountAnswer}
