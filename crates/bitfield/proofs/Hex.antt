@@ -74,6 +74,11 @@ unfolding hexWords
 length-words zero p = refl
 length-words (suc n) p = ap suc (length-words n (drop 8 p))
 
+-- a bit field has twelve words
+pub length-bits : (line : List ℕ) → length (bitsIn line) ≡ 12
+unfolding bitsIn
+length-bits line = length-words 12 (columns 8 103 line)
+
 -- word j is that of the eight digits from 8 j on
 pub word-at : (n j : ℕ) (p : List ℕ) → j < n → getD (hexWords n p) j 0 ≡ hexFrom 0 (take 8 (drop (8 * j) p))
 unfolding hexWords

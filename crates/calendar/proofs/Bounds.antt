@@ -4,11 +4,14 @@ use mathlib.Core.Bool.{Bool, true, false, cond, not, _&&_, false≢true}
 use Prim.Native.Nat.{ℕ, zero, suc, _+_, _-_, _≤_}
 use native.Mathlib.Nat.{add-zero, add-suc}
 use native.Mathlib.Omega.{arith}
-use lib.Dec.{ltb}
-use borrow.Author.Tests.{ltb-false}
-use Rattle.calendar.specs.Calendar.{isLeap, yearDays, monthDays, yearsBefore, monthsBefore, exists, dayOf, lastDay}
+use lib.Dec.{ltb, leb}
+use borrow.Author.Tests.{ltb-false, leb-true}
+use Rattle.base.proofs.Laws.{apart}
+use Rattle.calendar.specs.Calendar.{isLeap, yearDays, monthDays, yearsBefore, monthsBefore, exists, dayOf, lastDay, periodOf}
 use Rattle.calendar.specs.declared.Date.{Date}
 use Rattle.calendar.specs.declared.Date.the-variants.{Day, NoSuchDate}
+use Rattle.calendar.specs.declared.Period.{Period}
+use Rattle.calendar.specs.declared.Period.the-variants.{Days, NoPeriod}
 
 -- a sum does not fall as it goes on
 sum-grows : (F g : ℕ → ℕ) → ((n : ℕ) → F (suc n) ≡ F n + g n) → (a k : ℕ) → F a ≤ F (a + k)
@@ -102,3 +105,13 @@ day-le-last d m y k e =
         let r = ranges d m y h in
         omega (arith, r, months-within y m (r .month-low) (r .month-high), years-within y (r .year-low) (r .year-high))
     go false h = omega arith
+
+-- "A period of n days has 1 to 380."
+pub days-le : (a b n : ℕ) → periodOf a b ≡ Days n → n ≤ 380
+unfolding periodOf
+days-le a b n e = go (ltb b a) (leb (b + 1 - a) 380) refl e
+  where
+    go : (t u : Bool) → leb (b + 1 - a) 380 ≡ u → cond t NoPeriod (cond u (Days (b + 1 - a)) NoPeriod) ≡ Days n → n ≤ 380
+    go true u k v = apart (cc)
+    go false true k v = let q : b + 1 - a ≡ n = cc in omega (arith, leb-true (b + 1 - a) 380 k)
+    go false false k v = apart (cc)

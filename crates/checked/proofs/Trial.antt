@@ -6,21 +6,22 @@ use mathlib.Core.Path.{_≡_, refl, ap, _∙_}
 use mathlib.Core.List.{List, [], _++_}
 use mathlib.Core.Option.{some}
 use lib.ListN.{length, getD, drop, getElem?}
-use borrow.Author.Tests.{le-ltb}
+use borrow.Author.Tests.{le-ltb, lt-ltb}
 use Rattle.calendar.specs.Calendar.{dayOf}
 use Rattle.calendar.specs.declared.Date.the-variants.{Day}
 use Rattle.timetable.specs.Delivery.{Service}
-use Rattle.timetable.specs.Load.{delivered, tableWords, onto, loaded, written}
+use Rattle.timetable.specs.Load.{delivered, onto, loaded, written}
+use Rattle.timetable.specs.Table.{tableWords}
 use Rattle.timetable.specs.Questions.{idle, rows, journey, walkOf, walkedBy, walked, rowsBy, walkRows}
 use Rattle.timetable.specs.declared.Loaded.the-variants.{Accepted}
 use Rattle.timetable.specs.declared.Walked.{Walked}
-use Rattle.timetable.specs.declared.Walked.the-variants.{Listed, NotRunning}
-use Rattle.timetable.proofs.Trial.{words as exampleWords}
+use Rattle.timetable.specs.declared.Walked.the-variants.{Listed, NotRunning, Refused}
+use Rattle.timetable.specs.Trial.{trialWords}
 use Rattle.whole.specs.Promise.{Demand3, Asked, Walk}
 use Rattle.whole.proofs.Accepted.{written-is, walk-accepted}
 use Rattle.whole.proofs.Demand3.{demand3, demand3-rows}
 use Rattle.whole.proofs.Slack.{no-slack}
-use Rattle.checked.specs.Trial.{trial, trialWords, fridayRows}
+use Rattle.checked.specs.Trial.{trial, fridayRows}
 use Rattle.checked.proofs.Computing.{computing}
 
 -- ---- accepted, with exactly these words
@@ -34,13 +35,7 @@ pub words : tableWords (delivered trial) ≡ trialWords
 unfolding computing
 words = refl
 
--- the worked examples of the questions are asked of these words
-pub example-words : trialWords ≡ exampleWords
-unfolding trialWords
-example-words = refl
-
 words-66 : length trialWords ≡ 66
-unfolding trialWords
 words-66 = refl
 
 module _ (t : List ℕ) (lent : length t ≡ 4096) where
@@ -66,6 +61,11 @@ friday-room : (room : List ℕ) → 28 ≤ length room → (walkedBy (rows frida
 unfolding fridayRows onto
 friday-room room h = (rw (le-ltb (length room) 28 h), rw (le-ltb (length room) 28 h))
 
+-- with fewer they are what 29 names
+friday-lack : (room : List ℕ) → length room < 28 → (walkedBy (rows fridayRows) (length room) ≡ Refused 29 28) × (rowsBy (rows fridayRows) room ≡ room)
+unfolding fridayRows
+friday-lack room h = (rw (lt-ltb (length room) 28 h), rw (lt-ltb (length room) 28 h))
+
 module _ (t : List ℕ) (lent : length t ≡ 4096) where
   friday-walk : walkOf (written trial t) 0 0 5 12 2025 ≡ rows fridayRows
   friday-walk = walk-accepted trial t 66 (week-accepted t lent) 0 0 5 12 2025 ∙ friday-journey
@@ -76,6 +76,10 @@ module _ (t : List ℕ) (lent : length t ≡ 4096) where
   -- "The walk on 05.12.2025 gives four rows"
   pub friday : (room : List ℕ) → 28 ≤ length room → (walked (written trial t) 0 0 5 12 2025 (length room) ≡ Listed 4) × (walkRows (written trial t) 0 0 5 12 2025 room ≡ fridayRows ++ drop 28 room)
   friday room h = rw friday-walk (friday-room room h)
+
+  -- "29 row slice too short", "29 also the words needed"
+  pub friday-short : (room : List ℕ) → length room < 28 → (walked (written trial t) 0 0 5 12 2025 (length room) ≡ Refused 29 28) × (walkRows (written trial t) 0 0 5 12 2025 room ≡ room)
+  friday-short room h = rw friday-walk (friday-lack room h)
 
   -- "on 06.12.2025 it is not running"
   pub saturday : (room : List ℕ) → (walked (written trial t) 0 0 6 12 2025 (length room) ≡ NotRunning) × (walkRows (written trial t) 0 0 6 12 2025 room ≡ room)
@@ -92,10 +96,6 @@ ferry = getD (delivered trial .services) 0 noService
 ferry-is : getElem? (delivered trial .services) 0 ≡ some ferry
 unfolding computing ferry
 ferry-is = refl
-
-ferry-calls : length (ferry .calls) ≡ 4
-unfolding computing ferry
-ferry-calls = refl
 
 period-is : (delivered trial .period .start ≡ 45990) × (delivered trial .period .days ≡ 7)
 unfolding computing
@@ -121,14 +121,14 @@ module _ (t : List ℕ) (lent : length t ≡ 4096) where
   -- And of a walk on these days demand 3 allows no other answer and no other rows: not "not running" for all, nor rows left as lent.
   pub friday-only : (room : List ℕ) → 28 ≤ length room → {a : Walked} {v : List ℕ} → Walk (delivered trial) ferry 0 (45994 - delivered trial .period .start) room a v → (a ≡ Listed 4) × (v ≡ fridayRows ++ drop 28 room)
   friday-only room h x =
-      let w = demand3-rows trial t 66 (week-accepted t lent) 0 0 5 12 2025 45994 ferry (asked 5 4 (days-are .0) (omega arith)) room (rw ferry-calls (omega arith)) in
+      let w = demand3-rows trial t 66 (week-accepted t lent) 0 0 5 12 2025 45994 ferry (asked 5 4 (days-are .0) (omega arith)) room in
       let e = no-slack (delivered trial) ferry 0 (45994 - delivered trial .period .start) room x w in
       let f = friday t lent room h in
       (e .0 ∙ f .0, e .1 ∙ f .1)
 
-  pub saturday-only : (room : List ℕ) → 28 ≤ length room → {a : Walked} {v : List ℕ} → Walk (delivered trial) ferry 0 (45995 - delivered trial .period .start) room a v → (a ≡ NotRunning) × (v ≡ room)
-  saturday-only room h x =
-      let w = demand3-rows trial t 66 (week-accepted t lent) 0 0 6 12 2025 45995 ferry (asked 6 5 (days-are .1) (omega arith)) room (rw ferry-calls (omega arith)) in
+  pub saturday-only : (room : List ℕ) → {a : Walked} {v : List ℕ} → Walk (delivered trial) ferry 0 (45995 - delivered trial .period .start) room a v → (a ≡ NotRunning) × (v ≡ room)
+  saturday-only room x =
+      let w = demand3-rows trial t 66 (week-accepted t lent) 0 0 6 12 2025 45995 ferry (asked 6 5 (days-are .1) (omega arith)) room in
       let e = no-slack (delivered trial) ferry 0 (45995 - delivered trial .period .start) room x w in
       let f = saturday t lent room in
       (e .0 ∙ f .0, e .1 ∙ f .1)

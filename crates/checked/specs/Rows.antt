@@ -10,7 +10,8 @@ use Rattle.calendar.specs.declared.Date.the-variants.{Day, NoSuchDate}
 use Rattle.lines.specs.Lines.{linesOf}
 use Rattle.timetable.specs.Delivery.{Files, CategoryRange, Service}
 use Rattle.timetable.specs.Files.{periodIn}
-use Rattle.timetable.specs.Load.{delivered, tableWords, loaded}
+use Rattle.timetable.specs.Load.{delivered, loaded}
+use Rattle.timetable.specs.Table.{tableWords}
 use Rattle.timetable.specs.Questions.{dayAsked, interchangeAsked}
 use Rattle.timetable.specs.declared.DayAnswer.{DayAnswer}
 use Rattle.timetable.specs.declared.DayAnswer.the-variants.{Runs, Idle}

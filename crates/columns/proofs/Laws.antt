@@ -59,6 +59,11 @@ unfolding padTo
 pad-length [] = refl
 pad-length (b ∷ l) = ap (λ (r : List ℕ). b ∷ r) (pad-length l)
 
+-- columns a to b are as many, however short the line is
+pub length-columns : (a b : ℕ) (line : List ℕ) → length (columns a b line) ≡ b - (a - 1)
+unfolding columns
+length-columns a b line = length-pad (b - (a - 1)) (drop (a - 1) line)
+
 pub part-columns : (a b w : ℕ) (line p : List ℕ) → w ≡ b - (a - 1) → p ≡ take (b - (a - 1)) (drop (a - 1) line) → padTo w p ≡ columns a b line
 unfolding columns
 part-columns a b w line p e q = rw (e, q) (pad-take (b - (a - 1)) (drop (a - 1) line))

@@ -1,5 +1,3 @@
 pub mod Ranges
-pub mod Days
-pub mod Stretches
 pub mod Rows
 pub mod Examples

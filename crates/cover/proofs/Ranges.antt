@@ -10,7 +10,7 @@ use lib.Seq.{drop-drop, getD-drop}
 use Rattle.base.specs.Lists.{countIf}
 use Rattle.base.proofs.Laws.{tests}
 use Rattle.timetable.specs.Delivery.{Legs}
-use Rattle.timetable.specs.Checks.{covers}
+use Rattle.timetable.specs.Legs.{covers}
 use Rattle.timetable.specs.Table.{rowsIn, legsAt}
 use Rattle.timetable.proofs.Rows.{room-start, room-now, room-fits, room-next, rows-left}
 use Rattle.cover.specs.declared.FirstRange.{FirstRange}

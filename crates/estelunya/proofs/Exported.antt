@@ -1,13 +1,14 @@
--- What a caller of the exported functions holds in hand: that a number of 0 is no refusal, and demand 3 of `estelunya_load` and `estelunya_walk`.
--- Assumes nothing.
-use mathlib.Core.Path.{_≡_, refl, sym, ap, _∙_}
+-- What a caller of the exported functions holds in hand: that a number of 0 is no refusal, what a walk's numbers say, and demand 3 of
+-- `estelunya_load` and `estelunya_walk`. specs/Promise.antt states it. Assumes nothing.
+use mathlib.Core.Path.{_≡_, refl, sym, ap, subst, _∙_}
 use mathlib.Core.List.{List}
-use Prim.Native.Nat.{ℕ, _+_, _-_, _*_, _≤_}
+use Prim.Native.Nat.{ℕ, _-_, _*_, _≤_}
 use native.Mathlib.Omega.{arith}
 use lib.ListN.{length}
-use Rattle.timetable.specs.Delivery.{Files, Service}
+use Rattle.timetable.specs.Delivery.{Files, Service, Delivery}
 use Rattle.timetable.specs.Load.{delivered, loaded, written}
-use Rattle.timetable.specs.Questions.{rowSize, dayAsked, interchangeAsked, walked, walkRows}
+use Rattle.timetable.specs.Layout.{rowSize}
+use Rattle.timetable.specs.Questions.{dayAsked, interchangeAsked, walked, walkRows}
 use Rattle.timetable.specs.declared.DayAnswer.{DayAnswer}
 use Rattle.timetable.specs.declared.DayAnswer.the-variants.{Refused as DayRefused}
 use Rattle.timetable.specs.declared.InterchangeAnswer.{InterchangeAnswer}
@@ -15,13 +16,17 @@ use Rattle.timetable.specs.declared.InterchangeAnswer.the-variants.{Refused as 
 use Rattle.timetable.specs.declared.Loaded.{Loaded}
 use Rattle.timetable.specs.declared.Loaded.the-variants.{Accepted, Refused}
 use Rattle.timetable.specs.declared.Walked.{Walked}
-use Rattle.timetable.specs.declared.Walked.the-variants.{Refused as WalkRefused}
-use Rattle.whole.specs.Promise.{RunsNowhere, Asked, Walk, not-running, runs}
+use Rattle.timetable.specs.declared.Walked.the-variants.{Listed, NotRunning, Refused as WalkRefused}
+use Rattle.whole.specs.Rows.{RunsNowhere}
+use Rattle.whole.specs.Promise.{Asked, Walk, not-running, short, runs, TwoRows}
+use Rattle.whole.proofs.Any.{two-rows}
+use Rattle.whole.proofs.Slack.{never-both}
 use Rattle.whole.proofs.Demand3.{demand3-promised}
 use Rattle.whole.proofs.Numbers.{load-numbered, day-numbered, interchange-numbered, walk-numbered}
 use Rattle.estelunya.specs.declared.LoadResult.{LoadResult}
 use Rattle.estelunya.specs.declared.WalkResult.{WalkResult}
 use Rattle.estelunya.specs.Answers.{loadResult, dayResult, interchangeResult, walkResult}
+use Rattle.estelunya.specs.Promise.{Answered, not-running, short, runs, Walks, Decoded}
 
 -- an answer numbered 0 is an acceptance, with the words used
 pub accepted : (f : Files) (room : ℕ) → loadResult (loaded f room) .number ≡ 0 → loaded f room ≡ Accepted (loadResult (loaded f room) .words)
@@ -41,38 +46,54 @@ interchange-answered w stop a b number e q = omega (arith, interchange-numbered 
 pub walk-answered : (w : List ℕ) (i r d m y room number needed : ℕ) → walkResult (walked w i r d m y room) .number ≡ 0 → walked w i r d m y room ≡ WalkRefused number needed → ⊥
 walk-answered w i r d m y room number needed e q = omega (arith, walk-numbered w i r d m y room number needed q, ap (λ (a : Walked). walkResult a .number) q, e)
 
--- the answer of a walk and its rows, as they cross the boundary: those of a run that demand 3 allows
-pub record Walks (f : Files) (s : Service) (r k : ℕ) (lent : List ℕ) (x : WalkResult) (v : List ℕ) : Type 0 where
-  pub answer : Walked
-  pub told : x ≡ walkResult answer
-  pub keeps : Walk (delivered f) s r k lent answer v
-  -- it is not refused; 0 rows say "not running", and only they
-  pub number-0 : x .number ≡ 0
-  pub no-rows : x .rows ≡ 0 → RunsNowhere (delivered f) s k
+-- ---- of any words: what an answer is, told from its numbers
+
+pub decoded : (w : List ℕ) (i r d m y room : ℕ) {x : WalkResult} → x ≡ walkResult (walked w i r d m y room) → Decoded (walked w i r d m y room) x
+decoded w i r d m y room e = subst (Decoded (walked w i r d m y room)) (sym e) (go (walked w i r d m y room) (two-rows w i r d m y room) (λ number needed. walk-numbered w i r d m y room number needed))
+  where
+    go : (a : Walked) → TwoRows a → ((number needed : ℕ) → a ≡ WalkRefused number needed → 1 ≤ number) → Decoded a (walkResult a)
+    go (Listed n) h k = record { idle = λ p q. absurd (omega arith); listing = λ p q. (refl, h); refusal = λ p. absurd (omega arith) }
+    go NotRunning h k = record { idle = λ p q. refl; listing = λ p q. absurd (omega arith); refusal = λ p. absurd (omega arith) }
+    go (WalkRefused number needed) h k =
+        let l = k number needed refl in
+        record { idle = λ p q. absurd (omega arith); listing = λ p q. absurd (omega arith); refusal = λ p. refl }
+
+-- ---- demand 3
+
+module _ {d : Delivery} {s : Service} {r k : ℕ} {lent : List ℕ} where
+  in-numbers : {a : Walked} {v : List ℕ} → Walk d s r k lent a v → Answered d s r k lent (walkResult a) v
+  in-numbers (not-running n) = not-running n
+  in-numbers (short x l) = short x l
+  in-numbers (runs x l) = runs x l
+
+  roomy : {x : WalkResult} {v : List ℕ} → Answered d s r k lent x v → rowSize * length (s .calls) ≤ length lent → x .number ≡ 0
+  roomy (not-running n) h = refl
+  roomy (short x l) h = let i = x .unbroken .inside in let n = x .unbroken .some-leg in absurd (omega arith)
+  roomy (runs x l) h = refl
+
+  none-listed : {x : WalkResult} {v : List ℕ} → Answered d s r k lent x v → x .number ≡ 0 → x .rows ≡ 0 → RunsNowhere d s k
+  none-listed (not-running n) p q = n
+  none-listed (short x l) p q = absurd (omega arith)
+  none-listed (runs x l) p q = absurd (omega arith)
+
+  none-run : {x : WalkResult} {v : List ℕ} → Answered d s r k lent x v → RunsNowhere d s k → (x .number ≡ 0) × (x .rows ≡ 0)
+  none-run (not-running n) w = (refl, refl)
+  none-run (short x l) w = absurd (never-both d s k w (x .unbroken))
+  none-run (runs x l) w = absurd (never-both d s k w (x .unbroken))
 
 -- the words w that `estelunya_load` left, where it answered number 0 (a), and what `estelunya_walk` answers of them (x) and leaves in the rows (v)
 pub demand3-exported : (f : Files) (t : List ℕ) {a : LoadResult} {w : List ℕ} → a ≡ loadResult (loaded f (length t)) → w ≡ written f t → a .number ≡ 0
     → (i r d m y day : ℕ) (s : Service) → Asked f i r d m y s day
-    → (lent : List ℕ) → rowSize * length (s .calls) ≤ length lent
+    → (lent : List ℕ)
     → {x : WalkResult} {v : List ℕ} → x ≡ walkResult (walked w i r d m y (length lent)) → v ≡ walkRows w i r d m y lent
-    → Walks f s r (day - delivered f .period .start) lent x v
-demand3-exported f t {a} {w} b q e i r d m y day s h lent l {x} {v} z k =
-    let keeps = demand3-promised f t refl q (loadResult (loaded f (length t)) .words) (accepted f (length t) (sym (ap (λ (c : LoadResult). c .number) b) ∙ e)) i r d m y day s h lent l refl k in
+    → Walks f i s r (day - delivered f .period .start) lent x v
+demand3-exported f t {a} {w} b q e i r d m y day s h lent {x} {v} z k =
+    let promised = demand3-promised f t refl q (loadResult (loaded f (length t)) .words) (accepted f (length t) (sym (ap (λ (c : LoadResult). c .number) b) ∙ e)) i r d m y day s h lent refl k in
+    let answered = subst (λ (y : WalkResult). Answered (delivered f) s r (day - delivered f .period .start) lent y v) (sym z) (in-numbers (promised .1)) in
     record {
-      answer = walked w i r d m y (length lent);
-      told = z;
-      keeps = keeps;
-      number-0 = ap (λ (c : WalkResult). c .number) z ∙ zero-number keeps;
-      no-rows = λ n. none-listed keeps (sym (ap (λ (c : WalkResult). c .rows) z) ∙ n);
+      answered = answered;
+      own = promised .0;
+      never-refused = roomy answered;
+      idle-only = none-listed answered;
+      idle-always = none-run answered;
     }
-  where
-    day-no : ℕ
-    day-no = day - delivered f .period .start
-
-    zero-number : {c : Walked} {u : List ℕ} → Walk (delivered f) s r day-no lent c u → walkResult c .number ≡ 0
-    zero-number (not-running n) = refl
-    zero-number (runs n) = refl
-
-    none-listed : {c : Walked} {u : List ℕ} → Walk (delivered f) s r day-no lent c u → walkResult c .rows ≡ 0 → RunsNowhere (delivered f) s day-no
-    none-listed (not-running n) p = n
-    none-listed (runs n) p = absurd (omega arith)

@@ -1,6 +1,5 @@
 -- "For an answer that is an enum, a definition provides this paper's number and values for each of the enum's cases."
 -- A number of 0 says that nothing was refused. Assumes nothing.
-use Prim.Native.Nat.{ℕ}
 use Rattle.timetable.specs.declared.Loaded.{Loaded}
 use Rattle.timetable.specs.declared.Loaded.the-variants.{Accepted, Refused}
 use Rattle.timetable.specs.declared.DayAnswer.{DayAnswer}

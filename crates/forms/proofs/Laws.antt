@@ -11,6 +11,8 @@ use Rattle.columns.specs.Columns as C
 use Rattle.forms.specs.declared.Form.{Form}
 use Rattle.forms.specs.declared.Form.the-variants.{Fits, Broken}
 use Rattle.forms.specs.Form.{Row, column, free, before, strayFrom, unnamed, named, rowForm, formFrom, formOf, isFit, fits}
+use Rattle.forms.specs.Columns.{columnsOf}
+use Rattle.forms.specs.declared.LineKind.{LineKind}
 use Rattle.forms.specs.Rows.{ruleOf, fromOf, toOf, rowOf, ruleNumber, withRule, rowsOf}
 
 -- ---- unnamed columns of the line l up to column e, for `search forms`
@@ -124,3 +126,8 @@ fits-form rows line e = go (formOf rows line) e
     go : (f : Form) → isFit f ≡ true → f ≡ Fits
     go Fits e = refl
     go (Broken c) e = cc
+
+-- ---- the form of a kind of line, for `line_form`
+
+pub of-kind : (line : List ℕ) {kind k : LineKind} {r : Form} → kind ≡ k → r ≡ formOf (columnsOf k) line → r ≡ formOf (columnsOf kind) line
+of-kind line e v = v ∙ ap (λ (x : LineKind). formOf (columnsOf x) line) (sym e)

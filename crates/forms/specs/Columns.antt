@@ -1,6 +1,8 @@
 -- The paper's table of columns, row by row. Columns 1 to 3 of *Z, *G and *A say the kind, which was looked at before.
 -- Assumes nothing.
 use mathlib.Core.List.{List, [], _∷_}
+use Rattle.forms.specs.declared.LineKind.{LineKind}
+use Rattle.forms.specs.declared.LineKind.the-variants.{Date, BitField, Stop, Interchange, Opening, Category, Attribute, Schedule}
 use Rattle.forms.specs.Form.{Row, columns, column, fromColumn, free, digits, hexDigits, nonBlank, byte, orBlank, notAllBlank, firstNotBlank, count, date, time, rangeEnd, detailOf, offsetOf}
 
 -- "1 ECKDATEN, lines 1, 2: 1-10 DD.MM.YYYY, rest free"
@@ -88,3 +90,14 @@ callColumns =
     ∷ column 59 (byte 37)
     ∷ fromColumn 60 free
     ∷ []
+
+-- the columns of each kind of line
+abbrev pub columnsOf : LineKind → List Row
+columnsOf Date = dateColumns
+columnsOf BitField = bitFieldColumns
+columnsOf Stop = stopColumns
+columnsOf Interchange = interchangeColumns
+columnsOf Opening = serviceColumns
+columnsOf Category = categoryColumns
+columnsOf Attribute = attributeColumns
+columnsOf Schedule = callColumns

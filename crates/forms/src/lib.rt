@@ -13,7 +13,7 @@ ghost use Rattle.columns.specs.Columns as C;
 ghost use Rattle.columns.specs.Columns.{isOf, blank};
 ghost use Rattle.forms.specs.Form.{date, isTime, isEnd, isStop, isDetail, detailOf, offsetOf, unnamed, rowForm, formOf};
 ghost use Rattle.forms.specs.Rows.{ruleOf, toOf, rowOf, rowsOf};
-ghost use Rattle.forms.specs.Columns.{dateColumns, bitFieldColumns, stopColumns, interchangeColumns, serviceColumns, categoryColumns, attributeColumns, callColumns};
+ghost use Rattle.forms.specs.Columns.{columnsOf};
 ghost use Rattle.forms.specs.Kinds.{starred, kindOf};
 
 // Which kind a line of FPLAN is.
@@ -23,6 +23,18 @@ pub enum Kind {
     Attribute,
     Schedule,
     Other,
+}
+
+// The kinds of lines that have a form: a row of the paper's table of columns each.
+pub enum LineKind {
+    Date,
+    BitField,
+    Stop,
+    Interchange,
+    Opening,
+    Category,
+    Attribute,
+    Schedule,
 }
 
 // A line has the form, or breaks it: the column, from 1, where the leftmost field or unnamed column that does so starts.
@@ -175,53 +187,20 @@ fn starred_kind(b: u8, c: u8) -> Kind
 
 // ---- the form of each kind of line
 
-// A date of ECKDATEN.
-pub fn date_form(line: &[u8]) -> Form
-    ensures { λ r. ⌜ r ≡ formOf dateColumns (now (line .entry)) ⌝ }
+// Whether a line has the form of a kind.
+pub fn line_form(kind: LineKind, line: &[u8]) -> Form
+    ensures { λ r. ⌜ r ≡ formOf (columnsOf kind) (now (line .entry)) ⌝ }
 {
-    form_of(line, &DATE_LINE)
-}
-
-pub fn bit_field_form(line: &[u8]) -> Form
-    ensures { λ r. ⌜ r ≡ formOf bitFieldColumns (now (line .entry)) ⌝ }
-{
-    form_of(line, &BIT_FIELD)
-}
-
-pub fn stop_form(line: &[u8]) -> Form
-    ensures { λ r. ⌜ r ≡ formOf stopColumns (now (line .entry)) ⌝ }
-{
-    form_of(line, &STOP)
-}
-
-pub fn interchange_form(line: &[u8]) -> Form
-    ensures { λ r. ⌜ r ≡ formOf interchangeColumns (now (line .entry)) ⌝ }
-{
-    form_of(line, &INTERCHANGE)
-}
-
-pub fn service_form(line: &[u8]) -> Form
-    ensures { λ r. ⌜ r ≡ formOf serviceColumns (now (line .entry)) ⌝ }
-{
-    form_of(line, &SERVICE)
-}
-
-pub fn category_form(line: &[u8]) -> Form
-    ensures { λ r. ⌜ r ≡ formOf categoryColumns (now (line .entry)) ⌝ }
-{
-    form_of(line, &CATEGORY)
-}
-
-pub fn attribute_form(line: &[u8]) -> Form
-    ensures { λ r. ⌜ r ≡ formOf attributeColumns (now (line .entry)) ⌝ }
-{
-    form_of(line, &ATTRIBUTE)
-}
-
-pub fn call_form(line: &[u8]) -> Form
-    ensures { λ r. ⌜ r ≡ formOf callColumns (now (line .entry)) ⌝ }
-{
-    form_of(line, &CALL)
+    match kind {
+        LineKind::Date => form_of(line, &DATE_LINE),
+        LineKind::BitField => form_of(line, &BIT_FIELD),
+        LineKind::Stop => form_of(line, &STOP),
+        LineKind::Interchange => form_of(line, &INTERCHANGE),
+        LineKind::Opening => form_of(line, &SERVICE),
+        LineKind::Category => form_of(line, &CATEGORY),
+        LineKind::Attribute => form_of(line, &ATTRIBUTE),
+        LineKind::Schedule => form_of(line, &CALL),
+    }
 }
 
 // ---- the form that a table says, row by row

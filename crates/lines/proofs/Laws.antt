@@ -1,7 +1,7 @@
 -- Laws for those who walk a file by `line_at`: what a cut says of the lines from a place on, and how many lines there are.
 -- What holds of a part of a file is in Parts.antt (`lines-parts`, `part-lines`, `LineStart`). Assumes nothing.
 use mathlib.Core.Path.{_≡_, refl, ap, _∙_}
-use mathlib.Core.List.{List, [], _∷_}
+use mathlib.Core.List.{List, [], _∷_, _++_}
 use Prim.Native.Nat.{ℕ, suc, _+_, _-_, _≤_, _<_}
 use native.Mathlib.Nat.{add-sub-cancel-left}
 use native.Mathlib.Omega.{arith}
@@ -9,7 +9,8 @@ use native.Mathlib.Decide.{decLt}
 use lib.ListN.{length, take, drop, drop-of-length-le, length-drop}
 use lib.Seq.{drop-drop, length-take-le, take-take}
 use borrow.Author.Tests.{lt-ltb, le-ltb}
-use Rattle.lines.specs.Lines.{toLF, pieces, noCR, numbered, linesFrom, cutAt}
+use Rattle.base.specs.Lists.{gathered}
+use Rattle.lines.specs.Lines.{Line, toLF, pieces, noCR, numbered, linesFrom, cutAt}
 use Rattle.lines.specs.declared.Cut.{Cut}
 use Rattle.lines.proofs.Pieces.{toLF-le, pieces-step, pieces-le, noCR-take}
 
@@ -138,3 +139,13 @@ length-lines n at s = length-numbered n at (pieces s)
 -- no more lines than bytes
 pub lines-le : (n at : ℕ) (s : List ℕ) → length (linesFrom n at s) ≤ length s
 lines-le n at s = rw (length-lines n at s) (pieces-le s)
+
+-- ---- what lines give by their texts does not depend on the number of the first
+
+pub gathered-any : {Y : Type 0} (f : List ℕ → List Y) (n m at : ℕ) (s : List ℕ) → gathered (λ (l : Line). f (l .text)) (linesFrom n at s) ≡ gathered (λ (l : Line). f (l .text)) (linesFrom m at s)
+unfolding linesFrom numbered gathered
+gathered-any f n m at s = go n m at (pieces s)
+  where
+    go : (n m at : ℕ) (ps : List (List ℕ)) → gathered (λ (l : Line). f (l .text)) (numbered n at ps) ≡ gathered (λ (l : Line). f (l .text)) (numbered m at ps)
+    go n m at [] = refl
+    go n m at (p ∷ ps) = ap (λ r. f (noCR p) ++ r) (go (n + 1) (m + 1) (at + length p + 1) ps)

@@ -1,140 +1,47 @@
--- One file after the other: the first offence from a file on is its own, or else the first from the next on. Assumes nothing.
+-- The first offence of a delivery, file after file. Assumes nothing.
 use mathlib.Core.Path.{_≡_, refl, sym, ap, _∙_}
 use mathlib.Core.List.{List}
 use mathlib.Core.Bool.{Bool, true, false, cond}
 use mathlib.Core.Option.{Option, none, some}
-use Prim.Native.Nat.{ℕ, _+_, _≤_, _<_}
+use Prim.Native.Nat.{ℕ, _≤_}
 use native.Mathlib.Omega.{arith}
 use lib.ListN.{length}
 use lib.Dec.{ltb, eqb}
 use borrow.Author.Tests.{ltb-false, eqb-true, eq-eqb, ne-eqb}
 use Rattle.base.proofs.Laws.{apart, tests}
 use Rattle.lines.specs.Lines.{linesOf}
+use Rattle.timetable.specs.Layout.{mostFileBytes, mostPeriodDays}
 use Rattle.timetable.specs.Delivery.{filesOf}
-use Rattle.timetable.specs.Offences.{Offence, _<|>_, when}
-use Rattle.timetable.specs.Files.{held-in, orNumber, periodFirst, periodIn, bitFieldOf, bitFieldsFirst, stopOf, stopsFirst, interchangeOf, interchangesFirst}
+use Rattle.timetable.specs.Offences.{offenceAt, given, _<|>_, checkedBy}
+use Rattle.timetable.specs.Files.{periodFirst, periodIn, bitFieldOf, bitFieldsIn, bitFieldsFirst, stopOf, stopsIn, stopsFirst, interchangeOf, interchangesIn, interchangesFirst}
 use Rattle.timetable.specs.Service.{blocks}
 use Rattle.timetable.specs.Checks.{planFirst}
 use Rattle.timetable.specs.Load.{Where, inFile, delivered, offence}
-use Rattle.period.specs.Read.{readBy}
-use Rattle.period.specs.declared.PeriodRead.{PeriodRead}
-use Rattle.period.specs.declared.PeriodRead.the-variants.{Lasts, Wrong as PeriodWrong}
-use Rattle.period.proofs.Answers.{read-wrong, read-lasts, days-le}
-use Rattle.sections.specs.Sections.{scanBy}
-use Rattle.sections.specs.declared.Scan.{Scan}
-use Rattle.sections.specs.declared.Scan.the-variants.{Records, Wrong as ScanWrong}
-use Rattle.sections.proofs.Files.{scan-wrong, scan-records}
+use Rattle.timetable.specs.declared.Offence.{Offence}
+use Rattle.timetable.specs.declared.Checked.{Checked}
+use Rattle.timetable.specs.declared.Checked.the-variants.{Holds as Both, Refused as Wrong}
+use Rattle.timetable.proofs.Offences.{then-none, in-none, checked-holds, checked-refused}
+use Rattle.period.proofs.Laws.{period-short}
 use Rattle.sections.proofs.Held.{held-file}
-use Rattle.plan_words.specs.Services.{blockWords}
-use Rattle.plan_words.proofs.Sizes.{words-fit}
-use Rattle.plan.specs.Planned.{plannedBy}
-use Rattle.plan.specs.declared.Planned.{Planned}
-use Rattle.plan.specs.declared.Planned.the-variants.{Services, Wrong as PlanWrong}
-use Rattle.plan.proofs.Answers.{wrong-at, services-are}
+use Rattle.plan.specs.Services.{blockWords, mostPlanWords}
+use Rattle.plan.proofs.Sizes.{words-fit}
 use Rattle.table_words.specs.declared.Header.{Header}
+use Rattle.load.specs.Delivered.{longIn, headerBy, headerOf, refusedIn, deliveredBy}
 use Rattle.load.specs.declared.Delivered.{Delivered}
-use Rattle.load.specs.declared.Delivered.the-variants.{Holds, Wrong}
-use Rattle.load.specs.Checked.{longIn, fromPlan, fromInterchanges, fromStops, fromFields, fromPeriod, headerBy, planHeader, interchangesHeader, stopsHeader, fieldsHeader, headerOf, deliveredBy}
+use Rattle.load.specs.declared.Delivered.the-variants.{Holds, Refused}
+use Rattle.load.proofs.Table.{header-is}
 
--- ---- an offence of a file, and none
-
-module _ (file : ℕ) (o : Option Offence) (rest : Option Where) (h : Header) where
-  here : (a l : ℕ) → o ≡ some (a, l) → Wrong a file l ≡ deliveredBy (inFile file o <|> rest) h
-  unfolding _<|>_
-  here a l e = rw e refl
-
-  past : o ≡ none → (inFile file o <|> rest) ≡ rest
-  unfolding _<|>_
-  past e = rw e refl
-
--- ---- each file, for `search files`: r is what was said from the next file on
-
-module _ (start days nb ns nu : ℕ) (b s p : List ℕ) (x : Planned)
-    (e : x ≡ plannedBy (planFirst (held-in bitFieldOf (linesOf b)) (held-in stopOf (linesOf s)) days (linesOf p)) (length (blocks (linesOf p))) (length (blockWords (blocks (linesOf p))))) where
-  abbrev planOffence : Option Offence
-  planOffence = planFirst (held-in bitFieldOf (linesOf b)) (held-in stopOf (linesOf s)) days (linesOf p)
-
-  pub plan-wrong : (a l : ℕ) → x ≡ PlanWrong a l → Wrong a 5 l ≡ deliveredBy (fromPlan days b s p) (planHeader start days nb ns nu p)
-  plan-wrong a l y = rw (wrong-at planOffence (length (blocks (linesOf p))) (length (blockWords (blocks (linesOf p)))) x e a l y) refl
-
-  module _ (v w : ℕ) (y : x ≡ Services v w) where
-    plan-none : (planOffence ≡ none) × (length (blocks (linesOf p)) ≡ v) × (length (blockWords (blocks (linesOf p))) ≡ w)
-    plan-none = services-are planOffence (length (blocks (linesOf p))) (length (blockWords (blocks (linesOf p)))) x e v w y
-
-    pub words-small : length p ≤ 16777216 → w ≤ 251658240
-    words-small l = omega (arith, words-fit p 1 0 l, plan-none .2)
-
-    pub plan-right : (h : Header) → h ≡ headerBy start days nb ns nu v w → Holds h ≡ deliveredBy (fromPlan days b s p) (planHeader start days nb ns nu p)
-    plan-right h k = rw (plan-none .0, plan-none .1, plan-none .2, k) refl
-
-module _ (start days nb ns : ℕ) (b s u p : List ℕ) (m : ℕ) (x : Scan)
-    (e : x ≡ scanBy (interchangesFirst (held-in stopOf (linesOf s)) (linesOf u)) (length (held-in interchangeOf (linesOf u))) m) where
-  pub records-wrong : (a l : ℕ) → x ≡ ScanWrong a l → Wrong a 4 l ≡ deliveredBy (fromInterchanges days b s u p) (interchangesHeader start days nb ns u p)
-  records-wrong a l y = here 4 (interchangesFirst (held-in stopOf (linesOf s)) (linesOf u)) (fromPlan days b s p) (interchangesHeader start days nb ns u p) a l (scan-wrong (interchangesFirst (held-in stopOf (linesOf s)) (linesOf u)) (length (held-in interchangeOf (linesOf u))) m x e a l y)
-
-  pub records-right : (c n : ℕ) (r : Delivered) → x ≡ Records c n → r ≡ deliveredBy (fromPlan days b s p) (planHeader start days nb ns c p) → r ≡ deliveredBy (fromInterchanges days b s u p) (interchangesHeader start days nb ns u p)
-  records-right c n r y k =
-      let z = scan-records (interchangesFirst (held-in stopOf (linesOf s)) (linesOf u)) (length (held-in interchangeOf (linesOf u))) m x e c n y in
-      rw (past 4 (interchangesFirst (held-in stopOf (linesOf s)) (linesOf u)) (fromPlan days b s p) (interchangesHeader start days nb ns u p) (z .0), z .1) k
-
-pub records-few : (s u : List ℕ) (m c n : ℕ) (x : Scan) → x ≡ scanBy (interchangesFirst (held-in stopOf (linesOf s)) (linesOf u)) (length (held-in interchangeOf (linesOf u))) m → x ≡ Records c n → length u ≤ 16777216 → c ≤ 16777216
-records-few s u m c n x e y l = omega (arith, scan-records (interchangesFirst (held-in stopOf (linesOf s)) (linesOf u)) (length (held-in interchangeOf (linesOf u))) m x e c n y .1, held-file interchangeOf u)
-
-module _ (start days nb : ℕ) (b s u p : List ℕ) (m : ℕ) (x : Scan) (e : x ≡ scanBy (stopsFirst (linesOf s)) (length (held-in stopOf (linesOf s))) m) where
-  pub stops-wrong : (a l : ℕ) → x ≡ ScanWrong a l → Wrong a 3 l ≡ deliveredBy (fromStops days b s u p) (stopsHeader start days nb s u p)
-  stops-wrong a l y = here 3 (stopsFirst (linesOf s)) (fromInterchanges days b s u p) (stopsHeader start days nb s u p) a l (scan-wrong (stopsFirst (linesOf s)) (length (held-in stopOf (linesOf s))) m x e a l y)
-
-  pub stops-right : (c n : ℕ) (r : Delivered) → x ≡ Records c n → r ≡ deliveredBy (fromInterchanges days b s u p) (interchangesHeader start days nb c u p) → r ≡ deliveredBy (fromStops days b s u p) (stopsHeader start days nb s u p)
-  stops-right c n r y k =
-      let z = scan-records (stopsFirst (linesOf s)) (length (held-in stopOf (linesOf s))) m x e c n y in
-      rw (past 3 (stopsFirst (linesOf s)) (fromInterchanges days b s u p) (stopsHeader start days nb s u p) (z .0), z .1) k
-
-pub stops-few : (s : List ℕ) (m c n : ℕ) (x : Scan) → x ≡ scanBy (stopsFirst (linesOf s)) (length (held-in stopOf (linesOf s))) m → x ≡ Records c n → length s ≤ 16777216 → c ≤ 16777216
-stops-few s m c n x e y l = omega (arith, scan-records (stopsFirst (linesOf s)) (length (held-in stopOf (linesOf s))) m x e c n y .1, held-file stopOf s)
-
-module _ (start days : ℕ) (b s u p : List ℕ) (m : ℕ) (x : Scan) (e : x ≡ scanBy (bitFieldsFirst days (linesOf b)) (length (held-in bitFieldOf (linesOf b))) m) where
-  pub fields-wrong : (a l : ℕ) → x ≡ ScanWrong a l → Wrong a 2 l ≡ deliveredBy (fromFields days b s u p) (fieldsHeader start days b s u p)
-  fields-wrong a l y = here 2 (bitFieldsFirst days (linesOf b)) (fromStops days b s u p) (fieldsHeader start days b s u p) a l (scan-wrong (bitFieldsFirst days (linesOf b)) (length (held-in bitFieldOf (linesOf b))) m x e a l y)
-
-  pub fields-right : (c n : ℕ) (r : Delivered) → x ≡ Records c n → r ≡ deliveredBy (fromStops days b s u p) (stopsHeader start days c s u p) → r ≡ deliveredBy (fromFields days b s u p) (fieldsHeader start days b s u p)
-  fields-right c n r y k =
-      let z = scan-records (bitFieldsFirst days (linesOf b)) (length (held-in bitFieldOf (linesOf b))) m x e c n y in
-      rw (past 2 (bitFieldsFirst days (linesOf b)) (fromStops days b s u p) (fieldsHeader start days b s u p) (z .0), z .1) k
-
-pub fields-few : (b : List ℕ) (days m c n : ℕ) (x : Scan) → x ≡ scanBy (bitFieldsFirst days (linesOf b)) (length (held-in bitFieldOf (linesOf b))) m → x ≡ Records c n → length b ≤ 16777216 → c ≤ 16777216
-fields-few b days m c n x e y l = omega (arith, scan-records (bitFieldsFirst days (linesOf b)) (length (held-in bitFieldOf (linesOf b))) m x e c n y .1, held-file bitFieldOf b)
-
-module _ (f b s u p : List ℕ) (x : PeriodRead) (e : x ≡ readBy (periodFirst (linesOf f)) (periodIn (linesOf f))) where
-  pub period-wrong : (a l : ℕ) → x ≡ PeriodWrong a l → Wrong a 1 l ≡ deliveredBy (fromPeriod f b s u p) (headerOf f b s u p)
-  period-wrong a l y = here 1 (periodFirst (linesOf f)) (fromFields (periodIn (linesOf f) .days) b s u p) (headerOf f b s u p) a l (read-wrong (periodFirst (linesOf f)) (periodIn (linesOf f)) x e a l y)
-
-  pub period-right : (start days : ℕ) (r : Delivered) → x ≡ Lasts start days → r ≡ deliveredBy (fromFields days b s u p) (fieldsHeader start days b s u p) → r ≡ deliveredBy (fromPeriod f b s u p) (headerOf f b s u p)
-  period-right start days r y k =
-      let z = read-lasts (periodFirst (linesOf f)) (periodIn (linesOf f)) x e start days y in
-      rw (past 1 (periodFirst (linesOf f)) (fromFields (periodIn (linesOf f) .days) b s u p) (headerOf f b s u p) (z .0), z .1, z .2) k
-
-pub days-few : (f : List ℕ) (start days : ℕ) (x : PeriodRead) → x ≡ readBy (periodFirst (linesOf f)) (periodIn (linesOf f)) → x ≡ Lasts start days → days ≤ 380
-days-few f start days x e y = omega (arith, days-le (linesOf f), read-lasts (periodFirst (linesOf f)) (periodIn (linesOf f)) x e start days y .2)
-
-pub ruleset plans = (tests, plan-wrong, words-small, plan-right)
-
-pub ruleset scans = (tests, records-wrong, records-right, records-few, stops-wrong, stops-right, stops-few, fields-wrong, fields-right, fields-few)
-
-pub ruleset periods = (tests, period-wrong, period-right, days-few)
-
--- ---- lengths, for `search lengths`
-
-pub longs : (e b s u p r₁ r₂ r₃ r₄ r₅ q₂ q₃ q₄ r : ℕ) → r₁ ≡ cond (ltb 16777216 e) 1 0 → r₂ ≡ cond (ltb 16777216 b) 2 0 → r₃ ≡ cond (ltb 16777216 s) 3 0
-    → r₄ ≡ cond (ltb 16777216 u) 4 0 → r₅ ≡ cond (ltb 16777216 p) 5 0 → q₄ ≡ orNumber r₄ r₅ → q₃ ≡ orNumber r₃ q₄ → q₂ ≡ orNumber r₂ q₃ → r ≡ orNumber r₁ q₂ → r ≡ longIn e b s u p
-longs e b s u p r₁ r₂ r₃ r₄ r₅ q₂ q₃ q₄ r e₁ e₂ e₃ e₄ e₅ d₄ d₃ d₂ d = rw (d, d₂, d₃, d₄, e₁, e₂, e₃, e₄, e₅) refl
+-- ---- lengths
 
 -- the file that is too long, else what comes after the lengths
 abbrev longOr : ℕ → Option Where → Option Where
-longOr file rest = cond (eqb file 0) rest (some (1, file, 0))
+longOr file rest = cond (eqb file 0) rest (some (record { file = file; offence = offenceAt 1 0 }))
+
+abbrev longBy : Bool → Bool → Bool → Bool → Bool → ℕ
+longBy e b s u p = cond e 1 (cond b 2 (cond s 3 (cond u 4 (cond p 5 0))))
 
 first-long : (e b s u p : Bool) (rest : Option Where)
-    → (inFile 1 (when e 1 0) <|> inFile 2 (when b 1 0) <|> inFile 3 (when s 1 0) <|> inFile 4 (when u 1 0) <|> inFile 5 (when p 1 0) <|> rest)
-    ≡ longOr (orNumber (cond e 1 0) (orNumber (cond b 2 0) (orNumber (cond s 3 0) (orNumber (cond u 4 0) (cond p 5 0))))) rest
+    → (inFile 1 (given e 1 0) <|> inFile 2 (given b 1 0) <|> inFile 3 (given s 1 0) <|> inFile 4 (given u 1 0) <|> inFile 5 (given p 1 0) <|> rest) ≡ longOr (longBy e b s u p) rest
 unfolding _<|>_
 first-long true b s u p rest = refl
 first-long false true s u p rest = refl
@@ -143,53 +50,243 @@ first-long false false false true p rest = refl
 first-long false false false false true rest = refl
 first-long false false false false false rest = refl
 
-none-long : (e b s u p : Bool) → orNumber (cond e 1 0) (orNumber (cond b 2 0) (orNumber (cond s 3 0) (orNumber (cond u 4 0) (cond p 5 0)))) ≡ 0
-    → (b ≡ false) × (s ≡ false) × (u ≡ false) × (p ≡ false)
+none-long : (e b s u p : Bool) → longBy e b s u p ≡ 0 → (e ≡ false) × (b ≡ false) × (s ≡ false) × (u ≡ false) × (p ≡ false)
 none-long true b s u p z = absurd (omega arith)
 none-long false true s u p z = absurd (omega arith)
 none-long false false true u p z = absurd (omega arith)
 none-long false false false true p z = absurd (omega arith)
 none-long false false false false true z = absurd (omega arith)
-none-long false false false false false z = (refl, refl, refl, refl)
+none-long false false false false false z = (refl, refl, refl, refl, refl)
 
 module _ (e b s u p : List ℕ) where
   abbrev long : ℕ
   long = longIn (length e) (length b) (length s) (length u) (length p)
 
-  offence-is : offence (filesOf e b s u p) ≡ longOr long (fromPeriod e b s u p)
+  -- the first offence of files 1 to 5
+  abbrev inFiles : Option Where
+  inFiles =
+      inFile 1 (periodFirst (linesOf e)) <|> inFile 2 (bitFieldsFirst (periodIn (linesOf e) .days) (linesOf b)) <|> inFile 3 (stopsFirst (linesOf s))
+      <|> inFile 4 (interchangesFirst (stopsIn s) (linesOf u)) <|> inFile 5 (planFirst (bitFieldsIn b) (stopsIn s) (periodIn (linesOf e) .days) (linesOf p))
+
+  offence-is : offence (filesOf e b s u p) ≡ longOr long inFiles
   unfolding offence delivered
-  offence-is = first-long (ltb 16777216 (length e)) (ltb 16777216 (length b)) (ltb 16777216 (length s)) (ltb 16777216 (length u)) (ltb 16777216 (length p)) (fromPeriod e b s u p)
+  offence-is = first-long (ltb mostFileBytes (length e)) (ltb mostFileBytes (length b)) (ltb mostFileBytes (length s)) (ltb mostFileBytes (length u)) (ltb mostFileBytes (length p)) inFiles
 
-  module _ (n : ℕ) (k : n ≡ long) where
-    pub is-long : (h : Header) → (n ≡ 0 → ⊥) → Wrong 1 n 0 ≡ deliveredBy (offence (filesOf e b s u p)) h
-    is-long h z = rw (offence-is, ← k, ne-eqb n 0 z) refl
+  -- what is answered
+  abbrev answer : Delivered
+  answer = deliveredBy (offence (filesOf e b s u p)) (headerOf (delivered (filesOf e b s u p)))
 
-    pub not-long : (h : Header) (r : Delivered) → n ≡ 0 → r ≡ deliveredBy (fromPeriod e b s u p) h → r ≡ deliveredBy (offence (filesOf e b s u p)) h
-    not-long h r z v = rw (offence-is, ← k, eq-eqb n 0 z) v
+  module _ (n : ℕ) (k : n ≡ longIn (length e) (length b) (length s) (length u) (length p)) where
+    pub long-out : (x : Offence) → (n ≡ 0 → ⊥) → x ≡ offenceAt 1 0 → Refused n x ≡ answer
+    long-out x z y = rw (offence-is, ← k, ne-eqb n 0 z, y) refl
 
-    pub all-short : n ≡ 0 → (length b ≤ 16777216) × (length s ≤ 16777216) × (length u ≤ 16777216) × (length p ≤ 16777216)
-    all-short z =
-        let f = none-long (ltb 16777216 (length e)) (ltb 16777216 (length b)) (ltb 16777216 (length s)) (ltb 16777216 (length u)) (ltb 16777216 (length p)) (sym k ∙ z) in
-        (ltb-false 16777216 (length b) (f .0), ltb-false 16777216 (length s) (f .1), ltb-false 16777216 (length u) (f .2), ltb-false 16777216 (length p) (f .3))
+    module _ (z : n ≡ 0) where
+      tests-fail : (ltb mostFileBytes (length e) ≡ false) × (ltb mostFileBytes (length b) ≡ false) × (ltb mostFileBytes (length s) ≡ false) × (ltb mostFileBytes (length u) ≡ false) × (ltb mostFileBytes (length p) ≡ false)
+      tests-fail = none-long _ _ _ _ _ (sym k ∙ z)
 
-    pub short-fields : n ≡ 0 → length b ≤ 16777216
-    short-fields z = all-short z .0
+      pub short-period : length e ≤ mostFileBytes
+      short-period = ltb-false mostFileBytes (length e) (tests-fail .0)
 
-    pub short-stops : n ≡ 0 → length s ≤ 16777216
-    short-stops z = all-short z .1
+      pub short-fields : length b ≤ mostFileBytes
+      short-fields = ltb-false mostFileBytes (length b) (tests-fail .1)
 
-    pub short-records : n ≡ 0 → length u ≤ 16777216
-    short-records z = all-short z .2
+      pub short-stops : length s ≤ mostFileBytes
+      short-stops = ltb-false mostFileBytes (length s) (tests-fail .2)
 
-    pub short-plan : n ≡ 0 → length p ≤ 16777216
-    short-plan z = all-short z .3
+      pub short-interchanges : length u ≤ mostFileBytes
+      short-interchanges = ltb-false mostFileBytes (length u) (tests-fail .3)
 
-  -- a delivery without an offence
-  pub short-none : offence (filesOf e b s u p) ≡ none → (long ≡ 0) × (fromPeriod e b s u p ≡ none)
-  short-none v = go (eqb long 0) refl (sym offence-is ∙ v)
+      pub short-plan : length p ≤ mostFileBytes
+      short-plan = ltb-false mostFileBytes (length p) (tests-fail .4)
+
+      past-lengths : answer ≡ deliveredBy inFiles (headerOf (delivered (filesOf e b s u p)))
+      past-lengths = rw (offence-is, ← k, eq-eqb n 0 z) refl
+
+  -- a delivery without an offence has none of any kind
+  pub none-at-all : offence (filesOf e b s u p) ≡ none → (long ≡ 0) × (inFiles ≡ none)
+  none-at-all v = go (eqb long 0) refl (sym offence-is ∙ v)
     where
-      go : (t : Bool) → eqb long 0 ≡ t → cond t (fromPeriod e b s u p) (some (1, long, 0)) ≡ none → (long ≡ 0) × (fromPeriod e b s u p ≡ none)
+      go : (t : Bool) → eqb long 0 ≡ t → cond t inFiles (some (record { file = long; offence = offenceAt 1 0 })) ≡ none → (long ≡ 0) × (inFiles ≡ none)
       go true q v = (eqb-true long 0 q, v)
       go false q v = apart (cc)
 
-pub ruleset lengths = (tests, longs, is-long, not-long, short-fields, short-stops, short-records, short-plan)
+  pub plan-none : offence (filesOf e b s u p) ≡ none → planFirst (bitFieldsIn b) (stopsIn s) (periodIn (linesOf e) .days) (linesOf p) ≡ none
+  plan-none v =
+      let a₁ = then-none (inFile 1 (periodFirst (linesOf e))) _ (none-at-all v .1) in
+      let a₂ = then-none (inFile 2 (bitFieldsFirst (periodIn (linesOf e) .days) (linesOf b))) _ (a₁ .1) in
+      let a₃ = then-none (inFile 3 (stopsFirst (linesOf s))) _ (a₂ .1) in
+      let a₄ = then-none (inFile 4 (interchangesFirst (stopsIn s) (linesOf u))) _ (a₃ .1) in
+      in-none 5 _ (a₄ .1)
+
+-- ---- a file's own offence, or the next file's: what is said of each is x, and r is what is answered where it does not hold
+
+-- the five files in order, by their offences
+module _ (P B S U F : Option Offence) (h : Header) where
+  abbrev five : Delivered
+  five = deliveredBy (inFile 1 P <|> inFile 2 B <|> inFile 3 S <|> inFile 4 U <|> inFile 5 F) h
+
+  module _ (o : Offence) where
+    in-1 : P ≡ some o → five ≡ Refused 1 o
+    unfolding _<|>_
+    in-1 a = rw a refl
+
+    in-2 : P ≡ none → B ≡ some o → five ≡ Refused 2 o
+    unfolding _<|>_
+    in-2 a b = rw (a, b) refl
+
+    in-3 : P ≡ none → B ≡ none → S ≡ some o → five ≡ Refused 3 o
+    unfolding _<|>_
+    in-3 a b c = rw (a, b, c) refl
+
+    in-4 : P ≡ none → B ≡ none → S ≡ none → U ≡ some o → five ≡ Refused 4 o
+    unfolding _<|>_
+    in-4 a b c d = rw (a, b, c, d) refl
+
+    in-5 : P ≡ none → B ≡ none → S ≡ none → U ≡ none → F ≡ some o → five ≡ Refused 5 o
+    unfolding _<|>_
+    in-5 a b c d f = rw (a, b, c, d, f) refl
+
+  all-hold : P ≡ none → B ≡ none → S ≡ none → U ≡ none → F ≡ none → five ≡ Holds h
+  unfolding _<|>_
+  all-hold a b c d f = rw (a, b, c, d, f) refl
+
+-- what is said of a file
+record Says (own : Option Offence) (a b : ℕ) (x : Checked) : Type 0 where
+  is : x ≡ checkedBy own a b
+
+past : {own : Option Offence} {a b : ℕ} {x : Checked} → Says own a b x → {c d : ℕ} → x ≡ Both c d → own ≡ none
+past {own} {a} {b} {x} k {c} {d} y = checked-holds own a b x (k .is) c d y .0
+
+counted : {own : Option Offence} {a b : ℕ} {x : Checked} → Says own a b x → {c d : ℕ} → x ≡ Both c d → a ≡ c
+counted {own} {a} {b} {x} k {c} {d} y = checked-holds own a b x (k .is) c d y .1
+
+counted-too : {own : Option Offence} {a b : ℕ} {x : Checked} → Says own a b x → {c d : ℕ} → x ≡ Both c d → b ≡ d
+counted-too {own} {a} {b} {x} k {c} {d} y = checked-holds own a b x (k .is) c d y .2
+
+wrong : {own : Option Offence} {a b : ℕ} {x : Checked} → Says own a b x → {o : Offence} → x ≡ Wrong o → own ≡ some o
+wrong {own} {a} {b} {x} k {o} y = checked-refused own a b x (k .is) o y
+
+-- what is answered where it does not hold
+refusal : (file : ℕ) {x : Checked} {o : Offence} {r : Delivered} → x ≡ Wrong o → r ≡ refusedIn file x → r ≡ Refused file o
+refusal file y v = v ∙ ap (refusedIn file) y
+
+-- ECKDATEN, BITFELD, BAHNHOF, UMSTEIGB, FPLAN
+abbrev Period : List ℕ → Checked → Type 0
+Period e x = Says (periodFirst (linesOf e)) (periodIn (linesOf e) .start) (periodIn (linesOf e) .days) x
+
+abbrev Fields : List ℕ → ℕ → ℕ → Checked → Type 0
+Fields b days m x = Says (bitFieldsFirst days (linesOf b)) (length (bitFieldsIn b)) m x
+
+abbrev Stops : List ℕ → ℕ → Checked → Type 0
+Stops s m x = Says (stopsFirst (linesOf s)) (length (stopsIn s)) m x
+
+abbrev Interchanges : List ℕ → List ℕ → ℕ → Checked → Type 0
+Interchanges s u m x = Says (interchangesFirst (stopsIn s) (linesOf u)) (length (interchangesIn u)) m x
+
+abbrev Plan : List ℕ → List ℕ → ℕ → List ℕ → Checked → Type 0
+Plan b s days p x = Says (planFirst (bitFieldsIn b) (stopsIn s) days (linesOf p)) (length (blocks (linesOf p))) (length (blockWords (blocks (linesOf p)))) x
+
+-- ---- the needs of `refused`, for `search refusals`
+
+module _ (file : ℕ) (x : Checked) where
+  pub refused-is : (o : Offence) → x ≡ Wrong o → Refused file o ≡ refusedIn file x
+  refused-is o y = rw y refl
+
+  pub refused-never : (a b : ℕ) (o : Offence) → x ≡ Both a b → o ≡ offenceAt 0 0 → Refused file o ≡ refusedIn file x
+  refused-never a b o y q = rw y (ap (Refused file) q)
+
+pub ruleset refusals = (tests, refused-is, refused-never)
+
+-- ---- bounds of what was counted, for the calls
+
+module _ (x : Checked) (c k : ℕ) (y : x ≡ Both c k) where
+  pub days-few : (e : List ℕ) → x ≡ checkedBy (periodFirst (linesOf e)) (periodIn (linesOf e) .start) (periodIn (linesOf e) .days) → k ≤ mostPeriodDays
+  days-few e d = let q : Period e x = record { is = d } in omega (arith, period-short (linesOf e), counted-too q y)
+
+  pub fields-few : (b : List ℕ) (days m : ℕ) → x ≡ checkedBy (bitFieldsFirst days (linesOf b)) (length (bitFieldsIn b)) m → length b ≤ mostFileBytes → c ≤ mostFileBytes
+  fields-few b days m d l = let q : Fields b days m x = record { is = d } in omega (arith, counted q y, held-file bitFieldOf b)
+
+  pub stops-few : (s : List ℕ) (m : ℕ) → x ≡ checkedBy (stopsFirst (linesOf s)) (length (stopsIn s)) m → length s ≤ mostFileBytes → c ≤ mostFileBytes
+  stops-few s m d l = let q : Stops s m x = record { is = d } in omega (arith, counted q y, held-file stopOf s)
+
+  pub interchanges-few : (s u : List ℕ) (m : ℕ) → x ≡ checkedBy (interchangesFirst (stopsIn s) (linesOf u)) (length (interchangesIn u)) m → length u ≤ mostFileBytes → c ≤ mostFileBytes
+  interchanges-few s u m d l = let q : Interchanges s u m x = record { is = d } in omega (arith, counted q y, held-file interchangeOf u)
+
+  pub words-few : (b s p : List ℕ) (days : ℕ) → x ≡ checkedBy (planFirst (bitFieldsIn b) (stopsIn s) days (linesOf p)) (length (blocks (linesOf p))) (length (blockWords (blocks (linesOf p)))) → length p ≤ mostFileBytes → k ≤ mostPlanWords
+  words-few b s p days d l = let q : Plan b s days p x = record { is = d } in omega (arith, words-fit p 0 1 l, counted-too q y)
+
+-- ---- the files, one after the other
+
+module _ (e b s u p : List ℕ) (n : ℕ) (k : n ≡ longIn (length e) (length b) (length s) (length u) (length p)) (z : n ≡ 0)
+    (x₁ : Checked) (e₁ : x₁ ≡ checkedBy (periodFirst (linesOf e)) (periodIn (linesOf e) .start) (periodIn (linesOf e) .days)) where
+  abbrev header : Header
+  header = headerOf (delivered (filesOf e b s u p))
+
+  -- the days of the period
+  abbrev own : ℕ
+  own = periodIn (linesOf e) .days
+
+  -- the offences of the files
+  abbrev o₁ : Option Offence
+  o₁ = periodFirst (linesOf e)
+
+  abbrev o₂ : Option Offence
+  o₂ = bitFieldsFirst own (linesOf b)
+
+  abbrev o₃ : Option Offence
+  o₃ = stopsFirst (linesOf s)
+
+  abbrev o₄ : Option Offence
+  o₄ = interchangesFirst (stopsIn s) (linesOf u)
+
+  abbrev o₅ : Option Offence
+  o₅ = planFirst (bitFieldsIn b) (stopsIn s) own (linesOf p)
+
+  abbrev same : answer e b s u p ≡ five o₁ o₂ o₃ o₄ o₅ header
+  same = past-lengths e b s u p n k z
+
+  c₁ : Period e x₁
+  c₁ = record { is = e₁ }
+
+  pub period-out : (o : Offence) (r : Delivered) → x₁ ≡ Wrong o → r ≡ refusedIn 1 x₁ → r ≡ answer e b s u p
+  period-out o r y v = refusal 1 y v ∙ sym (same ∙ in-1 o₁ o₂ o₃ o₄ o₅ header o (wrong c₁ y))
+
+  module _ (start days : ℕ) (y₁ : x₁ ≡ Both start days) (x₂ : Checked) (m₂ : ℕ) (e₂ : x₂ ≡ checkedBy (bitFieldsFirst days (linesOf b)) (length (bitFieldsIn b)) m₂) where
+    days-are : own ≡ days
+    days-are = counted-too c₁ y₁
+
+    c₂ : Fields b own m₂ x₂
+    c₂ = record { is = rw days-are e₂ }
+
+    pub fields-out : (o : Offence) (r : Delivered) → x₂ ≡ Wrong o → r ≡ refusedIn 2 x₂ → r ≡ answer e b s u p
+    fields-out o r y v = refusal 2 y v ∙ sym (same ∙ in-2 o₁ o₂ o₃ o₄ o₅ header o (past c₁ y₁) (wrong c₂ y))
+
+    module _ (nb k₂ : ℕ) (y₂ : x₂ ≡ Both nb k₂) (x₃ : Checked) (m₃ : ℕ) (e₃ : x₃ ≡ checkedBy (stopsFirst (linesOf s)) (length (stopsIn s)) m₃) where
+      c₃ : Stops s m₃ x₃
+      c₃ = record { is = e₃ }
+
+      pub stops-out : (o : Offence) (r : Delivered) → x₃ ≡ Wrong o → r ≡ refusedIn 3 x₃ → r ≡ answer e b s u p
+      stops-out o r y v = refusal 3 y v ∙ sym (same ∙ in-3 o₁ o₂ o₃ o₄ o₅ header o (past c₁ y₁) (past c₂ y₂) (wrong c₃ y))
+
+      module _ (ns k₃ : ℕ) (y₃ : x₃ ≡ Both ns k₃) (x₄ : Checked) (m₄ : ℕ) (e₄ : x₄ ≡ checkedBy (interchangesFirst (stopsIn s) (linesOf u)) (length (interchangesIn u)) m₄) where
+        c₄ : Interchanges s u m₄ x₄
+        c₄ = record { is = e₄ }
+
+        pub interchanges-out : (o : Offence) (r : Delivered) → x₄ ≡ Wrong o → r ≡ refusedIn 4 x₄ → r ≡ answer e b s u p
+        interchanges-out o r y v = refusal 4 y v ∙ sym (same ∙ in-4 o₁ o₂ o₃ o₄ o₅ header o (past c₁ y₁) (past c₂ y₂) (past c₃ y₃) (wrong c₄ y))
+
+        module _ (nu k₄ : ℕ) (y₄ : x₄ ≡ Both nu k₄) (x₅ : Checked) (e₅ : x₅ ≡ checkedBy (planFirst (bitFieldsIn b) (stopsIn s) days (linesOf p)) (length (blocks (linesOf p))) (length (blockWords (blocks (linesOf p))))) where
+          c₅ : Plan b s own p x₅
+          c₅ = record { is = rw days-are e₅ }
+
+          pub plan-out : (o : Offence) (r : Delivered) → x₅ ≡ Wrong o → r ≡ refusedIn 5 x₅ → r ≡ answer e b s u p
+          plan-out o r y v = refusal 5 y v ∙ sym (same ∙ in-5 o₁ o₂ o₃ o₄ o₅ header o (past c₁ y₁) (past c₂ y₂) (past c₃ y₃) (past c₄ y₄) (wrong c₅ y))
+
+          pub all-right : (v w : ℕ) (g : Header) → x₅ ≡ Both v w → g ≡ headerBy start days nb ns nu v w → Holds g ≡ answer e b s u p
+          all-right v w g y q =
+              ap Holds (q ∙ sym (header-is e b s u p ∙ rw (counted c₁ y₁, days-are, counted c₂ y₂, counted c₃ y₃, counted c₄ y₄, counted c₅ y, counted-too c₅ y) refl))
+              ∙ sym (same ∙ all-hold o₁ o₂ o₃ o₄ o₅ header (past c₁ y₁) (past c₂ y₂) (past c₃ y₃) (past c₄ y₄) (past c₅ y))
+
+pub ruleset lengths = (tests, long-out)
+
+pub ruleset orders = (tests, period-out, fields-out, stops-out, interchanges-out, plan-out)

@@ -1,26 +1,26 @@
 // A delivery of five files to the table, or its first offence. Nothing is written before everything is checked.
-use period::PeriodRead;
-use plan::Planned;
-use sections::Scan;
 use table_words::Header;
 use timetable::BIT_FIELD_WORDS;
+use timetable::Checked;
 use timetable::HEADER_WORDS;
 use timetable::INTERCHANGE_WORDS;
 use timetable::Loaded;
 use timetable::MOST_FILE_BYTES;
+use timetable::Offence;
 use timetable::STOP_WORDS;
 ghost use mathlib.Core.Path.{_≡_};
 ghost use Prim.Native.Nat.{_≤_};
 ghost use lib.ListN.{length};
+ghost use Rattle.timetable.specs.Layout.{mostFileBytes};
 ghost use Rattle.timetable.specs.Delivery.{filesOf};
-ghost use Rattle.timetable.specs.Files.{orNumber};
-ghost use Rattle.timetable.specs.Load.{offence, loaded, written};
-ghost use Rattle.load.specs.Checked.{longAt, longIn, fromPlan, fromInterchanges, fromStops, fromFields, fromPeriod, headerBy, planHeader, interchangesHeader, stopsHeader, fieldsHeader, headerOf, deliveredBy};
+ghost use Rattle.timetable.specs.Load.{delivered, offence, loaded, written};
+ghost use Rattle.plan.specs.Services.{mostPlanWords};
+ghost use Rattle.load.specs.Delivered.{longIn, headerBy, headerOf, refusedIn, deliveredBy};
 
-// What all checks but the room say: the header of the table, or number, file and line of the first offence.
+// What all checks but the room say: the header of the table, or the first offence and its file.
 pub enum Delivered {
     Holds(Header),
-    Wrong { number: u32, file: u32, line: u32 },
+    Refused { file: u32, offence: Offence },
 }
 
 pub fn load(
@@ -34,22 +34,27 @@ pub fn load(
     ensures { λ r. ⌜ r ≡ loaded (filesOf (now (eckdaten .entry)) (now (bitfeld .entry)) (now (bahnhof .entry)) (now (umsteigb .entry)) (now (fplan .entry))) (length (now (table .entry))) ⌝ }
     ensures { λ r. ⌜ now (table .exit) ≡ written (filesOf (now (eckdaten .entry)) (now (bitfeld .entry)) (now (bahnhof .entry)) (now (umsteigb .entry)) (now (fplan .entry))) (now (table .entry)) ⌝ }
 {
-    let d = check_delivery(eckdaten, bitfeld, bahnhof, umsteigb, fplan);
-    match d {
-        Delivered::Wrong { number, file, line } => Loaded::Refused {
-            number,
+    let delivered = check_delivery(eckdaten, bitfeld, bahnhof, umsteigb, fplan);
+    match delivered {
+        Delivered::Refused { file, offence } => Loaded::Refused {
+            number: offence.number,
             file,
-            line,
+            line: offence.line,
             needed: 0,
         },
-        Delivered::Holds(h) => table_words::write_table(
-            h,
-            bitfeld,
-            bahnhof,
-            umsteigb,
-            fplan,
-            table,
-        ),
+        Delivered::Holds(header) => {
+            let used = header.words;
+            if table.len() < used as usize {
+                return Loaded::Refused {
+                    number: 20,
+                    file: 0,
+                    line: 0,
+                    needed: used,
+                };
+            }
+            table_words::put_table(header, bitfeld, bahnhof, umsteigb, fplan, table);
+            Loaded::Accepted(used)
+        }
     }
 }
 
@@ -61,7 +66,7 @@ fn check_delivery(
     umsteigb: &[u8],
     fplan: &[u8],
 ) -> Delivered
-    ensures { λ r. ⌜ r ≡ deliveredBy (offence (filesOf (now (eckdaten .entry)) (now (bitfeld .entry)) (now (bahnhof .entry)) (now (umsteigb .entry)) (now (fplan .entry)))) (headerOf (now (eckdaten .entry)) (now (bitfeld .entry)) (now (bahnhof .entry)) (now (umsteigb .entry)) (now (fplan .entry))) ⌝ }
+    ensures { λ r. ⌜ r ≡ deliveredBy (offence (filesOf (now (eckdaten .entry)) (now (bitfeld .entry)) (now (bahnhof .entry)) (now (umsteigb .entry)) (now (fplan .entry)))) (headerOf (delivered (filesOf (now (eckdaten .entry)) (now (bitfeld .entry)) (now (bahnhof .entry)) (now (umsteigb .entry)) (now (fplan .entry))))) ⌝ }
 {
     let long = too_long(
         eckdaten.len(),
@@ -71,208 +76,75 @@ fn check_delivery(
         fplan.len(),
     );
     if long != 0 {
-        return Delivered::Wrong {
-            number: 1,
+        return Delivered::Refused {
             file: long,
-            line: 0,
+            offence: timetable::offence_at(1, 0),
         };
     }
-    check_files(eckdaten, bitfeld, bahnhof, umsteigb, fplan)
+    let period = period::check_period(eckdaten);
+    let Checked::Holds(start, days) = period else {
+        return refused(1, period);
+    };
+    let field_section = sections::check_bit_fields(bitfeld, days);
+    let Checked::Holds(fields, _) = field_section else {
+        return refused(2, field_section);
+    };
+    let stop_section = sections::check_stops(bahnhof);
+    let Checked::Holds(stops, _) = stop_section else {
+        return refused(3, stop_section);
+    };
+    let interchange_section = sections::check_interchanges(umsteigb, bahnhof);
+    let Checked::Holds(interchanges, _) = interchange_section else {
+        return refused(4, interchange_section);
+    };
+    let plan = plan::check_plan(fplan, bitfeld, bahnhof, days);
+    let Checked::Holds(services, words) = plan else {
+        return refused(5, plan);
+    };
+    Delivered::Holds(header_of(
+        start,
+        days,
+        fields,
+        stops,
+        interchanges,
+        services,
+        words,
+    ))
 }
 
-// ---- lengths
-
-// The first file of over 16,777,216 bytes, by the sizes of the five, or 0.
+// The first file of over 16,777,216 bytes, by the sizes of the five; 0 where none is.
 fn too_long(eckdaten: usize, bitfeld: usize, bahnhof: usize, umsteigb: usize, fplan: usize) -> u32
     ensures { λ r. ⌜ r ≡ longIn eckdaten bitfeld bahnhof umsteigb fplan ⌝ }
 {
-    earlier(
-        long_at(1, eckdaten),
-        earlier(
-            long_at(2, bitfeld),
-            earlier(
-                long_at(3, bahnhof),
-                earlier(long_at(4, umsteigb), long_at(5, fplan)),
-            ),
-        ),
-    )
-}
-
-fn long_at(file: u32, size: usize) -> u32
-    ensures { λ r. ⌜ r ≡ longAt file size ⌝ }
-{
-    if MOST_FILE_BYTES < size { file } else { 0 }
-}
-
-// The first of two files that is not 0.
-fn earlier(a: u32, b: u32) -> u32
-    ensures { λ r. ⌜ r ≡ orNumber a b ⌝ }
-{
-    if a == 0 { b } else { a }
-}
-
-// ---- files 1 to 5, one after the other
-
-fn check_files(
-    eckdaten: &[u8],
-    bitfeld: &[u8],
-    bahnhof: &[u8],
-    umsteigb: &[u8],
-    fplan: &[u8],
-) -> Delivered
-    requires { ⌜ (length (now bitfeld) ≤ 16777216) × (length (now bahnhof) ≤ 16777216) × (length (now umsteigb) ≤ 16777216) × (length (now fplan) ≤ 16777216) ⌝ }
-    ensures { λ r. ⌜ r ≡ deliveredBy (fromPeriod (now (eckdaten .entry)) (now (bitfeld .entry)) (now (bahnhof .entry)) (now (umsteigb .entry)) (now (fplan .entry))) (headerOf (now (eckdaten .entry)) (now (bitfeld .entry)) (now (bahnhof .entry)) (now (umsteigb .entry)) (now (fplan .entry))) ⌝ }
-{
-    let period = period::read_period(eckdaten);
-    match period {
-        PeriodRead::Wrong { number, line } => Delivered::Wrong {
-            number,
-            file: 1,
-            line,
-        },
-        PeriodRead::Lasts { start, days } => from_fields(
-            start,
-            days,
-            bitfeld,
-            bahnhof,
-            umsteigb,
-            fplan,
-        ),
+    if MOST_FILE_BYTES < eckdaten {
+        return 1;
     }
-}
-
-// Files 2 to 5.
-fn from_fields(
-    start: u32,
-    days: u32,
-    bitfeld: &[u8],
-    bahnhof: &[u8],
-    umsteigb: &[u8],
-    fplan: &[u8],
-) -> Delivered
-    requires { ⌜ days ≤ 380 ⌝ }
-    requires { ⌜ (length (now bitfeld) ≤ 16777216) × (length (now bahnhof) ≤ 16777216) × (length (now umsteigb) ≤ 16777216) × (length (now fplan) ≤ 16777216) ⌝ }
-    ensures { λ r. ⌜ r ≡ deliveredBy (fromFields days (now (bitfeld .entry)) (now (bahnhof .entry)) (now (umsteigb .entry)) (now (fplan .entry))) (fieldsHeader start days (now (bitfeld .entry)) (now (bahnhof .entry)) (now (umsteigb .entry)) (now (fplan .entry))) ⌝ }
-{
-    let scan = sections::check_bit_fields(bitfeld, days);
-    match scan {
-        Scan::Wrong { number, line } => Delivered::Wrong {
-            number,
-            file: 2,
-            line,
-        },
-        Scan::Records { count, next } => from_stops(
-            start,
-            days,
-            count,
-            bitfeld,
-            bahnhof,
-            umsteigb,
-            fplan,
-        ),
+    if MOST_FILE_BYTES < bitfeld {
+        return 2;
     }
-}
-
-// Files 3 to 5.
-fn from_stops(
-    start: u32,
-    days: u32,
-    fields: u32,
-    bitfeld: &[u8],
-    bahnhof: &[u8],
-    umsteigb: &[u8],
-    fplan: &[u8],
-) -> Delivered
-    requires { ⌜ (days ≤ 380) × (fields ≤ 16777216) ⌝ }
-    requires { ⌜ (length (now bahnhof) ≤ 16777216) × (length (now umsteigb) ≤ 16777216) × (length (now fplan) ≤ 16777216) ⌝ }
-    ensures { λ r. ⌜ r ≡ deliveredBy (fromStops days (now (bitfeld .entry)) (now (bahnhof .entry)) (now (umsteigb .entry)) (now (fplan .entry))) (stopsHeader start days fields (now (bahnhof .entry)) (now (umsteigb .entry)) (now (fplan .entry))) ⌝ }
-{
-    let scan = sections::check_stops(bahnhof);
-    match scan {
-        Scan::Wrong { number, line } => Delivered::Wrong {
-            number,
-            file: 3,
-            line,
-        },
-        Scan::Records { count, next } => from_interchanges(
-            start,
-            days,
-            fields,
-            count,
-            bitfeld,
-            bahnhof,
-            umsteigb,
-            fplan,
-        ),
+    if MOST_FILE_BYTES < bahnhof {
+        return 3;
     }
-}
-
-// Files 4 and 5.
-fn from_interchanges(
-    start: u32,
-    days: u32,
-    fields: u32,
-    stops: u32,
-    bitfeld: &[u8],
-    bahnhof: &[u8],
-    umsteigb: &[u8],
-    fplan: &[u8],
-) -> Delivered
-    requires { ⌜ (days ≤ 380) × (fields ≤ 16777216) × (stops ≤ 16777216) ⌝ }
-    requires { ⌜ (length (now umsteigb) ≤ 16777216) × (length (now fplan) ≤ 16777216) ⌝ }
-    ensures { λ r. ⌜ r ≡ deliveredBy (fromInterchanges days (now (bitfeld .entry)) (now (bahnhof .entry)) (now (umsteigb .entry)) (now (fplan .entry))) (interchangesHeader start days fields stops (now (umsteigb .entry)) (now (fplan .entry))) ⌝ }
-{
-    let scan = sections::check_interchanges(umsteigb, bahnhof);
-    match scan {
-        Scan::Wrong { number, line } => Delivered::Wrong {
-            number,
-            file: 4,
-            line,
-        },
-        Scan::Records { count, next } => from_plan(
-            start,
-            days,
-            fields,
-            stops,
-            count,
-            bitfeld,
-            bahnhof,
-            fplan,
-        ),
+    if MOST_FILE_BYTES < umsteigb {
+        return 4;
     }
+    if MOST_FILE_BYTES < fplan {
+        return 5;
+    }
+    0
 }
 
-// File 5.
-fn from_plan(
-    start: u32,
-    days: u32,
-    fields: u32,
-    stops: u32,
-    interchanges: u32,
-    bitfeld: &[u8],
-    bahnhof: &[u8],
-    fplan: &[u8],
-) -> Delivered
-    requires { ⌜ (days ≤ 380) × (fields ≤ 16777216) × (stops ≤ 16777216) × (interchanges ≤ 16777216) ⌝ }
-    requires { ⌜ length (now fplan) ≤ 16777216 ⌝ }
-    ensures { λ r. ⌜ r ≡ deliveredBy (fromPlan days (now (bitfeld .entry)) (now (bahnhof .entry)) (now (fplan .entry))) (planHeader start days fields stops interchanges (now (fplan .entry))) ⌝ }
+// The offence of a file that does not hold.
+fn refused(file: u32, checked: Checked) -> Delivered
+    ensures { λ r. ⌜ r ≡ refusedIn file checked ⌝ }
 {
-    let planned = plan::check_plan(fplan, bitfeld, bahnhof, days);
-    match planned {
-        Planned::Wrong { number, line } => Delivered::Wrong {
-            number,
-            file: 5,
-            line,
+    match checked {
+        Checked::Refused(offence) => Delivered::Refused { file, offence },
+        // not asked for
+        Checked::Holds(a, b) => Delivered::Refused {
+            file,
+            offence: timetable::offence_at(0, 0),
         },
-        Planned::Services { count, words } => Delivered::Holds(header_of(
-            start,
-            days,
-            fields,
-            stops,
-            interchanges,
-            count,
-            words,
-        )),
     }
 }
 
@@ -286,7 +158,7 @@ fn header_of(
     services: u32,
     words: u32,
 ) -> Header
-    requires { ⌜ (fields ≤ 16777216) × (stops ≤ 16777216) × (interchanges ≤ 16777216) × (words ≤ 251658240) ⌝ }
+    requires { ⌜ (fields ≤ mostFileBytes) × (stops ≤ mostFileBytes) × (interchanges ≤ mostFileBytes) × (words ≤ mostPlanWords) ⌝ }
     ensures { λ r. ⌜ r ≡ headerBy start days fields stops interchanges services words ⌝ }
 {
     let first = HEADER_WORDS as u32

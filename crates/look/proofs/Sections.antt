@@ -15,7 +15,7 @@ use Rattle.bitfield.specs.BitField.{bit, runsOn}
 use Rattle.bitfield.proofs.Fill.{filled-none, twelve-next, twelve-done}
 use Rattle.timetable.specs.Delivery.{BitField, StopRecord, Interchange}
 use Rattle.timetable.specs.Files.{hasStop}
-use Rattle.timetable.specs.Checks.{fieldKnown, runsBy, fieldRuns}
+use Rattle.timetable.specs.Legs.{fieldKnown, runsBy, fieldRuns}
 use Rattle.timetable.specs.Table.{rowsIn, bitFieldAt, stopAt, interchangeAt, tableOf}
 use Rattle.timetable.specs.Questions.{interchangeBy, interchangeAtStop}
 use Rattle.timetable.proofs.Rows.{one-row}

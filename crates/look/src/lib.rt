@@ -17,9 +17,9 @@ ghost use Prim.Native.Nat.{ℕ, _+_, _*_, _≤_, _<_};
 ghost use lib.ListN.{length, drop, take};
 ghost use Rattle.bitfield.specs.BitField.{runsOn};
 ghost use Rattle.timetable.specs.Files.{hasStop};
-ghost use Rattle.timetable.specs.Checks.{fieldKnown, fieldRuns};
-ghost use Rattle.timetable.specs.Load.{headerSize, bitFieldSize, stopSize};
-ghost use Rattle.timetable.specs.Table.{word, interchangeAt, tableOf};
+ghost use Rattle.timetable.specs.Legs.{fieldKnown, fieldRuns};
+ghost use Rattle.timetable.specs.Layout.{headerSize, bitFieldSize, stopSize, interchangeSize, mostPeriodDays};
+ghost use Rattle.timetable.specs.Table.{bitFields#, stops#, services#, interchangeAt, tableOf};
 ghost use Rattle.timetable.specs.Questions.{datedBy, interchangeAtStop};
 ghost use Rattle.table.specs.Whole.{Whole};
 ghost use Rattle.look.specs.Look.{placeOf, servicePlace, timesOf, periodDay, datedAsked};
@@ -86,7 +86,7 @@ fn in_period(start: u32, n: u32, date: Date) -> PeriodDay
 pub fn field_words(w: &[u32], number: u32) -> Field
     requires { ⌜ Whole (now w) ⌝ }
     ensures known { λ r. ⌜ r .known ≡ fieldKnown number (tableOf (now (w .entry)) .fields) ⌝ }
-    ensures days { λ r. ⌜ ((d : ℕ) → d < 380 → runsOn (r .words) d ≡ fieldRuns (tableOf (now (w .entry)) .fields) number d) ⌝ }
+    ensures days { λ r. ⌜ ((d : ℕ) → d < mostPeriodDays → runsOn (r .words) d ≡ fieldRuns (tableOf (now (w .entry)) .fields) number d) ⌝ }
 {
     if number == 0 {
         let words = bitfield::all_bits();
@@ -106,7 +106,7 @@ pub fn field_words(w: &[u32], number: u32) -> Field
 
 // Whether a bit field runs on day d of the period.
 pub fn field_runs(field: Field, d: u32) -> bool
-    requires { ⌜ d < 380 ⌝ }
+    requires { ⌜ d < mostPeriodDays ⌝ }
     ensures { λ r. ⌜ r ≡ runsOn (field .words) d ⌝ }
 {
     let words = field.words;
@@ -155,7 +155,7 @@ pub fn interchange_at(w: &[u32], stop: u32) -> Times
 
 // The times of the interchange record at a place.
 fn times_at(w: &[u32], p: usize) -> Times
-    requires { ⌜ p + 3 ≤ length (now w) ⌝ }
+    requires { ⌜ p + interchangeSize ≤ length (now w) ⌝ }
     ensures { λ r. ⌜ r ≡ timesOf (interchangeAt (drop p (now (w .entry)))) ⌝ }
 {
     Times {
@@ -167,7 +167,7 @@ fn times_at(w: &[u32], p: usize) -> Times
 // Where the stops begin.
 fn stops_place(w: &[u32]) -> usize
     requires { ⌜ Whole (now w) ⌝ }
-    ensures { λ r. ⌜ r ≡ headerSize + bitFieldSize * word (now (w .entry)) 3 ⌝ }
+    ensures { λ r. ⌜ r ≡ headerSize + bitFieldSize * bitFields# (now (w .entry)) ⌝ }
 {
     HEADER_WORDS + BIT_FIELD_WORDS * table::size(w[BIT_FIELDS_AT])
 }
@@ -175,7 +175,7 @@ fn stops_place(w: &[u32]) -> usize
 // Where the interchange records begin.
 fn interchanges_place(w: &[u32]) -> usize
     requires { ⌜ Whole (now w) ⌝ }
-    ensures { λ r. ⌜ r ≡ headerSize + bitFieldSize * word (now (w .entry)) 3 + stopSize * word (now (w .entry)) 4 ⌝ }
+    ensures { λ r. ⌜ r ≡ headerSize + bitFieldSize * bitFields# (now (w .entry)) + stopSize * stops# (now (w .entry)) ⌝ }
 {
     stops_place(w) + STOP_WORDS * table::size(w[STOPS_AT])
 }
@@ -184,7 +184,7 @@ fn interchanges_place(w: &[u32]) -> usize
 
 // Where the record of the i-th service begins.
 fn service_place(w: &[u32], i: u32) -> usize
-    requires { ⌜ Whole (now w) × (i < word (now w) 6) ⌝ }
+    requires { ⌜ Whole (now w) × (i < services# (now w)) ⌝ }
     ensures { λ r. ⌜ r ≡ servicePlace (now (w .entry)) i ⌝ }
 {
     let mut p = table::size(w[FIRST_SERVICE_AT]);
@@ -198,7 +198,7 @@ fn service_place(w: &[u32], i: u32) -> usize
 
 // The words from the record of the i-th service on.
 pub fn service_words(w: &[u32], i: u32) -> &[u32]
-    requires { ⌜ Whole (now w) × (i < word (now w) 6) ⌝ }
+    requires { ⌜ Whole (now w) × (i < services# (now w)) ⌝ }
     ensures { λ r. ⌜ now r ≡ drop (servicePlace (now (w .entry)) i) (now (w .entry)) ⌝ }
 {
     &w[service_place(w, i)..]

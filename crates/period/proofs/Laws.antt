@@ -1,15 +1,13 @@
--- Laws of ECKDATEN's three lines. Assumes nothing.
-use mathlib.Core.Path.{_≡_, refl, sym, _∙_}
+-- ECKDATEN line by line, and the needs of reading it. Assumes nothing.
+use mathlib.Core.Path.{_≡_, refl, ap, sym, _∙_}
 use mathlib.Core.List.{List, [], _∷_}
-use mathlib.Core.Bool.{Bool, true, false, cond}
-use mathlib.Core.Option.{Option, none, some}
-use Prim.Native.Nat.{ℕ, _+_, _-_, _≤_, _<_}
+use mathlib.Core.Option.{none, some}
+use Prim.Native.Nat.{ℕ, _+_, _-_, _^_, _≤_, _<_}
 use native.Mathlib.Omega.{arith}
+use native.Mathlib.Decide.{decLt}
 use lib.ListN.{length, take, drop}
-use lib.Dec.{eqb, ltb}
-use borrow.Author.Tests.{eq-eqb, ne-eqb}
-use Rattle.base.proofs.Laws.{tests}
-use Rattle.lines.specs.Lines.{Line, linesFrom, linesOf, cutAt}
+use Rattle.base.proofs.Laws.{apart, tests}
+use Rattle.lines.specs.Lines.{Line, linesAt, linesOf, cutAt}
 use Rattle.lines.specs.declared.Cut.{Cut}
 use Rattle.lines.proofs.Laws.{cutting, lines-none, walk}
 use Rattle.calendar.specs.Calendar.{dateIn, periodOf}
@@ -17,142 +15,190 @@ use Rattle.calendar.specs.declared.Date.{Date}
 use Rattle.calendar.specs.declared.Date.the-variants.{Day, NoSuchDate}
 use Rattle.calendar.specs.declared.Period.{Period as PeriodOf}
 use Rattle.calendar.specs.declared.Period.the-variants.{Days, NoPeriod}
-use Rattle.forms.specs.Form.{formOf, fits}
+use Rattle.calendar.proofs.Bounds.{days-le}
+use Rattle.forms.specs.Form.{formOf}
+use Rattle.forms.specs.Columns.{dateColumns}
 use Rattle.forms.specs.declared.Form.{Form}
 use Rattle.forms.specs.declared.Form.the-variants.{Fits, Broken}
-use Rattle.forms.specs.Columns.{dateColumns}
-use Rattle.timetable.specs.Delivery.{Period}
-use Rattle.timetable.specs.Offences.{Offence, orElse, when, _<|>_, first}
-use Rattle.timetable.specs.Files.{dayNumber, dateOffence, dateLineOffence, periodOffence, daysIn, periodLineOffence, periodFirst, periodIn}
-use Rattle.period.specs.Read.{readBy, lasting, readThird, readSecond}
-use Rattle.period.specs.declared.PeriodRead.{PeriodRead}
-use Rattle.period.specs.declared.PeriodRead.the-variants.{Lasts, Wrong}
+use Rattle.timetable.specs.Layout.{mostFileBytes, mostPeriodDays}
+use Rattle.timetable.specs.Offences.{offenceAt, _<|>_, first, checkedBy}
+use Rattle.timetable.specs.Files.{dayNumber, daysIn, dateLineOffence, periodFirst, periodIn}
+use Rattle.timetable.specs.declared.Offence.{Offence}
+use Rattle.timetable.specs.declared.Checked.{Checked}
+use Rattle.timetable.specs.declared.Checked.the-variants.{Holds, Refused}
+use Rattle.timetable.proofs.Offences.{checked-holds, checked-refused}
+use Rattle.period.specs.Dates.{dateOf, dateAt}
 
--- ---- the needs of `third_line` and `second_line`, for `search reads`
+-- "A period of n days has 1 to 380": no file gives more
+pub period-short : (ls : List Line) → periodIn ls .days ≤ mostPeriodDays
+period-short [] = omega arith
+period-short (s ∷ []) = omega arith
+period-short (s ∷ e ∷ ls) = go (periodOf a b) refl
+  where
+    a : ℕ
+    a = dayNumber (dateIn (s .text))
 
--- where a line is missing
-module _ (f : List ℕ) (at : ℕ) (h : length f ≤ at) (start : ℕ) where
-  pub no-third : (days : ℕ) → Wrong 2 3 ≡ readThird start days (linesFrom 3 at (drop at f))
-  unfolding readThird
-  no-third days = rw (lines-none f at 3 h) refl
+    b : ℕ
+    b = dayNumber (dateIn (e .text))
 
-  pub no-second : Wrong 2 2 ≡ readSecond start (linesFrom 2 at (drop at f))
-  unfolding readSecond
-  no-second = rw (lines-none f at 2 h) refl
+    go : (p : PeriodOf) → periodOf a b ≡ p → daysIn p ≤ mostPeriodDays
+    go (Days n) k = days-le a b n k
+    go NoPeriod k = omega arith
 
--- line n, cut at the place `at`, and the lines after it
-turn : (f : List ℕ) (at n m : ℕ) (r : Cut) → at < length f → r ≡ cutAt f at n → n + 1 ≡ m
-    → linesFrom n at (drop at f) ≡ record { no = n; start = at; text = take (r .stop - at) (drop at f) } ∷ linesFrom m (r .next) (drop (r .next) f)
-turn f at n m r h e k = let c = cutting f at n r h e in c .step ∙ rw (c .count ∙ k) refl
+-- ---- a line that has to be a date, for `search dates`
 
-module _ (f : List ℕ) (at : ℕ) (r : Cut) (h : at < length f) where
-  pub fourth : (start days : ℕ) → r ≡ cutAt f at 3 → r .next < length f → Wrong 3 4 ≡ readThird start days (linesFrom 3 at (drop at f))
-  unfolding readThird
-  fourth start days e l = rw (turn f at 3 4 r h e refl, turn f (r .next) 4 5 (cutAt f (r .next) 4) l refl refl) refl
+pub no-date : (f : List ℕ) (at n : ℕ) (x : Offence) → length f ≤ at → x ≡ offenceAt 2 n → Refused x ≡ dateAt f at n
+unfolding dateAt
+no-date f at n x h z = rw (lines-none f at n h) (ap Refused z)
 
-  pub third : (start days : ℕ) → r ≡ cutAt f at 3 → length f ≤ r .next → Lasts start days ≡ readThird start days (linesFrom 3 at (drop at f))
-  unfolding readThird
-  third start days e l = rw (turn f at 3 4 r h e refl, lines-none f (r .next) 4 l) refl
-
-  -- o is the line's own offence
-  module _ (o : ℕ) (d : o ≡ dateOffence (fits dateColumns (take (r .stop - at) (drop at f))) (dateIn (take (r .stop - at) (drop at f)))) where
-    module _ (start : ℕ) (e : r ≡ cutAt f at 2) where
-      pub second-wrong : (o ≡ 0 → ⊥) → Wrong o 2 ≡ readSecond start (linesFrom 2 at (drop at f))
-      unfolding readSecond
-      second-wrong k = rw (turn f at 2 3 r h e refl, ← d, ne-eqb o 0 k) refl
-
-      -- p is the period up to its day
-      module _ (z : o ≡ 0) (p : PeriodOf) (end : ℕ) (x : end ≡ dayNumber (dateIn (take (r .stop - at) (drop at f)))) (y : p ≡ periodOf start end) where
-        pub second-none : p ≡ NoPeriod → Wrong 5 2 ≡ readSecond start (linesFrom 2 at (drop at f))
-        unfolding readSecond
-        second-none q = rw (turn f at 2 3 r h e refl, ← d, eq-eqb o 0 z, ← x, sym y ∙ q) refl
-
-        pub second-days : (n : ℕ) (g : PeriodRead) → p ≡ Days n → g ≡ readThird start n (linesFrom 3 (r .next) (drop (r .next) f)) → g ≡ readSecond start (linesFrom 2 at (drop at f))
-        unfolding readSecond
-        second-days n g q v = rw (turn f at 2 3 r h e refl, ← d, eq-eqb o 0 z, ← x, sym y ∙ q) v
-
-pub ruleset reads = (tests, walk, no-third, no-second, fourth, third, second-wrong, second-none, second-days)
-
--- ---- the needs of `date_offence` and `day_number`, for `search dates`: g is the form of the line, d its date
-
-module _ (l : List ℕ) (g : Form) (e : g ≡ formOf dateColumns l) where
-  pub form-broken : (c : ℕ) → g ≡ Broken c → 4 ≡ dateOffence (fits dateColumns l) (dateIn l)
-  form-broken c k = rw (sym e ∙ k) refl
-
-  pub date-none : (d : Date) → g ≡ Fits → d ≡ dateIn l → d ≡ NoSuchDate → 5 ≡ dateOffence (fits dateColumns l) (dateIn l)
-  date-none d k y z = rw (sym e ∙ k, sym y ∙ z) refl
-
-  pub date-day : (d : Date) (n : ℕ) → g ≡ Fits → d ≡ dateIn l → d ≡ Day n → 0 ≡ dateOffence (fits dateColumns l) (dateIn l)
-  date-day d n k y z = rw (sym e ∙ k, sym y ∙ z) refl
-
-module _ (l : List ℕ) (d : Date) (y : d ≡ dateIn l) where
-  pub number-none : d ≡ NoSuchDate → 0 ≡ dayNumber (dateIn l)
-  number-none z = rw (sym y ∙ z) refl
-
-  pub number-day : (n : ℕ) → d ≡ Day n → n ≡ dayNumber (dateIn l)
-  number-day n z = rw (sym y ∙ z) refl
-
-pub ruleset dates = (tests, form-broken, date-none, date-day, number-none, number-day)
-
--- ---- the whole file, line by line
-
-read-none : readBy (periodFirst []) (periodIn []) ≡ Wrong 2 1
-unfolding periodFirst first _<|>_
-read-none = refl
-
-read-wrong : (s : Line) (ls : List Line) → (dateLineOffence s ≡ 0 → ⊥) → readBy (periodFirst (s ∷ ls)) (periodIn (s ∷ ls)) ≡ Wrong (dateLineOffence s) (s .no)
-unfolding periodFirst first _<|>_
-read-wrong s ls k = rw (ne-eqb (dateLineOffence s) 0 k) refl
-
--- after lines 1 and 2
-third-on : (s e : Line) (ls : List Line) (p : Period)
-    → readBy (orElse (first periodLineOffence (s ∷ e ∷ []) ls) (when (ltb (length (s ∷ e ∷ ls)) 3) 2 (length (s ∷ e ∷ ls) + 1))) p ≡ readThird (p .start) (p .days) ls
-unfolding first readThird
-third-on s e [] p = refl
-third-on s e (t ∷ []) p = refl
-third-on s e (t ∷ l ∷ ls) p = refl
-
--- after line 1, which is right: a is the own offence of line 2, p the period
-second-on : (a start : ℕ) (p : PeriodOf) (e : Line) (ls : List Line) (rest last : Option Offence)
-    → ((m : ℕ) → readBy (orElse rest last) (record { start = start; days = m }) ≡ readThird start m ls)
-    → (t : Bool) → eqb a 0 ≡ t
-    → readBy (orElse (orElse (cond (eqb (cond t (periodOffence p) a) 0) none (some (cond t (periodOffence p) a, e .no))) rest) last) (record { start = start; days = daysIn p })
-    ≡ cond t (lasting start p e ls) (Wrong a (e .no))
-second-on a start (Days n) e ls rest last v true k = v n
-second-on a start NoPeriod e ls rest last v true k = refl
-second-on a start p e ls rest last v false k = rw k refl
-
-read-on : (s : Line) (ls : List Line) → dateLineOffence s ≡ 0 → readBy (periodFirst (s ∷ ls)) (periodIn (s ∷ ls)) ≡ readSecond (dayNumber (dateIn (s .text))) ls
-unfolding periodFirst first _<|>_ readSecond
-read-on s [] k = rw (eq-eqb (dateLineOffence s) 0 k) refl
-read-on s (e ∷ ls) k =
-    rw (eq-eqb (dateLineOffence s) 0 k)
-    (second-on (dateLineOffence e) (dayNumber (dateIn (s .text))) (periodOf (dayNumber (dateIn (s .text))) (dayNumber (dateIn (e .text)))) e ls _ _
-    (λ m. third-on s e ls (record { start = dayNumber (dateIn (s .text)); days = m }))
-    (eqb (dateLineOffence e) 0) refl)
-
--- ---- the needs of `read_period`, for `search wholes`
-
-pub no-first : (f : List ℕ) → length f < 1 → Wrong 2 1 ≡ readBy (periodFirst (linesOf f)) (periodIn (linesOf f))
-no-first f h = rw (lines-none f 0 1 (omega arith)) (sym read-none)
-
-module _ (f : List ℕ) (r : Cut) (h : 1 ≤ length f) (c : r ≡ cutAt f 0 1) where
-  -- line 1
+-- r is the line cut there, g its form, d its date
+module _ (f : List ℕ) (at n : ℕ) (r : Cut) (h : at < length f) (e : r ≡ cutAt f at n) where
   abbrev text : List ℕ
-  text = take (r .stop - 0) (drop 0 f)
+  text = take (r .stop - at) (drop at f)
 
-  lines-are : linesOf f ≡ record { no = 1; start = 0; text = text } ∷ linesFrom 2 (r .next) (drop (r .next) f)
-  lines-are = turn f 0 1 2 r (omega arith) c refl
+  pub place-fits : length f ≤ mostFileBytes → r .next < 2 ^ 32
+  place-fits l = omega (arith, cutting f at n r h e .inside)
 
-  pub first-high : r .stop ≤ length f
-  first-high = cutting f 0 1 r (omega arith) c .high
+  module _ (g : Form) (q : g ≡ formOf dateColumns text) where
+    pub date-broken : (c : ℕ) → g ≡ Broken c → Refused (record { number = 4; line = n; column = c }) ≡ dateAt f at n
+    unfolding dateAt _<|>_
+    date-broken c k = rw (cutting f at n r h e .step, sym q ∙ k) refl
 
-  module _ (o : ℕ) (d : o ≡ dateOffence (fits dateColumns text) (dateIn text)) where
-    pub first-wrong : (o ≡ 0 → ⊥) → Wrong o 1 ≡ readBy (periodFirst (linesOf f)) (periodIn (linesOf f))
-    first-wrong k = rw (lines-are, d) (sym (read-wrong _ _ (rw d at k)))
+    module _ (k : g ≡ Fits) (d : Date) (y : d ≡ dateIn text) where
+      pub date-none : (x : Offence) → d ≡ NoSuchDate → x ≡ offenceAt 5 n → Refused x ≡ dateAt f at n
+      unfolding dateAt _<|>_
+      date-none x z v = rw (cutting f at n r h e .step, sym q ∙ k, sym y ∙ z) (ap Refused v)
 
-    pub first-on : (start : ℕ) (g : PeriodRead) → o ≡ 0 → start ≡ dayNumber (dateIn text) → g ≡ readSecond start (linesFrom 2 (r .next) (drop (r .next) f))
-        → g ≡ readBy (periodFirst (linesOf f)) (periodIn (linesOf f))
-    first-on start g k x v = rw lines-are (v ∙ rw x (sym (read-on _ _ (sym d ∙ k))))
+      pub date-day : (m : ℕ) → d ≡ Day m → Holds m (r .next) ≡ dateAt f at n
+      unfolding dateAt _<|>_
+      date-day m z = rw (cutting f at n r h e .step, sym q ∙ k, sym y ∙ z, ← e) refl
 
-pub ruleset wholes = (tests, no-first, first-high, first-wrong, first-on)
+pub ruleset dates = (tests, walk, no-date, place-fits, date-broken, date-none, date-day)
+
+-- ---- the lines, one after the other: what the file answers
+
+abbrev answered : List Line → Checked
+answered ls = checkedBy (periodFirst ls) (periodIn ls .start) (periodIn ls .days)
+
+answered-none : answered [] ≡ Refused (offenceAt 2 1)
+unfolding periodFirst first _<|>_
+answered-none = refl
+
+module _ (s : Line) where
+  answered-start : (ls : List Line) (x : Offence) → dateLineOffence s ≡ some x → answered (s ∷ ls) ≡ Refused x
+  unfolding periodFirst first _<|>_
+  answered-start ls x o = rw o refl
+
+  module _ (o : dateLineOffence s ≡ none) where
+    answered-one : answered (s ∷ []) ≡ Refused (offenceAt 2 2)
+    unfolding periodFirst first _<|>_
+    answered-one = rw o refl
+
+    module _ (e : Line) where
+      answered-end : (ls : List Line) (x : Offence) → dateLineOffence e ≡ some x → answered (s ∷ e ∷ ls) ≡ Refused x
+      unfolding periodFirst first _<|>_
+      answered-end ls x k = rw (o, k) refl
+
+      module _ (k : dateLineOffence e ≡ none) where
+        abbrev period : PeriodOf
+        period = periodOf (dayNumber (dateIn (s .text))) (dayNumber (dateIn (e .text)))
+
+        answered-no : (ls : List Line) → period ≡ NoPeriod → answered (s ∷ e ∷ ls) ≡ Refused (offenceAt 5 (e .no))
+        unfolding periodFirst first _<|>_
+        answered-no ls p = rw (o, k, p) refl
+
+        module _ (n : ℕ) (p : period ≡ Days n) where
+          answered-two : answered (s ∷ e ∷ []) ≡ Refused (offenceAt 2 3)
+          unfolding periodFirst first _<|>_
+          answered-two = rw (o, k, p) refl
+
+          answered-three : (t : Line) → answered (s ∷ e ∷ t ∷ []) ≡ Holds (dayNumber (dateIn (s .text))) n
+          unfolding periodFirst first _<|>_
+          answered-three t = rw (o, k, p) refl
+
+          answered-four : (t l : Line) (ls : List Line) → answered (s ∷ e ∷ t ∷ l ∷ ls) ≡ Refused (offenceAt 3 (l .no))
+          unfolding periodFirst first _<|>_
+          answered-four t l ls = rw (o, k, p) refl
+
+-- ---- the needs of `check_period`, for `search periods`
+
+-- line n, which starts at a place, is a date, and the lines after it start at the next
+record Dated (f : List ℕ) (at n day next : ℕ) : Type 0 where
+  line : Line
+  right : dateLineOffence line ≡ none
+  is-day : dayNumber (dateIn (line .text)) ≡ day
+  lines : linesAt f at n ≡ line ∷ linesAt f next (n + 1)
+  number : line .no ≡ n
+
+module _ (f : List ℕ) (at n : ℕ) (r : Checked) (e : r ≡ dateAt f at n) where
+  -- what is answered where that line is none, or not a date
+  refused : (x : Offence) → r ≡ Refused x → dateOf (linesAt f at n) n (cutAt f at n .next) ≡ Refused x
+  unfolding dateAt
+  refused x y = sym e ∙ y
+
+  dated : (day next : ℕ) → r ≡ Holds day next → Dated f at n day next
+  unfolding dateAt
+  dated day next y = elim (decLt at (length f)) [ yes h ↦ inside h | no h ↦ apart (outside (omega arith)) ]
+    where
+      outside : length f ≤ at → _≡_ {A = ℕ} 0 1
+      outside h = let k : Holds day next ≡ Refused (offenceAt 2 n) = sym y ∙ e ∙ rw (lines-none f at n h) refl in cc
+
+      inside : at < length f → Dated f at n day next
+      inside h =
+          let c = cutting f at n (cutAt f at n) h refl in
+          let l : Line = record { no = n; start = at; text = take (cutAt f at n .stop - at) (drop at f) } in
+          let k : r ≡ checkedBy (dateLineOffence l) (dayNumber (dateIn (l .text))) (cutAt f at n .next) = e ∙ rw (c .step) refl in
+          let q = checked-holds (dateLineOffence l) _ _ r k day next y in
+          record { line = l; right = q .0; is-day = q .1; lines = c .step ∙ rw (c .count, q .2) refl; number = refl }
+
+module _ (f : List ℕ) (r : Checked) (e : r ≡ dateAt f 0 1) where
+  pub first-out : (x : Offence) → r ≡ Refused x → r ≡ answered (linesOf f)
+  first-out x y = y ∙ go (linesOf f) (refused f 0 1 r e x y)
+    where
+      go : (ls : List Line) → dateOf ls 1 (cutAt f 0 1 .next) ≡ Refused x → Refused x ≡ answered ls
+      go [] k = sym k ∙ sym answered-none
+      go (s ∷ ls) k = sym (answered-start s ls x (checked-refused (dateLineOffence s) _ _ _ refl x k))
+
+  -- the second line starts at a place
+  module _ (start at : ℕ) (y : r ≡ Holds start at) where
+    one : Dated f 0 1 start at
+    one = dated f 0 1 r e start at y
+
+    module _ (r₂ : Checked) (e₂ : r₂ ≡ dateAt f at 2) where
+      pub second-out : (x : Offence) → r₂ ≡ Refused x → r₂ ≡ answered (linesOf f)
+      second-out x k = k ∙ rw (one .lines) (go (linesAt f at 2) (refused f at 2 r₂ e₂ x k))
+        where
+          go : (ls : List Line) → dateOf ls 2 (cutAt f at 2 .next) ≡ Refused x → Refused x ≡ answered (one .line ∷ ls)
+          go [] v = sym v ∙ sym (answered-one (one .line) (one .right))
+          go (s ∷ ls) v = sym (answered-end (one .line) (one .right) s ls x (checked-refused (dateLineOffence s) _ _ _ refl x v))
+
+      -- the third line starts at a place, and p is the period
+      module _ (end next : ℕ) (y₂ : r₂ ≡ Holds end next) (p : PeriodOf) (q : p ≡ periodOf start end) where
+        two : Dated f at 2 end next
+        two = dated f at 2 r₂ e₂ end next y₂
+
+        lines-are : linesOf f ≡ one .line ∷ two .line ∷ linesAt f next 3
+        lines-are = one .lines ∙ rw (two .lines) refl
+
+        period-is : periodOf (dayNumber (dateIn (one .line .text))) (dayNumber (dateIn (two .line .text))) ≡ p
+        period-is = sym (q ∙ rw (one .is-day, two .is-day) refl)
+
+        pub days-none : (x : Offence) → p ≡ NoPeriod → x ≡ offenceAt 5 2 → Refused x ≡ answered (linesOf f)
+        days-none x k z = ap Refused z ∙ rw lines-are (sym (answered-no (one .line) (one .right) (two .line) (two .right) _ (period-is ∙ k) ∙ rw (two .number) refl))
+
+        module _ (n : ℕ) (k : p ≡ Days n) where
+          pub no-third : (x : Offence) → length f ≤ next → x ≡ offenceAt 2 3 → Refused x ≡ answered (linesOf f)
+          no-third x l z = ap Refused z ∙ rw (lines-are, lines-none f next 3 l) (sym (answered-two (one .line) (one .right) (two .line) (two .right) n (period-is ∙ k)))
+
+          -- line 3 is cut
+          module _ (c : Cut) (h : next < length f) (g : c ≡ cutAt f next 3) where
+            third-is : linesAt f next 3 ≡ record { no = 3; start = next; text = take (c .stop - next) (drop next f) } ∷ linesAt f (c .next) 4
+            third-is = cutting f next 3 c h g .step ∙ rw (cutting f next 3 c h g .count) refl
+
+            pub fourth : (x : Offence) → c .next < length f → x ≡ offenceAt 3 4 → Refused x ≡ answered (linesOf f)
+            fourth x l z = ap Refused z ∙ rw (lines-are, third-is, cutting f (c .next) 4 (cutAt f (c .next) 4) l refl .step) (sym (answered-four (one .line) (one .right) (two .line) (two .right) n (period-is ∙ k) _ _ _))
+
+            pub third : length f ≤ c .next → Holds start n ≡ answered (linesOf f)
+            third l = rw (lines-are, third-is, lines-none f (c .next) 4 l) (sym (answered-three (one .line) (one .right) (two .line) (two .right) n (period-is ∙ k) _ ∙ rw (one .is-day) refl))
+
+pub ruleset periods = (tests, walk, first-out, second-out, days-none, no-third, fourth, third)

@@ -2,92 +2,70 @@
 use calendar::Date;
 use calendar::Period;
 use forms::Form;
+use forms::LineKind;
+use timetable::Checked;
+use timetable::Offence;
 ghost use mathlib.Core.Path.{_≡_};
-ghost use Rattle.calendar.specs.Calendar.{dateIn};
-ghost use Rattle.forms.specs.Form.{fits};
-ghost use Rattle.forms.specs.Columns.{dateColumns};
-ghost use Rattle.lines.specs.Lines.{linesOf, linesAt};
-ghost use Rattle.timetable.specs.Files.{dayNumber, dateOffence, periodFirst, periodIn};
-ghost use Rattle.period.specs.Read.{readBy, readThird, readSecond};
+ghost use Prim.Native.Nat.{_≤_};
+ghost use lib.ListN.{length};
+ghost use Rattle.lines.specs.Lines.{linesOf};
+ghost use Rattle.timetable.specs.Layout.{mostFileBytes};
+ghost use Rattle.timetable.specs.Offences.{checkedBy};
+ghost use Rattle.timetable.specs.Files.{periodFirst, periodIn};
+ghost use Rattle.period.specs.Dates.{dateAt};
 
-// The first day and the number of days, or number and line of the first offence.
-pub enum PeriodRead {
-    Lasts { start: u32, days: u32 },
-    Wrong { number: u32, line: u32 },
-}
-
-pub fn read_period(f: &[u8]) -> PeriodRead
-    ensures { λ r. ⌜ r ≡ readBy (periodFirst (linesOf (now (f .entry)))) (periodIn (linesOf (now (f .entry)))) ⌝ }
+// The first day and the number of days. Line 3 says nothing, and is the last.
+pub fn check_period(f: &[u8]) -> Checked
+    requires { ⌜ length (now f) ≤ mostFileBytes ⌝ }
+    ensures { λ r. ⌜ r ≡ checkedBy (periodFirst (linesOf (now (f .entry)))) (periodIn (linesOf (now (f .entry))) .start) (periodIn (linesOf (now (f .entry))) .days) ⌝ }
 {
-    if f.len() < 1 {
-        return PeriodRead::Wrong { number: 2, line: 1 };
+    let first = date_line(f, 0, 1);
+    let Checked::Holds(start, second_at) = first else {
+        return first;
+    };
+    let second = date_line(f, second_at as usize, 2);
+    let Checked::Holds(end, third_at) = second else {
+        return second;
+    };
+    let period = calendar::period_of(start, end);
+    let Period::Days(days) = period else {
+        return Checked::Refused(timetable::offence_at(5, 2));
+    };
+    let at = third_at as usize;
+    if f.len() <= at {
+        return Checked::Refused(timetable::offence_at(2, 3));
     }
-    let cut = reader::line_from(f, 0, 1);
-    let stop = cut.stop;
-    let text = &f[0..stop];
-    let o = date_offence(text);
-    if o != 0 {
-        return PeriodRead::Wrong { number: o, line: 1 };
+    let third = reader::line_from(f, at, 3);
+    if third.next < f.len() {
+        return Checked::Refused(timetable::offence_at(3, 4));
     }
-    second_line(f, cut.next, day_number(text))
+    Checked::Holds(start, days)
 }
 
-// From line 2 on, which starts at `at`.
-fn second_line(f: &[u8], at: usize, start: u32) -> PeriodRead
-    ensures { λ r. ⌜ r ≡ readSecond start (linesAt (now (f .entry)) at 2) ⌝ }
+// Line `no`, which starts at `at` and has to be a date: its day number and the place of the next line.
+fn date_line(f: &[u8], at: usize, no: u32) -> Checked
+    requires { ⌜ length (now f) ≤ mostFileBytes ⌝ }
+    requires { ⌜ no ≤ 2 ⌝ }
+    ensures { λ r. ⌜ r ≡ dateAt (now (f .entry)) at no ⌝ }
 {
     if f.len() <= at {
-        return PeriodRead::Wrong { number: 2, line: 2 };
+        return Checked::Refused(timetable::offence_at(2, no));
     }
-    let cut = reader::line_from(f, at, 2);
+    let cut = reader::line_from(f, at, no);
+    let next = cut.next as u32;
     let stop = cut.stop;
     let text = &f[at..stop];
-    let o = date_offence(text);
-    if o != 0 {
-        return PeriodRead::Wrong { number: o, line: 2 };
+    let form = forms::line_form(LineKind::Date, text);
+    if let Form::Broken(column) = form {
+        return Checked::Refused(Offence {
+            number: 4,
+            line: no,
+            column,
+        });
     }
-    let p = calendar::period_of(start, day_number(text));
-    let Period::Days(days) = p else {
-        return PeriodRead::Wrong { number: 5, line: 2 };
-    };
-    third_line(f, cut.next, start, days)
-}
-
-// From line 3 on, which starts at `at`.
-fn third_line(f: &[u8], at: usize, start: u32, days: u32) -> PeriodRead
-    ensures { λ r. ⌜ r ≡ readThird start days (linesAt (now (f .entry)) at 3) ⌝ }
-{
-    if f.len() <= at {
-        return PeriodRead::Wrong { number: 2, line: 3 };
-    }
-    let cut = reader::line_from(f, at, 3);
-    if cut.next < f.len() {
-        return PeriodRead::Wrong { number: 3, line: 4 };
-    }
-    PeriodRead::Lasts { start, days }
-}
-
-// The own offence of a line that has to be a date: 4, 5 or none (0).
-fn date_offence(text: &[u8]) -> u32
-    ensures { λ r. ⌜ r ≡ dateOffence (fits dateColumns (now (text .entry))) (dateIn (now (text .entry))) ⌝ }
-{
-    let form = forms::date_form(text);
-    let Form::Fits = form else {
-        return 4;
-    };
     let date = calendar::date_in(text);
-    match date {
-        Date::Day(d) => 0,
-        Date::NoSuchDate => 5,
-    }
-}
-
-fn day_number(text: &[u8]) -> u32
-    ensures { λ r. ⌜ r ≡ dayNumber (dateIn (now (text .entry))) ⌝ }
-{
-    let date = calendar::date_in(text);
-    match date {
-        Date::Day(d) => d,
-        Date::NoSuchDate => 0,
-    }
+    let Date::Day(day) = date else {
+        return Checked::Refused(timetable::offence_at(5, no));
+    };
+    Checked::Holds(day, next)
 }

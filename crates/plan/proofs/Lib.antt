@@ -1,2 +1,4 @@
-pub mod Laws
-pub mod Answers
+pub mod Within
+pub mod Sizes
+pub mod Putting
+pub mod Checking

@@ -1,66 +1,180 @@
-// FPLAN, service by service: its first offence, or how many services it has and the words that they take.
-use blocks::Head;
-use service::Checked;
+// FPLAN service by service: once to check it, and once to write its words. The words lent for the drafts are made once for all services.
+use reading::Head;
+use service::ServiceCheck;
+use timetable::Checked;
 ghost use mathlib.Core.Path.{_≡_};
-ghost use Prim.Native.Nat.{_≤_};
+ghost use mathlib.Core.Bool.{true};
+ghost use mathlib.Core.Option.{none};
+ghost use Prim.Native.Nat.{_+_, _≤_, _<_};
 ghost use lib.ListN.{length};
 ghost use Rattle.lines.specs.Lines.{linesOf, linesAt};
+ghost use Rattle.words.specs.Words.{write};
+ghost use Rattle.timetable.specs.Layout.{mostFileBytes, mostPeriodDays};
+ghost use Rattle.timetable.specs.Offences.{checkedBy};
 ghost use Rattle.timetable.specs.Files.{bitFieldsIn, stopsIn};
-ghost use Rattle.timetable.specs.Service.{blocks};
-ghost use Rattle.timetable.specs.Checks.{servicesFirst, planFirst};
-ghost use Rattle.blocks.specs.Blocks.{Boundary};
-ghost use Rattle.plan_words.specs.Services.{blockWords};
-ghost use Rattle.plan.specs.Planned.{plannedBy};
+ghost use Rattle.timetable.specs.Service.{blocks, serviceOf};
+ghost use Rattle.timetable.specs.Checks.{headFirst, servicesFirst, planFirst};
+ghost use Rattle.timetable.specs.Table.{serviceWords};
+ghost use Rattle.draft.specs.Draft.{callsLent, rangesLent, countsOf, Within};
+ghost use Rattle.reading.specs.Reading.{serviceAt, Boundary};
+ghost use Rattle.service.specs.Answers.{ServiceTaken};
+ghost use Rattle.plan.specs.Services.{blockWords, withinLimits};
 
-// How many services, and the words that they take; or number and line of the first offence.
-pub enum Planned {
-    Services { count: u32, words: u32 },
-    Wrong { number: u32, line: u32 },
-}
-
-pub fn check_plan(f: &[u8], bitfeld: &[u8], bahnhof: &[u8], days: u32) -> Planned
-    requires { ⌜ (length (now f) ≤ 16777216) × (days ≤ 380) ⌝ }
-    ensures { λ r. ⌜ r ≡ plannedBy (planFirst (bitFieldsIn (now (bitfeld .entry))) (stopsIn (now (bahnhof .entry))) days (linesOf (now (f .entry)))) (length (blocks (linesOf (now (f .entry))))) (length (blockWords (blocks (linesOf (now (f .entry)))))) ⌝ }
+// The first offence of FPLAN, or how many services it has and how many words they take.
+pub fn check_plan(fplan: &[u8], bitfeld: &[u8], bahnhof: &[u8], days: u32) -> Checked
+    requires { ⌜ (length (now fplan) ≤ mostFileBytes) × (days ≤ mostPeriodDays) ⌝ }
+    ensures { λ r. ⌜ r ≡ checkedBy (planFirst (bitFieldsIn (now (bitfeld .entry))) (stopsIn (now (bahnhof .entry))) days (linesOf (now (fplan .entry)))) (length (blocks (linesOf (now (fplan .entry))))) (length (blockWords (blocks (linesOf (now (fplan .entry)))))) ⌝ }
 {
-    let head = blocks::head_end(f);
+    let head = reading::head_end(fplan);
     match head {
-        Head::Stray(line) => Planned::Wrong { number: 12, line },
-        Head::Clear { end, no } => check_services(f, end, no, bitfeld, bahnhof, days),
+        Head::Stray(offence) => Checked::Refused(offence),
+        Head::Clear(start, first) => {
+            let mut calls = [0u32; draft::CALLS_LENT];
+            let mut ranges = [0u32; draft::RANGES_LENT];
+            check_services(
+                fplan,
+                start,
+                first,
+                bitfeld,
+                bahnhof,
+                days,
+                &mut calls,
+                &mut ranges,
+            )
+        }
     }
 }
 
-// The services from place `start` on, where line `first` opens one or the file ends.
+// The same of the services from place `start` on, where line `first` opens one or the file ends.
 fn check_services(
-    f: &[u8],
+    fplan: &[u8],
     start: usize,
     first: u32,
     bitfeld: &[u8],
     bahnhof: &[u8],
     days: u32,
-) -> Planned
-    requires { ⌜ (length (now f) ≤ 16777216) × (days ≤ 380) ⌝ }
-    requires { ⌜ Boundary (now f) start first ⌝ }
-    ensures { λ r. ⌜ r ≡ plannedBy (servicesFirst (bitFieldsIn (now (bitfeld .entry))) (stopsIn (now (bahnhof .entry))) days (blocks (linesAt (now (f .entry)) start first))) (length (blocks (linesAt (now (f .entry)) start first))) (length (blockWords (blocks (linesAt (now (f .entry)) start first)))) ⌝ }
+    calls: &mut [u32],
+    ranges: &mut [u32],
+) -> Checked
+    requires { ⌜ Boundary (now fplan) start first × (days ≤ mostPeriodDays) ⌝ }
+    requires { ⌜ (callsLent ≤ length (now calls)) × (rangesLent ≤ length (now ranges)) ⌝ }
+    ensures { λ r. ⌜ r ≡ checkedBy (servicesFirst (bitFieldsIn (now (bitfeld .entry))) (stopsIn (now (bahnhof .entry))) days (blocks (linesAt (now (fplan .entry)) start first))) (length (blocks (linesAt (now (fplan .entry)) start first))) (length (blockWords (blocks (linesAt (now (fplan .entry)) start first)))) ⌝ }
 {
     let mut at = start;
-    let mut no = first;
+    let mut line = first;
     let mut count: u32 = 0;
-    let mut words: u32 = 0;
-    while at < f.len() {
-        let block = blocks::block_end(f, at, no);
-        let end = block.end;
-        let c = service::check_service(&f[0..end], at, no, bitfeld, bahnhof, days);
-        match c {
-            Checked::Offends { number, line } => {
-                return Planned::Wrong { number, line };
+    let mut total: u32 = 0;
+    while at < fplan.len() {
+        let checked = service::check_service(
+            fplan,
+            at,
+            line,
+            bitfeld,
+            bahnhof,
+            days,
+            calls,
+            ranges,
+        );
+        match checked {
+            ServiceCheck::Refused(offence) => {
+                return Checked::Refused(offence);
             }
-            Checked::Takes(size) => {
-                words += size;
+            ServiceCheck::Takes { words, end, no } => {
                 count += 1;
+                total += words;
                 at = end;
-                no = block.no;
+                line = no;
             }
         }
     }
-    Planned::Services { count, words }
+    Checked::Holds(count, total)
+}
+
+// A service that was written: the words that it took, and where the next service begins (the place and the number of its *Z line, or of the
+// file's end).
+struct Put {
+    pub words: u32,
+    pub end: usize,
+    pub no: u32,
+}
+
+// Writes the words of every service into the table from place `at` on, where FPLAN has no offence.
+pub fn put_plan(fplan: &[u8], table: &mut [u32], at: usize)
+    requires { ⌜ length (now fplan) ≤ mostFileBytes ⌝ }
+    requires { ⌜ headFirst (linesOf (now fplan)) ≡ none ⌝ }
+    requires { ⌜ withinLimits (blocks (linesOf (now fplan))) ≡ true ⌝ }
+    requires { ⌜ at + length (blockWords (blocks (linesOf (now fplan)))) ≤ length (now table) ⌝ }
+    ensures { λ _. ⌜ now (table .exit) ≡ write (now (table .entry)) at (blockWords (blocks (linesOf (now (fplan .entry))))) ⌝ }
+{
+    let head = reading::head_end(fplan);
+    let Head::Clear(start, first) = head else {
+        return;
+    };
+    let mut calls = [0u32; draft::CALLS_LENT];
+    let mut ranges = [0u32; draft::RANGES_LENT];
+    put_services(fplan, start, first, &mut calls, &mut ranges, table, at);
+}
+
+// The same of the services from place `start` on, where line `first` opens one or the file ends.
+fn put_services(
+    fplan: &[u8],
+    start: usize,
+    first: u32,
+    calls: &mut [u32],
+    ranges: &mut [u32],
+    table: &mut [u32],
+    at: usize,
+)
+    requires { ⌜ Boundary (now fplan) start first ⌝ }
+    requires { ⌜ withinLimits (blocks (linesAt (now fplan) start first)) ≡ true ⌝ }
+    requires { ⌜ (callsLent ≤ length (now calls)) × (rangesLent ≤ length (now ranges)) ⌝ }
+    requires { ⌜ at + length (blockWords (blocks (linesAt (now fplan) start first))) ≤ length (now table) ⌝ }
+    ensures { λ _. ⌜ now (table .exit) ≡ write (now (table .entry)) at (blockWords (blocks (linesAt (now (fplan .entry)) start first))) ⌝ }
+{
+    let mut place = start;
+    let mut no = first;
+    let mut to = at;
+    while place < fplan.len() {
+        let put = put_service(fplan, place, no, calls, ranges, table, to);
+        to += put.words as usize;
+        place = put.end;
+        no = put.no;
+    }
+}
+
+// Writes the words of the service that begins at a place, with line `no`.
+fn put_service(
+    fplan: &[u8],
+    at: usize,
+    no: u32,
+    calls: &mut [u32],
+    ranges: &mut [u32],
+    table: &mut [u32],
+    to: usize,
+) -> Put
+    requires { ⌜ Boundary (now fplan) at no × (at < length (now fplan)) ⌝ }
+    requires { ⌜ Within (countsOf (serviceAt (now fplan) at no)) ⌝ }
+    requires { ⌜ (callsLent ≤ length (now calls)) × (rangesLent ≤ length (now ranges)) ⌝ }
+    requires { ⌜ to + length (serviceWords (serviceOf (serviceAt (now fplan) at no))) ≤ length (now table) ⌝ }
+    ensures { λ r. ⌜ ServiceTaken (now (fplan .entry)) at no (r .words) (r .end) (r .no) ⌝ }
+    ensures { λ r. ⌜ now (table .exit) ≡ write (now (table .entry)) to (serviceWords (serviceOf (serviceAt (now (fplan .entry)) at no))) ⌝ }
+{
+    let read = reading::read_again(fplan, at, no, calls, ranges);
+    let opening = read.opening;
+    let counts = read.counts;
+    let sizes = service_words::service_into(
+        opening,
+        read.line,
+        calls,
+        counts.calls,
+        ranges,
+        draft::range_count(counts),
+        table,
+        to,
+    );
+    Put {
+        words: sizes.words,
+        end: read.end,
+        no: read.no,
+    }
 }

@@ -1,6 +1,5 @@
 -- The ground's answers as numbers, and the numbers by which its classes and line kinds are asked for. Assumes nothing.
 use Prim.Native.Nat.{ℕ}
-use mathlib.Core.List.{List}
 use mathlib.Core.Bool.{Bool, cond}
 use lib.Dec.{eqb}
 use Rattle.columns.specs.declared.Class.{Class}
@@ -20,8 +19,8 @@ use Rattle.forms.specs.declared.Kind.{Kind}
 use Rattle.forms.specs.declared.Kind.the-variants.{Opening, Category, Attribute, Schedule, Other}
 use Rattle.forms.specs.declared.Form.{Form}
 use Rattle.forms.specs.declared.Form.the-variants.{Fits, Broken}
-use Rattle.forms.specs.Form.{Row}
-use Rattle.forms.specs.Columns.{dateColumns, bitFieldColumns, stopColumns, interchangeColumns, serviceColumns, categoryColumns, attributeColumns, callColumns}
+use Rattle.forms.specs.declared.LineKind.{LineKind}
+use Rattle.forms.specs.declared.LineKind.the-variants as K
 use Rattle.probe.specs.declared.Step.{Step}
 use Rattle.probe.specs.declared.Told.{Told}
 
@@ -80,14 +79,14 @@ flatForm (Broken c) = c
 abbrev pub classOf : ℕ → ℕ → Class
 classOf k m = cond (eqb k 0) Digit (cond (eqb k 1) Hex (cond (eqb k 2) Filled (Byte m)))
 
--- the columns of line kind k
-abbrev pub columnsOf : ℕ → List Row
-columnsOf k =
-    cond (eqb k 0) dateColumns
-    (cond (eqb k 1) bitFieldColumns
-    (cond (eqb k 2) stopColumns
-    (cond (eqb k 3) interchangeColumns
-    (cond (eqb k 4) serviceColumns
-    (cond (eqb k 5) categoryColumns
-    (cond (eqb k 6) attributeColumns
-    callColumns))))))
+-- line kind k, in the order of the paper's table
+abbrev pub lineKind : ℕ → LineKind
+lineKind k =
+    cond (eqb k 0) K.Date
+    (cond (eqb k 1) K.BitField
+    (cond (eqb k 2) K.Stop
+    (cond (eqb k 3) K.Interchange
+    (cond (eqb k 4) K.Opening
+    (cond (eqb k 5) K.Category
+    (cond (eqb k 6) K.Attribute
+    K.Schedule))))))

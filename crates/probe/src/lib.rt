@@ -8,6 +8,7 @@ use fields::RangeEnd;
 use fields::Time;
 use forms::Form;
 use forms::Kind;
+use forms::LineKind;
 use lines::Cut;
 ghost use mathlib.Core.Path.{_≡_};
 ghost use mathlib.Core.Bool.{cond, not, true, false, _&&_, _||_};
@@ -22,7 +23,8 @@ ghost use Rattle.calendar.specs.Calendar.{dayOf, dateIn, periodOf};
 ghost use Rattle.bitfield.specs.BitField.{bitsIn, bit, runsOn, framed, someDay};
 ghost use Rattle.forms.specs.Kinds.{kindOf};
 ghost use Rattle.forms.specs.Form.{formOf};
-ghost use Rattle.probe.specs.Flat.{flatCut, noStep, flatTime, flatEnd, flatDetail, flatDate, flatPeriod, flatKind, flatForm, classOf, columnsOf};
+ghost use Rattle.forms.specs.Columns.{columnsOf};
+ghost use Rattle.probe.specs.Flat.{flatCut, noStep, flatTime, flatEnd, flatDetail, flatDate, flatPeriod, flatKind, flatForm, classOf, lineKind};
 
 // Where a line's text stops, where the next line starts, and its number.
 #[repr(C)]
@@ -140,9 +142,9 @@ pub extern "C" fn probe_kind(line: &[u8]) -> u32
 // The form of line kind k: 0 a date, 1 a bit field, 2 a stop, 3 an interchange record, 4 *Z, 5 *G, 6 *A, else a call.
 #[no_mangle]
 pub extern "C" fn probe_form(line: &[u8], k: u32) -> usize
-    ensures { λ r. ⌜ r ≡ flatForm (formOf (columnsOf k) (now (line .entry))) ⌝ }
+    ensures { λ r. ⌜ r ≡ flatForm (formOf (columnsOf (lineKind k)) (now (line .entry))) ⌝ }
 {
-    flat_form(form_of_kind(line, k))
+    flat_form(forms::line_form(kind_by(k), line))
 }
 
 // ---- the calendar
@@ -379,17 +381,17 @@ fn class_of(k: u32, m: u8) -> Class
     }
 }
 
-fn form_of_kind(line: &[u8], k: u32) -> Form
-    ensures { λ r. ⌜ r ≡ formOf (columnsOf k) (now (line .entry)) ⌝ }
+fn kind_by(k: u32) -> LineKind
+    ensures { λ r. ⌜ r ≡ lineKind k ⌝ }
 {
     match k {
-        0 => forms::date_form(line),
-        1 => forms::bit_field_form(line),
-        2 => forms::stop_form(line),
-        3 => forms::interchange_form(line),
-        4 => forms::service_form(line),
-        5 => forms::category_form(line),
-        6 => forms::attribute_form(line),
-        _ => forms::call_form(line),
+        0 => LineKind::Date,
+        1 => LineKind::BitField,
+        2 => LineKind::Stop,
+        3 => LineKind::Interchange,
+        4 => LineKind::Opening,
+        5 => LineKind::Category,
+        6 => LineKind::Attribute,
+        _ => LineKind::Schedule,
     }
 }

@@ -6,12 +6,12 @@ use lib.ListN.{take, drop, set}
 use Rattle.base.specs.Lists.{every, some-of, find}
 use Rattle.bitfield.specs.BitField.{bit}
 use Rattle.calendar.specs.Calendar.{yearsBefore, monthsBefore, exists, dayOf}
-use Rattle.timetable.specs.Checks.{fieldRuns}
+use Rattle.timetable.specs.Legs.{fieldRuns}
 use Rattle.timetable.specs.Table.{rowsIn, serviceAt, servicesIn, tableOf, recordSound, recordsSound, headSound, isTable}
 use Rattle.timetable.specs.Questions.{dayAsked, interchangeAtStop, interchangeAsked}
 use Rattle.timetable.specs.declared.DayAnswer.the-variants.{Runs, Idle, Refused as DayRefused}
 use Rattle.timetable.specs.declared.InterchangeAnswer.the-variants.{Minutes, Refused as InterchangeRefused}
-use Rattle.timetable.proofs.Trial.{words}
+use Rattle.timetable.specs.Trial.{trialWords as words}
 
 -- FE6 runs on days 0 to 4: Monday to Friday
 pub days : (dayAsked words 1 12 2025 1 ≡ Runs)

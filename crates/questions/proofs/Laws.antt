@@ -10,7 +10,7 @@ use borrow.Author.Tests.{not-true, not-false, le-leb, lt-leb}
 use Rattle.base.proofs.Laws.{tests}
 use Rattle.bitfield.specs.BitField.{runsOn}
 use Rattle.timetable.specs.Files.{hasStop}
-use Rattle.timetable.specs.Checks.{fieldKnown, fieldRuns}
+use Rattle.timetable.specs.Legs.{fieldKnown, fieldRuns}
 use Rattle.timetable.specs.Table.{used, tableOf, isTable}
 use Rattle.timetable.specs.Questions.{dated, dayBy, dayAsked, interchangeAtStop, interchangeAsked}
 use Rattle.timetable.specs.declared.DayAnswer.{DayAnswer}

@@ -1,4 +1,4 @@
--- Both ends of a range, found or not and in order or not: the needs of `legs_of`, for `search legs`. Assumes nothing.
+-- Both ends of a range, found or not and in order or not: the needs of `legs_of` and `legs_on`, for `search legs`. Assumes nothing.
 use mathlib.Core.Path.{_≡_, refl, sym, ap, _∙_}
 use mathlib.Core.List.{List}
 use mathlib.Core.Bool.{Bool, true, false}
@@ -7,11 +7,14 @@ use Prim.Native.Nat.{ℕ}
 use Rattle.base.proofs.Laws.{tests}
 use Rattle.fields.specs.declared.RouteIndex.{RouteIndex}
 use Rattle.timetable.specs.Ranges.{fromPlace, toPlace, inOrder, legsBy, legsOf}
+use Rattle.timetable.specs.Service.{loose as loosePart, legsOn}
 use Rattle.timetable.specs.declared.Call.{Call}
 use Rattle.timetable.specs.declared.Ends.{Ends}
+use Rattle.timetable.specs.declared.RangeLine.{RangeLine}
 use Rattle.route.specs.Route.{placeOf, foundOf}
 use Rattle.route.specs.declared.Place.{Place}
 use Rattle.route.specs.declared.Place.the-variants.{At, Nowhere}
+use Rattle.route.specs.declared.Found.{Found}
 use Rattle.route.specs.declared.Found.the-variants.{Between, Missing}
 
 -- what a place was made of
@@ -49,4 +52,7 @@ module _ (loose : Bool) (cs : List Call) (e : Ends) (p : Place) (from : p ≡ pl
       pub legs-missing : b ≡ false → Missing ≡ foundOf (legsOf loose cs e)
       legs-missing h = rw (both, ← order, h) refl
 
-pub ruleset legs = (tests, legs-no-from, legs-no-to, legs-between, legs-missing)
+pub legs-on : (cs : List Call) (x : RangeLine) (b : Bool) (r : Found) → b ≡ loosePart (x .part) → r ≡ foundOf (legsOf b cs (x .ends)) → r ≡ foundOf (legsOn cs x)
+legs-on cs x b r e d = d ∙ ap (λ (b : Bool). foundOf (legsOf b cs (x .ends))) e
+
+pub ruleset legs = (tests, legs-on, legs-no-from, legs-no-to, legs-between, legs-missing)

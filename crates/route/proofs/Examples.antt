@@ -1,4 +1,4 @@
--- Range ends on route R of document 01, as the table's words hold it: "1000011 (dep 00800), 1000022 (00810, 00812), 1000033 (00830, 00835),
+-- Range ends on route R of document 01, as a draft holds it, its calls on lines 5 to 8: "1000011 (dep 00800), 1000022 (00810, 00812), 1000033 (00830, 00835),
 -- 1000022 (arr 00855)". An end that is not found answers 16. Assumes nothing.
 use mathlib.Core.Path.{_≡_, refl}
 use mathlib.Core.List.{List, [], _∷_}
@@ -12,10 +12,10 @@ use Rattle.timetable.specs.Ranges.{places, lastPlace, fromPlace, toPlace, legsO
 use Rattle.timetable.specs.Table.{rowsIn}
 use Rattle.timetable.specs.declared.Call.{Call}
 use Rattle.timetable.specs.declared.End.{End}
-use Rattle.route.specs.Route.{callsIn}
+use Rattle.draft.specs.Draft.{callsIn}
 
 abbrev routeR : List Call
-routeR = callsIn 4 (1000011 ∷ 0 ∷ 480 ∷ 2 ∷ 1000022 ∷ 490 ∷ 492 ∷ 3 ∷ 1000033 ∷ 510 ∷ 515 ∷ 3 ∷ 1000022 ∷ 535 ∷ 0 ∷ 1 ∷ [])
+routeR = callsIn 4 (1000011 ∷ 0 ∷ 480 ∷ 2 ∷ 5 ∷ 1000022 ∷ 490 ∷ 492 ∷ 3 ∷ 6 ∷ 1000033 ∷ 510 ∷ 515 ∷ 3 ∷ 7 ∷ 1000022 ∷ 535 ∷ 0 ∷ 1 ∷ 8 ∷ [])
 
 abbrev stop : ℕ → Detail → End
 stop n d = record { place = Stop (record { 0 = n }); detail = d }

@@ -3,21 +3,22 @@ use mathlib.Core.Path.{_≡_, refl, sym, ap, _∙_}
 use mathlib.Core.List.{List, [], _∷_, _++_, append-nil}
 use mathlib.Core.Bool.{Bool, true, false, cond, _&&_}
 use mathlib.Core.Option.{Option, some}
-use Prim.Native.Nat.{ℕ, zero, suc, _+_, _-_, _*_, _%_, _<_, _≤_}
-use native.Mathlib.Nat.{add-zero, sub-zero, zero-add}
+use Prim.Native.Nat.{ℕ, zero, suc, _+_, _-_, _*_, _/_, _%_, _<_, _≤_}
+use native.Mathlib.Nat.{add-zero, sub-zero, zero-add, mul-comm}
 use native.Mathlib.Omega.{arith}
-use lib.ListN.{length, getD, getElem?, drop}
-use lib.Seq.{getD-drop}
+use lib.ListN.{length, getElem?, drop}
 use lib.Dec.{eqb}
 use borrow.Author.Tests.{eq-eqb, ne-eqb}
 use Rattle.base.proofs.Laws.{tests}
 use Rattle.fields.specs.declared.RouteIndex.{RouteIndex}
 use Rattle.fields.specs.declared.StopNumber.{StopNumber}
 use Rattle.timetable.specs.Ranges.{places, firstPlace, lastPlace, callsAt}
-use Rattle.timetable.specs.Table.{rowsIn, callAt}
+use Rattle.timetable.specs.Table.{rowsIn}
 use Rattle.timetable.specs.declared.Call.{Call}
-use Rattle.route.specs.Route.{callsIn, meets, placeOf}
+use Rattle.draft.specs.Draft.{draftCall, callBack, callsIn}
+use Rattle.route.specs.Route.{meets, placeOf}
 use Rattle.route.specs.declared.Sought.{Sought}
+use Rattle.route.specs.declared.Sought.the-variants.{Calling, Departing, Arriving}
 use Rattle.route.specs.declared.Place.the-variants.{At, Nowhere}
 use Rattle.timetable.proofs.Rows.{rows-turn, rows-none, rows-last, length-rows}
 
@@ -86,38 +87,52 @@ pub ruleset stops = (tests, one-appearance, no-appearance, timed-stated, timed-n
 
 -- ---- the call whose words start at a place
 
-pub call-at : (w : List ℕ) (at : ℕ) → callAt (drop at w) ≡ record { stop = getD w at 0; arrival = getD w (at + 1) 0; departure = getD w (at + 2) 0; flags = getD w (at + 3) 0 }
-call-at w at = rw (getD-drop at w 0 0, add-zero at, getD-drop at w 1 0, getD-drop at w 2 0, getD-drop at w 3 0) refl
+-- what is sought, for `search sought`
+module _ (s : Sought) (call : Call) (n : StopNumber) (b : Bool) where
+  pub sought-calling : s ≡ Calling n → b ≡ eqb (call .stop) (n .0) → b ≡ meets s call
+  sought-calling e d = rw e d
 
--- the need of `sought_at`
-pub sought-at : (s : Sought) (w : List ℕ) (at : ℕ) (b : Bool)
-    → b ≡ meets s (record { stop = getD w at 0; arrival = getD w (at + 1) 0; departure = getD w (at + 2) 0; flags = getD w (at + 3) 0 })
-    → b ≡ meets s (callAt (drop at w))
-sought-at s w at b e = e ∙ ap (meets s) (sym (call-at w at))
+  pub sought-departing : (m : ℕ) → s ≡ Departing n m → b ≡ (eqb (call .stop) (n .0) && (eqb (call .flags / 2 % 2) 1 && eqb (call .departure) m)) → b ≡ meets s call
+  sought-departing m e d = rw e d
+
+  pub sought-arriving : (m : ℕ) → s ≡ Arriving n m → b ≡ (eqb (call .stop) (n .0) && (eqb (call .flags % 2) 1 && eqb (call .arrival) m)) → b ≡ meets s call
+  sought-arriving m e d = rw e d
+
+pub sought-at : (s : Sought) (w : List ℕ) (at : ℕ) (call : Call) (b : Bool) → call ≡ callBack (drop at w) .1 → b ≡ meets s call → b ≡ meets s (callBack (drop at w) .1)
+sought-at s w at call b e d = d ∙ ap (meets s) e
+
+pub ruleset sought = (tests, sought-calling, sought-departing, sought-arriving, sought-at)
+
+-- the call at the front of some words of the draft
+abbrev callOf : List ℕ → Call
+callOf u = callBack u .1
+
+pub length-calls : (c : ℕ) (w : List ℕ) → length (callsIn c w) ≡ c
+length-calls c w = length-rows callOf draftCall c w
 
 -- the places from call i on, whose words start at `at`
 abbrev pub placesFrom : (Call → Bool) → List ℕ → ℕ → ℕ → ℕ → List ℕ
-placesFrom t w c i at = places t i (rowsIn callAt 4 (c - i) (drop at w))
+placesFrom t w c i at = places t i (rowsIn callOf draftCall (c - i) (drop at w))
 
 module _ (t : Call → Bool) (w : List ℕ) (c i at : ℕ) where
-  pub places-turn : (b : Bool) → i < c → b ≡ t (callAt (drop at w)) → placesFrom t w c i at ≡ cond b (i ∷ placesFrom t w c (i + 1) (at + 4)) (placesFrom t w c (i + 1) (at + 4))
+  pub places-turn : (b : Bool) → i < c → b ≡ t (callBack (drop at w) .1) → placesFrom t w c i at ≡ cond b (i ∷ placesFrom t w c (i + 1) (at + draftCall)) (placesFrom t w c (i + 1) (at + draftCall))
   unfolding places
-  places-turn b h e = rw (rows-turn callAt 4 c i at w h, ← e) refl
+  places-turn b h e = rw (rows-turn callOf draftCall c i at w h, ← e) refl
 
   pub places-none : c ≤ i → placesFrom t w c i at ≡ []
   unfolding places
-  places-none h = rw (rows-none callAt 4 c i (drop at w) h) refl
+  places-none h = rw (rows-none callOf draftCall c i (drop at w) h) refl
 
 pub places-all : (t : Call → Bool) (w : List ℕ) (c : ℕ) → placesFrom t w c 0 0 ≡ places t 0 (callsIn c w)
 places-all t w c = rw (sub-zero c) refl
 
 -- of n + 1 calls the last one
-pub places-last : (t : Call → Bool) (w : List ℕ) (n at : ℕ) (b : Bool) → at ≡ n * 4 → b ≡ t (callAt (drop at w))
+pub places-last : (t : Call → Bool) (w : List ℕ) (n at : ℕ) (b : Bool) → at ≡ draftCall * n → b ≡ t (callBack (drop at w) .1)
     → lastPlace (places t 0 (callsIn (n + 1) w)) ≡ cond b (some n) (lastPlace (places t 0 (callsIn n w)))
 unfolding places
 places-last t w n at b p e =
-    let last : t (callAt (drop (n * 4) w)) ≡ b = ap (λ (k : ℕ). t (callAt (drop k w))) (sym p) ∙ sym e in
-    rw (rows-last callAt 4 n w, places-append t 0 (callsIn n w), length-rows callAt 4 n w, zero-add n, last) (go b)
+    let last : t (callBack (drop (draftCall * n) w) .1) ≡ b = ap (λ (k : ℕ). t (callBack (drop k w) .1)) (sym p) ∙ sym e in
+    rw (rows-last callOf draftCall n w, mul-comm n draftCall, places-append t 0 (callsIn n w), length-calls n w, zero-add n, last) (go b)
   where
     go : (b : Bool) → lastPlace (places t 0 (callsIn n w) ++ cond b (n ∷ []) []) ≡ cond b (some n) (lastPlace (places t 0 (callsIn n w)))
     go true = last-append (places t 0 (callsIn n w)) n
@@ -127,10 +142,10 @@ places-last t w n at b p e =
 
 -- no call passed is sought: the places from the call at hand on are all places, ks
 module _ (t : Call → Bool) (w : List ℕ) (c at : ℕ) (i : RouteIndex) (ks : List ℕ) (v : placesFrom t w c (i .0) at ≡ ks) where
-  pub first-again : (b : Bool) → i .0 < c → b ≡ t (callAt (drop at w)) → b ≡ false → placesFrom t w c (i .0 + 1) (at + 4) ≡ ks
+  pub first-again : (b : Bool) → i .0 < c → b ≡ t (callBack (drop at w) .1) → b ≡ false → placesFrom t w c (i .0 + 1) (at + draftCall) ≡ ks
   first-again b h e f = sym (places-turn t w c (i .0) at false h (sym f ∙ e)) ∙ v
 
-  pub first-out : (b : Bool) → i .0 < c → b ≡ t (callAt (drop at w)) → b ≡ true → At i ≡ placeOf (firstPlace ks)
+  pub first-out : (b : Bool) → i .0 < c → b ≡ t (callBack (drop at w) .1) → b ≡ true → At i ≡ placeOf (firstPlace ks)
   first-out b h e f = ap (λ (l : List ℕ). placeOf (firstPlace l)) (sym (places-turn t w c (i .0) at true h (sym f ∙ e)) ∙ v)
 
   pub first-done : c ≤ i .0 → Nowhere ≡ placeOf (firstPlace ks)
@@ -140,16 +155,16 @@ pub ruleset firsts = (tests, places-all, first-again, first-out, first-done)
 
 -- the last place among the calls that are left is o, the last of all
 module _ (t : Call → Bool) (w : List ℕ) (left at : ℕ) (o : Option ℕ) (v : lastPlace (places t 0 (callsIn left w)) ≡ o) where
-  back : (b : Bool) → 0 < left → at ≡ left * 4 → b ≡ t (callAt (drop (at - 4) w)) → cond b (some (left - 1)) (lastPlace (places t 0 (callsIn (left - 1) w))) ≡ o
+  back : (b : Bool) → 0 < left → at ≡ draftCall * left → b ≡ t (callBack (drop (at - draftCall) w) .1) → cond b (some (left - 1)) (lastPlace (places t 0 (callsIn (left - 1) w))) ≡ o
   back b h p e =
       let n : left - 1 + 1 ≡ left = omega arith in
-      let q : at - 4 ≡ (left - 1) * 4 = omega arith in
-      sym (places-last t w (left - 1) (at - 4) b q e) ∙ ap (λ (k : ℕ). lastPlace (places t 0 (callsIn k w))) n ∙ v
+      let q : at - draftCall ≡ draftCall * (left - 1) = omega arith in
+      sym (places-last t w (left - 1) (at - draftCall) b q e) ∙ ap (λ (k : ℕ). lastPlace (places t 0 (callsIn k w))) n ∙ v
 
-  pub last-again : (b : Bool) → 0 < left → at ≡ left * 4 → b ≡ t (callAt (drop (at - 4) w)) → b ≡ false → lastPlace (places t 0 (callsIn (left - 1) w)) ≡ o
+  pub last-again : (b : Bool) → 0 < left → at ≡ draftCall * left → b ≡ t (callBack (drop (at - draftCall) w) .1) → b ≡ false → lastPlace (places t 0 (callsIn (left - 1) w)) ≡ o
   last-again b h p e f = back false h p (sym f ∙ e)
 
-  pub last-out : (b : Bool) → 0 < left → at ≡ left * 4 → b ≡ t (callAt (drop (at - 4) w)) → b ≡ true → At (record { 0 = left - 1 }) ≡ placeOf o
+  pub last-out : (b : Bool) → 0 < left → at ≡ draftCall * left → b ≡ t (callBack (drop (at - draftCall) w) .1) → b ≡ true → At (record { 0 = left - 1 }) ≡ placeOf o
   last-out b h p e f = ap placeOf (back true h p (sym f ∙ e))
 
   pub last-done : left ≤ 0 → Nowhere ≡ placeOf o
@@ -163,17 +178,17 @@ pub ruleset lasts = (tests, last-again, last-out, last-done)
 -- of the places from the call at hand on the one behind `before` others is o
 module _ (n : StopNumber) (w : List ℕ) (c at before : ℕ) (i : RouteIndex) (o : Option ℕ) (v : getElem? (placesFrom (callsAt n) w c (i .0) at) before ≡ o) where
   abbrev rest : List ℕ
-  rest = placesFrom (callsAt n) w c (i .0 + 1) (at + 4)
+  rest = placesFrom (callsAt n) w c (i .0 + 1) (at + draftCall)
 
-  turn : i .0 < c → getElem? (cond (eqb (getD w at 0) (n .0)) (i .0 ∷ rest) rest) before ≡ o
-  turn h =
-      ap (λ (l : List ℕ). getElem? l before) (sym (places-turn (callsAt n) w c (i .0) at (eqb (getD w at 0) (n .0)) h (ap (callsAt n) (sym (call-at w at))))) ∙ v
+  module _ (call : Call) (here : ℕ) (h : i .0 < c) (d : call ≡ callBack (drop at w) .1) (e : here ≡ cond (eqb (call .stop) (n .0)) 1 0) where
+    turn : getElem? (cond (callsAt n call) (i .0 ∷ rest) rest) before ≡ o
+    turn = ap (λ (l : List ℕ). getElem? l before) (sym (places-turn (callsAt n) w c (i .0) at (callsAt n call) h (ap (callsAt n) d))) ∙ v
 
-  pub nth-again : (here : ℕ) → i .0 < c → here ≡ cond (eqb (getD w at 0) (n .0)) 1 0 → here ≤ before → getElem? (placesFrom (callsAt n) w c (i .0 + 1) (at + 4)) (before - here) ≡ o
-  nth-again here h e l = sym (nth-behind (eqb (getD w at 0) (n .0)) (i .0) rest here e before l) ∙ turn h
+    pub nth-again : here ≤ before → getElem? (placesFrom (callsAt n) w c (i .0 + 1) (at + draftCall)) (before - here) ≡ o
+    nth-again l = sym (nth-behind (callsAt n call) (i .0) rest here e before l) ∙ turn
 
-  pub nth-out : (here : ℕ) → i .0 < c → here ≡ cond (eqb (getD w at 0) (n .0)) 1 0 → before < here → At i ≡ placeOf o
-  nth-out here h e l = ap placeOf (sym (nth-front (eqb (getD w at 0) (n .0)) (i .0) rest here e before l) ∙ turn h)
+    pub nth-out : before < here → At i ≡ placeOf o
+    nth-out l = ap placeOf (sym (nth-front (callsAt n call) (i .0) rest here e before l) ∙ turn)
 
   pub nth-done : c ≤ i .0 → Nowhere ≡ placeOf o
   nth-done h = ap placeOf (ap (λ (l : List ℕ). getElem? l before) (sym (places-none (callsAt n) w c (i .0) at h)) ∙ v)

@@ -1,14 +1,9 @@
--- Range ends on the words of calls: what the code answers, and what it seeks. Nobody has to believe more here than that each case says the
+-- Range ends on the calls of a draft: what the code answers, and what it seeks. Nobody has to believe more here than that each case says the
 -- test of its name in the definitions of the crate timetable. Assumes nothing.
 use Prim.Native.Nat.{ℕ}
-use mathlib.Core.List.{List}
 use mathlib.Core.Bool.{Bool}
 use mathlib.Core.Option.{Option, none, some}
-use Rattle.fields.specs.declared.RouteIndex.{RouteIndex}
-use Rattle.fields.specs.declared.StopNumber.{StopNumber}
 use Rattle.timetable.specs.Delivery.{Legs}
-use Rattle.timetable.specs.Load.{callSize}
-use Rattle.timetable.specs.Table.{rowsIn, callAt}
 use Rattle.timetable.specs.Ranges.{callsAt, departsAt, arrivesAt}
 use Rattle.timetable.specs.declared.Call.{Call}
 use Rattle.route.specs.declared.Sought.{Sought}
@@ -17,10 +12,6 @@ use Rattle.route.specs.declared.Place.{Place}
 use Rattle.route.specs.declared.Place.the-variants.{At, Nowhere}
 use Rattle.route.specs.declared.Found.{Found}
 use Rattle.route.specs.declared.Found.the-variants.{Between, Missing}
-
--- the calls that c * 4 words hold
-abbrev pub callsIn : ℕ → List ℕ → List Call
-callsIn c w = rowsIn callAt callSize c w
 
 abbrev pub meets : Sought → Call → Bool
 meets (Calling n) c = callsAt n c

@@ -1,21 +1,25 @@
-// Where a range starts and ends, on the calls of its route as the table's words hold them (5.3.1).
+// Where a range starts and ends, on the calls of its route as the draft holds them (5.3.1).
+use draft::DRAFT_CALL_WORDS;
 use fields::Appearance;
 use fields::Detail;
 use fields::RangeEnd;
 use fields::RouteIndex;
 use fields::StopNumber;
-use timetable::CALL_WORDS;
+use timetable::Call;
 use timetable::End;
 use timetable::Ends;
+use timetable::Part;
+use timetable::RangeLine;
 ghost use mathlib.Core.Path.{_≡_};
 ghost use Prim.Native.Nat.{_+_, _*_, _-_, _%_, _≤_};
 ghost use mathlib.Core.Option.{none, some};
 ghost use mathlib.Core.Bool.{cond, _&&_};
 ghost use lib.Dec.{eqb, ltb};
 ghost use lib.ListN.{length, drop, getElem?};
-ghost use Rattle.timetable.specs.Ranges.{places, callsAt, firstPlace, lastPlace, fromStop, toStop, fromPlace, toPlace, inOrder, legsOf};
-ghost use Rattle.timetable.specs.Table.{callAt};
-ghost use Rattle.route.specs.Route.{callsIn, meets, placeOf, foundOf};
+ghost use Rattle.timetable.specs.Ranges.{places, callsAt, firstPlace, lastPlace, fromStop, toStop, fromPlace, toPlace, legsOf};
+ghost use Rattle.timetable.specs.Service.{loose as isLoose, legsOn};
+ghost use Rattle.draft.specs.Draft.{draftCall, callBack, callsIn};
+ghost use Rattle.route.specs.Route.{meets, placeOf, foundOf};
 
 // Which calls are sought: those at a stop, those that depart there at a time, or those that arrive there at one.
 enum Sought {
@@ -38,9 +42,29 @@ pub enum Found {
 
 // ---- a range
 
-// The legs of a range over the c calls of w; other *A ranges are loose: from may equal to.
-pub fn legs_of(w: &[u32], c: u32, e: Ends, loose: bool) -> Found
-    requires { ⌜ c * 4 ≤ length (now w) ⌝ }
+// The legs of a range over the c calls of w.
+pub fn legs_on(w: &[u32], c: u32, range: RangeLine) -> Found
+    requires { ⌜ draftCall * c ≤ length (now w) ⌝ }
+    ensures { λ r. ⌜ r ≡ foundOf (legsOn (callsIn c (now (w .entry))) range) ⌝ }
+{
+    let part = range.part;
+    let ends = range.ends;
+    legs_of(w, c, ends, is_loose(part))
+}
+
+// "*G and operating-day ranges need from < to ..; other *A need from ≤ to": these are loose.
+fn is_loose(part: Part) -> bool
+    ensures { λ r. ⌜ r ≡ isLoose part ⌝ }
+{
+    match part {
+        Part::Category => false,
+        Part::Days => false,
+        Part::Extra => true,
+    }
+}
+
+fn legs_of(w: &[u32], c: u32, e: Ends, loose: bool) -> Found
+    requires { ⌜ draftCall * c ≤ length (now w) ⌝ }
     ensures { λ r. ⌜ r ≡ foundOf (legsOf loose (callsIn c (now (w .entry))) e) ⌝ }
 {
     let f = e.from;
@@ -51,25 +75,16 @@ pub fn legs_of(w: &[u32], c: u32, e: Ends, loose: bool) -> Found
     let Place::At(to) = to_place(w, c, t) else {
         return Found::Missing;
     };
-    if in_order(loose, from, to) {
+    if timetable::in_order(loose, from.0, to.0) {
         return Found::Between(from, to);
     }
     Found::Missing
 }
 
-fn in_order(loose: bool, from: RouteIndex, to: RouteIndex) -> bool
-    ensures { λ r. ⌜ r ≡ inOrder loose (from .0) (to .0) ⌝ }
-{
-    if loose {
-        return from.0 <= to.0;
-    }
-    from.0 < to.0
-}
-
 // ---- its ends
 
 fn from_place(w: &[u32], c: u32, e: End) -> Place
-    requires { ⌜ c * 4 ≤ length (now w) ⌝ }
+    requires { ⌜ draftCall * c ≤ length (now w) ⌝ }
     ensures { λ r. ⌜ r ≡ placeOf (fromPlace (callsIn c (now (w .entry))) e) ⌝ }
 {
     let p = e.place;
@@ -83,7 +98,7 @@ fn from_place(w: &[u32], c: u32, e: End) -> Place
 }
 
 fn to_place(w: &[u32], c: u32, e: End) -> Place
-    requires { ⌜ c * 4 ≤ length (now w) ⌝ }
+    requires { ⌜ draftCall * c ≤ length (now w) ⌝ }
     ensures { λ r. ⌜ r ≡ placeOf (toPlace (callsIn c (now (w .entry))) e) ⌝ }
 {
     let p = e.place;
@@ -117,7 +132,7 @@ fn last_call(c: u32) -> Place
 
 // From a stop: searched from the front.
 fn from_stop(w: &[u32], c: u32, n: StopNumber, d: Detail) -> Place
-    requires { ⌜ c * 4 ≤ length (now w) ⌝ }
+    requires { ⌜ draftCall * c ≤ length (now w) ⌝ }
     ensures { λ r. ⌜ r ≡ placeOf (fromStop (callsIn c (now (w .entry))) n d) ⌝ }
 {
     match d {
@@ -130,7 +145,7 @@ fn from_stop(w: &[u32], c: u32, n: StopNumber, d: Detail) -> Place
 
 // To a stop: searched from the end, but appearances count from the route's start.
 fn to_stop(w: &[u32], c: u32, n: StopNumber, d: Detail) -> Place
-    requires { ⌜ c * 4 ≤ length (now w) ⌝ }
+    requires { ⌜ draftCall * c ≤ length (now w) ⌝ }
     ensures { λ r. ⌜ r ≡ placeOf (toStop (callsIn c (now (w .entry))) n d) ⌝ }
 {
     match d {
@@ -145,7 +160,7 @@ fn to_stop(w: &[u32], c: u32, n: StopNumber, d: Detail) -> Place
 
 // Of the calls that are sought the last, or the first.
 fn place_sought(w: &[u32], c: u32, s: Sought, last: bool) -> Place
-    requires { ⌜ c * 4 ≤ length (now w) ⌝ }
+    requires { ⌜ draftCall * c ≤ length (now w) ⌝ }
     ensures { λ r. ⌜ r ≡ placeOf (cond last lastPlace firstPlace (places (meets s) 0 (callsIn c (now (w .entry))))) ⌝ }
 {
     if last {
@@ -155,7 +170,7 @@ fn place_sought(w: &[u32], c: u32, s: Sought, last: bool) -> Place
 }
 
 fn first_place(w: &[u32], c: u32, s: Sought) -> Place
-    requires { ⌜ c * 4 ≤ length (now w) ⌝ }
+    requires { ⌜ draftCall * c ≤ length (now w) ⌝ }
     ensures { λ r. ⌜ r ≡ placeOf (firstPlace (places (meets s) 0 (callsIn c (now (w .entry))))) ⌝ }
 {
     let mut i = RouteIndex(0);
@@ -164,7 +179,7 @@ fn first_place(w: &[u32], c: u32, s: Sought) -> Place
         if sought_at(w, at, s) {
             return Place::At(i);
         }
-        at += CALL_WORDS;
+        at += DRAFT_CALL_WORDS;
         i = RouteIndex(i.0 + 1);
     }
     Place::Nowhere
@@ -172,14 +187,14 @@ fn first_place(w: &[u32], c: u32, s: Sought) -> Place
 
 // Searched from the end.
 fn last_place(w: &[u32], c: u32, s: Sought) -> Place
-    requires { ⌜ c * 4 ≤ length (now w) ⌝ }
+    requires { ⌜ draftCall * c ≤ length (now w) ⌝ }
     ensures { λ r. ⌜ r ≡ placeOf (lastPlace (places (meets s) 0 (callsIn c (now (w .entry))))) ⌝ }
 {
     // past the last call
     let mut i = RouteIndex(c);
     let mut at = calls_end(c);
     while 0 < i.0 {
-        at -= CALL_WORDS;
+        at -= DRAFT_CALL_WORDS;
         i = RouteIndex(i.0 - 1);
         if sought_at(w, at, s) {
             return Place::At(i);
@@ -190,7 +205,7 @@ fn last_place(w: &[u32], c: u32, s: Sought) -> Place
 
 // The k-th call at a stop, from 0.
 fn nth_place(w: &[u32], c: u32, n: StopNumber, k: Appearance) -> Place
-    requires { ⌜ c * 4 ≤ length (now w) ⌝ }
+    requires { ⌜ draftCall * c ≤ length (now w) ⌝ }
     ensures { λ r. ⌜ r ≡ placeOf (getElem? (places (callsAt n) 0 (callsIn c (now (w .entry)))) (k .0)) ⌝ }
 {
     // its appearances from here on that come before the one sought
@@ -198,12 +213,13 @@ fn nth_place(w: &[u32], c: u32, n: StopNumber, k: Appearance) -> Place
     let mut index = RouteIndex(0);
     let mut at: usize = 0;
     while index.0 < c {
-        let here = appearances(StopNumber(w[at]), n);
+        let call = draft::call_at(w, at);
+        let here = appearances(StopNumber(call.stop), n);
         if before.0 < here.0 {
             return Place::At(index);
         }
         before = Appearance(before.0 - here.0);
-        at += CALL_WORDS;
+        at += DRAFT_CALL_WORDS;
         index = RouteIndex(index.0 + 1);
     }
     Place::Nowhere
@@ -221,26 +237,27 @@ fn appearances(stop: StopNumber, n: StopNumber) -> Appearance
 
 // Where the words of c calls end.
 fn calls_end(c: u32) -> usize
-    ensures { λ r. ⌜ r ≡ c * 4 ⌝ }
+    ensures { λ r. ⌜ r ≡ draftCall * c ⌝ }
 {
-    c as usize * CALL_WORDS
+    DRAFT_CALL_WORDS * c as usize
 }
 
 // Whether the call whose words start at a place is sought.
 fn sought_at(w: &[u32], at: usize, s: Sought) -> bool
-    requires { ⌜ at + 4 ≤ length (now w) ⌝ }
-    ensures { λ r. ⌜ r ≡ meets s (callAt (drop at (now (w .entry)))) ⌝ }
+    requires { ⌜ at + draftCall ≤ length (now w) ⌝ }
+    ensures { λ r. ⌜ r ≡ meets s (callBack (drop at (now (w .entry))) .1) ⌝ }
 {
-    is_sought(s, StopNumber(w[at]), w[at + 1], w[at + 2], w[at + 3])
+    is_sought(s, draft::call_at(w, at))
 }
 
-fn is_sought(s: Sought, stop: StopNumber, arrival: u32, departure: u32, flags: u32) -> bool
-    ensures { λ r. ⌜ r ≡ meets s (record { stop = stop .0; arrival = arrival; departure = departure; flags = flags }) ⌝ }
+fn is_sought(s: Sought, call: Call) -> bool
+    ensures { λ r. ⌜ r ≡ meets s call ⌝ }
 {
+    let stop = StopNumber(call.stop);
     match s {
         Sought::Calling(n) => same_stop(stop, n),
-        Sought::Departing(n, m) => timed(stop, n, flags / 2, departure, m),
-        Sought::Arriving(n, m) => timed(stop, n, flags, arrival, m),
+        Sought::Departing(n, m) => timed(stop, n, call.flags / 2, call.departure, m),
+        Sought::Arriving(n, m) => timed(stop, n, call.flags, call.arrival, m),
     }
 }
 

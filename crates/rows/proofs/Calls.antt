@@ -14,7 +14,7 @@ use Rattle.base.proofs.Laws.{tests}
 use Rattle.timetable.specs.Delivery.{Delivery, Service, CategoryRange}
 use Rattle.timetable.specs.Offences.{_<|>_}
 use Rattle.timetable.specs.Files.{hasStop}
-use Rattle.timetable.specs.Checks.{covering}
+use Rattle.timetable.specs.Legs.{covering}
 use Rattle.timetable.specs.Table.{rowsIn, callAt}
 use Rattle.timetable.specs.Questions.{neededLast, callsRefusal}
 use Rattle.timetable.specs.declared.Call.{Call}

@@ -10,7 +10,7 @@ use lib.Seq.{getD-drop}
 use lib.Dec.{eqb}
 use Rattle.base.proofs.Laws.{tests}
 use Rattle.timetable.specs.Delivery.{CategoryRange}
-use Rattle.timetable.specs.Checks.{covering}
+use Rattle.timetable.specs.Legs.{covering}
 use Rattle.timetable.specs.Table.{callAt, categoryAt, categoryPlace, serviceAt, recordSound}
 use Rattle.timetable.specs.Questions.{nameBy, categoryOn}
 use Rattle.timetable.specs.declared.Call.{Call}
@@ -19,8 +19,7 @@ use Rattle.table.proofs.Records.{rest-from}
 use Rattle.cover.specs.Cover.{onceIn, placeFrom}
 use Rattle.cover.specs.declared.FirstRange.{FirstRange}
 use Rattle.cover.specs.declared.FirstRange.the-variants.{At, Nowhere}
-use Rattle.cover.proofs.Rows.{covering-rows, rowAt, first-row}
-use Rattle.cover.proofs.Days.{place-fits}
+use Rattle.cover.proofs.Rows.{covering-rows, rowAt, first-row, place-fits}
 use Rattle.run.proofs.Legs.{record-ends}
 
 module _ (s : List ℕ) (e : recordSound s ≡ true) where

@@ -12,9 +12,10 @@ ghost use mathlib.Core.Bool.{true, cond};
 ghost use Prim.Native.Nat.{_+_, _*_, _≤_, _<_};
 ghost use lib.ListN.{length, drop};
 ghost use lib.Dec.{eqb};
+ghost use Rattle.timetable.specs.Layout.{serviceHead, callSize, rowSize, latestTime, allFlags, mostDelay};
 ghost use Rattle.timetable.specs.Delivery.{CategoryRange};
-ghost use Rattle.timetable.specs.Checks.{covering};
-ghost use Rattle.timetable.specs.Table.{word, callAt, categoryPlace, serviceAt, tableOf, recordSound};
+ghost use Rattle.timetable.specs.Legs.{covering};
+ghost use Rattle.timetable.specs.Table.{calls#, callAt, categoryPlace, serviceAt, tableOf, recordSound};
 ghost use Rattle.timetable.specs.Questions.{neededLast, categoryOn, rowFlags, callsRefusal, rowsOf};
 ghost use Rattle.words.specs.Words.{write};
 ghost use Rattle.table.specs.Whole.{Whole};
@@ -38,7 +39,7 @@ pub struct Row {
 pub fn calls_refusal(w: &[u32], s: &[u32], start: u32, legs: u32) -> u32
     requires { ⌜ Whole (now w) ⌝ }
     requires { ⌜ recordSound (now s) ≡ true ⌝ }
-    requires { ⌜ start + legs < word (now s) 6 ⌝ }
+    requires { ⌜ start + legs < calls# (now s) ⌝ }
     ensures { λ r. ⌜ noted r ≡ callsRefusal (tableOf (now (w .entry))) (serviceAt (now (s .entry))) start legs 0 0 (callsFrom (now (s .entry)) start (legs + 1)) ⌝ }
 {
     let mut i: u32 = 0;
@@ -59,7 +60,7 @@ pub fn calls_refusal(w: &[u32], s: &[u32], start: u32, legs: u32) -> u32
 fn call_refusal(w: &[u32], s: &[u32], start: u32, legs: u32, i: u32, before: u32, call: Call) -> u32
     requires { ⌜ Whole (now w) ⌝ }
     requires { ⌜ recordSound (now s) ≡ true ⌝ }
-    requires { ⌜ (start + legs < word (now s) 6) × (i ≤ legs) ⌝ }
+    requires { ⌜ (start + legs < calls# (now s)) × (i ≤ legs) ⌝ }
     ensures { λ r. ⌜ noted r ≡ callFault (tableOf (now (w .entry))) (serviceAt (now (s .entry))) start legs i before call ⌝ }
 {
     if !look::stop_known(w, call.stop) {
@@ -128,8 +129,8 @@ fn choose(test: bool, first: u32, second: u32) -> u32
 pub fn rows_into(w: &[u32], s: &[u32], start: u32, legs: u32, delay: u32, rows: &mut [u32])
     requires { ⌜ Whole (now w) ⌝ }
     requires { ⌜ recordSound (now s) ≡ true ⌝ }
-    requires { ⌜ (start + legs < word (now s) 6) × (delay ≤ 998001) ⌝ }
-    requires { ⌜ 7 * (legs + 1) ≤ length (now rows) ⌝ }
+    requires { ⌜ (start + legs < calls# (now s)) × (delay ≤ mostDelay) ⌝ }
+    requires { ⌜ rowSize * (legs + 1) ≤ length (now rows) ⌝ }
     ensures { λ _. ⌜ now (rows .exit) ≡ write (now (rows .entry)) 0 (rowsOf (tableOf (now (w .entry))) (serviceAt (now (s .entry))) start legs delay 0 (callsFrom (now (s .entry)) start (legs + 1))) ⌝ }
 {
     let mut k: u32 = 0;
@@ -144,7 +145,7 @@ pub fn rows_into(w: &[u32], s: &[u32], start: u32, legs: u32, delay: u32, rows: 
 }
 
 fn put_row(t: &mut [u32], at: usize, row: Row)
-    requires { ⌜ at + 7 ≤ length (now t) ⌝ }
+    requires { ⌜ at + rowSize ≤ length (now t) ⌝ }
     ensures { λ _. ⌜ now (t .exit) ≡ write (now (t .entry)) at (rowWords row) ⌝ }
 {
     words::put4(t, at, row.stop, row.arrival, row.departure, row.flags);
@@ -155,8 +156,8 @@ fn put_row(t: &mut [u32], at: usize, row: Row)
 fn row_of(w: &[u32], s: &[u32], start: u32, legs: u32, delay: u32, i: u32, call: Call) -> Row
     requires { ⌜ Whole (now w) ⌝ }
     requires { ⌜ recordSound (now s) ≡ true ⌝ }
-    requires { ⌜ (start + legs < word (now s) 6) × (i ≤ legs) × (delay ≤ 998001) ⌝ }
-    requires { ⌜ (call .arrival ≤ 59999) × (call .departure ≤ 59999) × (call .flags ≤ 15) ⌝ }
+    requires { ⌜ (start + legs < calls# (now s)) × (i ≤ legs) × (delay ≤ mostDelay) ⌝ }
+    requires { ⌜ (call .arrival ≤ latestTime) × (call .departure ≤ latestTime) × (call .flags ≤ allFlags) ⌝ }
     ensures { λ r. ⌜ rowWords r ≡ rowFor (tableOf (now (w .entry))) (serviceAt (now (s .entry))) start legs delay i call ⌝ }
 {
     let times = look::interchange_at(w, call.stop);
@@ -173,7 +174,7 @@ fn row_of(w: &[u32], s: &[u32], start: u32, legs: u32, delay: u32, i: u32, call:
 
 // The flags of a row: of the first call those of its departure only, of the last those of its arrival.
 fn row_flags(legs: u32, i: u32, flags: u32) -> u32
-    requires { ⌜ flags ≤ 15 ⌝ }
+    requires { ⌜ flags ≤ allFlags ⌝ }
     ensures { λ r. ⌜ r ≡ rowFlags legs i flags ⌝ }
 {
     choose(i == 0, 0, flags % 2 + flags / 4 % 2 * 4)
@@ -196,9 +197,9 @@ fn leaving(s: &[u32], leg: u32, last: bool) -> u32
 // The k-th call.
 fn call_of(s: &[u32], k: u32) -> Call
     requires { ⌜ recordSound (now s) ≡ true ⌝ }
-    requires { ⌜ k < word (now s) 6 ⌝ }
-    ensures is { λ r. ⌜ r ≡ callAt (drop (11 + 4 * k) (now (s .entry))) ⌝ }
-    ensures bounds { λ r. ⌜ (r .arrival ≤ 59999) × (r .departure ≤ 59999) × (r .flags ≤ 15) ⌝ }
+    requires { ⌜ k < calls# (now s) ⌝ }
+    ensures is { λ r. ⌜ r ≡ callAt (drop (serviceHead + callSize * k) (now (s .entry))) ⌝ }
+    ensures bounds { λ r. ⌜ (r .arrival ≤ latestTime) × (r .departure ≤ latestTime) × (r .flags ≤ allFlags) ⌝ }
 {
     table::call_at(s, SERVICE_WORDS + CALL_WORDS * table::size(k))
 }

@@ -14,7 +14,7 @@ use Rattle.base.proofs.Laws.{tests}
 use Rattle.base.proofs.Loops.{upto-next, upto-none}
 use Rattle.timetable.specs.Delivery.{DayRange, Delivery}
 use Rattle.timetable.specs.Offences.{_<|>_}
-use Rattle.timetable.specs.Checks.{covering, operated}
+use Rattle.timetable.specs.Legs.{covering, operated}
 use Rattle.timetable.specs.Table.{rowsIn, dayAt, dayPlace, serviceAt, recordSound}
 use Rattle.timetable.specs.Questions.{legRefusal, firstRefusal}
 use Rattle.table.specs.Whole.{recordEnd}

@@ -12,7 +12,7 @@ use Rattle.base.specs.Lists.{every, some-of}
 use Rattle.base.proofs.Laws.{tests}
 use Rattle.bitfield.specs.BitField.{runsOn}
 use Rattle.timetable.specs.Delivery.{BitField, DayRange}
-use Rattle.timetable.specs.Checks.{fieldKnown, fieldRuns}
+use Rattle.timetable.specs.Legs.{fieldKnown, fieldRuns}
 use Rattle.timetable.specs.Table.{rowsIn, dayAt}
 use Rattle.timetable.proofs.Rows.{room-start, room-now, room-fits, room-next, rows-left, rows-again, rows-out, rows-done}
 use Rattle.run.specs.Run.{rangeKnown, rangeRuns}

@@ -5,7 +5,7 @@ use mathlib.Core.Bool.{Bool, cond, not, _&&_, _||_}
 use mathlib.Core.Option.{Option, none, some}
 use lib.Dec.{eqb}
 use Rattle.timetable.specs.Delivery.{BitField, DayRange}
-use Rattle.timetable.specs.Checks.{fieldKnown, fieldRuns, covers}
+use Rattle.timetable.specs.Legs.{fieldKnown, fieldRuns, covers}
 
 -- a refusal by its number, 0 for none
 abbrev pub noted : ℕ → Option ℕ

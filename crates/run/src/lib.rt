@@ -8,7 +8,8 @@ ghost use mathlib.Core.Bool.{true};
 ghost use Prim.Native.Nat.{_+_, _-_, _*_, _≤_, _<_};
 ghost use lib.ListN.{length, drop};
 ghost use Rattle.base.specs.Lists.{every, some-of, upto, below};
-ghost use Rattle.timetable.specs.Checks.{operated};
+ghost use Rattle.timetable.specs.Layout.{daySize, mostPeriodDays};
+ghost use Rattle.timetable.specs.Legs.{operated};
 ghost use Rattle.timetable.specs.Table.{rowsIn, dayAt, dayPlace, serviceAt, tableOf, recordSound};
 ghost use Rattle.timetable.specs.Questions.{legRefusal, firstRefusal};
 ghost use Rattle.table.specs.Whole.{Whole};
@@ -53,8 +54,8 @@ fn leg_refusal(w: &[u32], s: &[u32], leg: u32) -> u32
 // Whether the ranges among n that cover a leg have known bit fields.
 fn ranges_known(w: &[u32], v: &[u32], n: u32, leg: u32) -> bool
     requires { ⌜ Whole (now w) ⌝ }
-    requires { ⌜ n * 3 ≤ length (now v) ⌝ }
-    ensures { λ r. ⌜ r ≡ every (rangeKnown (tableOf (now (w .entry)) .fields) leg) (rowsIn dayAt 3 n (now (v .entry))) ⌝ }
+    requires { ⌜ n * daySize ≤ length (now v) ⌝ }
+    ensures { λ r. ⌜ r ≡ every (rangeKnown (tableOf (now (w .entry)) .fields) leg) (rowsIn dayAt daySize n (now (v .entry))) ⌝ }
 {
     let mut p: usize = 0;
     let mut left = n;
@@ -71,7 +72,7 @@ fn ranges_known(w: &[u32], v: &[u32], n: u32, leg: u32) -> bool
 // Whether the range at a place has a known bit field, if it covers a leg.
 fn known_at(w: &[u32], v: &[u32], p: usize, leg: u32) -> bool
     requires { ⌜ Whole (now w) ⌝ }
-    requires { ⌜ p + 3 ≤ length (now v) ⌝ }
+    requires { ⌜ p + daySize ≤ length (now v) ⌝ }
     ensures { λ r. ⌜ r ≡ rangeKnown (tableOf (now (w .entry)) .fields) leg (dayAt (drop p (now (v .entry)))) ⌝ }
 {
     range_known(w, v[p], v[p + 1], v[p + 2], leg)
@@ -96,7 +97,7 @@ fn range_known(w: &[u32], field: u32, from: u32, to: u32, leg: u32) -> bool
 
 // The first leg from one on, below `legs`, that is operated on day k of the period, or (`on` false) that is not; `legs` where none is.
 pub fn next_leg(w: &[u32], s: &[u32], k: u32, from: u32, legs: u32, on: bool) -> u32
-    requires { ⌜ Whole (now w) × (k < 380) ⌝ }
+    requires { ⌜ Whole (now w) × (k < mostPeriodDays) ⌝ }
     requires { ⌜ recordSound (now s) ≡ true ⌝ }
     ensures { λ r. ⌜ r ≡ from + gap on (map (operated (tableOf (now (w .entry)) .fields) (serviceAt (now (s .entry)) .days) k) (upto (legs - from) from)) ⌝ }
 {
@@ -112,7 +113,7 @@ pub fn next_leg(w: &[u32], s: &[u32], k: u32, from: u32, legs: u32, on: bool) ->
 
 // Whether a leg is operated on day k of the period.
 fn leg_runs(w: &[u32], s: &[u32], leg: u32, k: u32) -> bool
-    requires { ⌜ Whole (now w) × (k < 380) ⌝ }
+    requires { ⌜ Whole (now w) × (k < mostPeriodDays) ⌝ }
     requires { ⌜ recordSound (now s) ≡ true ⌝ }
     ensures { λ r. ⌜ r ≡ operated (tableOf (now (w .entry)) .fields) (serviceAt (now (s .entry)) .days) k leg ⌝ }
 {
@@ -121,9 +122,9 @@ fn leg_runs(w: &[u32], s: &[u32], leg: u32, k: u32) -> bool
 
 // Whether one of n ranges covers a leg and runs on day k.
 fn ranges_run(w: &[u32], v: &[u32], n: u32, leg: u32, k: u32) -> bool
-    requires { ⌜ Whole (now w) × (k < 380) ⌝ }
-    requires { ⌜ n * 3 ≤ length (now v) ⌝ }
-    ensures { λ r. ⌜ r ≡ some-of (rangeRuns (tableOf (now (w .entry)) .fields) k leg) (rowsIn dayAt 3 n (now (v .entry))) ⌝ }
+    requires { ⌜ Whole (now w) × (k < mostPeriodDays) ⌝ }
+    requires { ⌜ n * daySize ≤ length (now v) ⌝ }
+    ensures { λ r. ⌜ r ≡ some-of (rangeRuns (tableOf (now (w .entry)) .fields) k leg) (rowsIn dayAt daySize n (now (v .entry))) ⌝ }
 {
     let mut p: usize = 0;
     let mut left = n;
@@ -139,8 +140,8 @@ fn ranges_run(w: &[u32], v: &[u32], n: u32, leg: u32, k: u32) -> bool
 
 // Whether the range at a place covers a leg and runs on day k.
 fn runs_at(w: &[u32], v: &[u32], p: usize, leg: u32, k: u32) -> bool
-    requires { ⌜ Whole (now w) × (k < 380) ⌝ }
-    requires { ⌜ p + 3 ≤ length (now v) ⌝ }
+    requires { ⌜ Whole (now w) × (k < mostPeriodDays) ⌝ }
+    requires { ⌜ p + daySize ≤ length (now v) ⌝ }
     ensures { λ r. ⌜ r ≡ rangeRuns (tableOf (now (w .entry)) .fields) k leg (dayAt (drop p (now (v .entry)))) ⌝ }
 {
     range_runs(w, v[p], v[p + 1], v[p + 2], leg, k)
@@ -148,7 +149,7 @@ fn runs_at(w: &[u32], v: &[u32], p: usize, leg: u32, k: u32) -> bool
 
 // Whether a range covers a leg and runs on day k.
 fn range_runs(w: &[u32], field: u32, from: u32, to: u32, leg: u32, k: u32) -> bool
-    requires { ⌜ Whole (now w) × (k < 380) ⌝ }
+    requires { ⌜ Whole (now w) × (k < mostPeriodDays) ⌝ }
     ensures { λ r. ⌜ r ≡ rangeRuns (tableOf (now (w .entry)) .fields) k leg (record { field = field; legs = record { from = from; to = to } }) ⌝ }
 {
     if leg < from {

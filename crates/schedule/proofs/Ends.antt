@@ -1,41 +1,29 @@
--- The ends of a service's ranges (16): the needs of the functions that check one range, and of the loop over the lines. Assumes nothing.
-use mathlib.Core.Path.{_≡_, refl, _∙_}
-use mathlib.Core.List.{List, [], _∷_, _++_}
-use mathlib.Core.Bool.{Bool, true, false, cond, _||_}
+-- The ends of a service's ranges (16): the needs of the function that checks one range, and of the loop over the ranges. Assumes nothing.
+use mathlib.Core.Path.{_≡_, refl, sym, ap, _∙_}
+use mathlib.Core.List.{List}
+use mathlib.Core.Bool.{Bool, true, false}
 use mathlib.Core.Option.{Option, none, some}
-use mathlib.Core.Logic.{⊎-elim}
-use denote.Enum.Declared.{tagOf}
-use types.Run.{OneOf}
 use Prim.Native.Nat.{ℕ, _+_, _-_, _≤_, _<_}
-use native.Mathlib.Omega.{arith}
-use lib.ListN.{length, take, drop}
-use lib.Dec.{eqb}
-use Rattle.base.specs.Lists.{some-of}
-use Rattle.base.proofs.Laws.{tests, or-false}
+use native.Mathlib.Nat.{sub-zero}
+use lib.ListN.{drop}
+use Rattle.base.proofs.Laws.{tests}
 use Rattle.fields.specs.declared.RouteIndex.{RouteIndex}
-use Rattle.lines.specs.Lines.{Line, linesFrom, cutAt}
-use Rattle.lines.specs.declared.Cut.{Cut}
-use Rattle.lines.proofs.Laws.{cutting, lines-none, walk}
+use Rattle.draft.specs.Draft.{draftRange, lineBack, rangeBack, rangesOn}
 use Rattle.timetable.specs.Delivery.{Legs}
-use Rattle.timetable.specs.Offences.{Offence, orElse, first}
-use Rattle.timetable.specs.Plan.{toldIn}
-use Rattle.timetable.specs.Ranges.{legsOf}
-use Rattle.timetable.specs.Checks.{isNone, rangeBad}
+use Rattle.timetable.specs.Offences.{offenceAt, given, _<|>_, verdictBy}
+use Rattle.timetable.specs.Service.{legsOn}
+use Rattle.timetable.specs.Checks.{isNone, endsFirst}
+use Rattle.timetable.specs.Table.{rowsIn}
 use Rattle.timetable.specs.declared.Call.{Call}
-use Rattle.timetable.specs.declared.CategoryLine.{CategoryLine}
-use Rattle.timetable.specs.declared.DaysLine.{DaysLine}
-use Rattle.timetable.specs.declared.ExtraLine.{ExtraLine}
-use Rattle.timetable.specs.declared.Told.{Told}
-use Rattle.timetable.specs.declared.Told.the-variants.{Skip, Other, Broken, Opens, Category, Days, Extra, Calls}
-use Rattle.timetable.proofs.Told.{the-type}
+use Rattle.timetable.specs.declared.RangeLine.{RangeLine}
+use Rattle.timetable.specs.declared.Verdict.{Verdict}
+use Rattle.timetable.specs.declared.Verdict.the-variants.{Fine, Offends}
+use Rattle.timetable.proofs.Rows.{rows-turn, rows-none}
 use Rattle.route.specs.Route.{foundOf}
 use Rattle.route.specs.declared.Found.{Found}
 use Rattle.route.specs.declared.Found.the-variants.{Between, Missing}
-use Rattle.schedule.specs.Schedule.{lineBy}
-use Rattle.schedule.specs.declared.FirstLine.{FirstLine}
-use Rattle.schedule.specs.declared.FirstLine.the-variants.{At, Nowhere}
 
--- ---- one range, for `search ending`
+-- ---- one range, for `search ending`: l are its legs, f what was found
 
 module _ (l : Option Legs) (f : Found) (e : f ≡ foundOf l) where
   missing-none : (b : Bool) → (l ≡ none → b ≡ true) → ((g : Legs) → l ≡ some g → b ≡ false) → b ≡ isNone l
@@ -51,70 +39,33 @@ module _ (l : Option Legs) (f : Found) (e : f ≡ foundOf l) where
   pub ends-missing : f ≡ Missing → true ≡ isNone l
   ends-missing k = missing-none true (λ y. refl) (λ g y. cc)
 
-module _ (cs : List Call) (x : Told) where
-  pub bad-other : OneOf (0 ∷ 1 ∷ 2 ∷ 3 ∷ 7 ∷ []) (tagOf the-type x) → false ≡ rangeBad cs x
-  unfolding some-of
-  bad-other k = go x k
-    where
-      go : (x : Told) → OneOf (0 ∷ 1 ∷ 2 ∷ 3 ∷ 7 ∷ []) (tagOf the-type x) → false ≡ rangeBad cs x
-      go Skip k = refl
-      go Other k = refl
-      go Broken k = refl
-      go (Opens o) k = refl
-      go (Category g) k = absurd (⊎-elim (λ w. omega arith) (⊎-elim (λ w. omega arith) (⊎-elim (λ w. omega arith) (⊎-elim (λ w. omega arith) (λ w. omega arith)))) k)
-      go (Days v) k = absurd (⊎-elim (λ w. omega arith) (⊎-elim (λ w. omega arith) (⊎-elim (λ w. omega arith) (⊎-elim (λ w. omega arith) (λ w. omega arith)))) k)
-      go (Extra a) k = absurd (⊎-elim (λ w. omega arith) (⊎-elim (λ w. omega arith) (⊎-elim (λ w. omega arith) (⊎-elim (λ w. omega arith) (λ w. omega arith)))) k)
-      go (Calls c) k = refl
+pub ruleset ending = (tests, ends-found, ends-missing)
 
-  module _ (b : Bool) where
-    pub bad-category : (g : CategoryLine) → x ≡ Category g → b ≡ isNone (legsOf false cs (g .ends)) → b ≡ rangeBad cs x
-    unfolding some-of
-    bad-category g e k = rw (e, ← k) (or-false b ∙ or-false (b || false) ∙ or-false ((b || false) || false))
+-- ---- the loop of `ends_wrong`, for `search ended`: the ranges from the i-th of n on, whose words start at `at`; o is what all ranges answer
 
-    pub bad-days : (v : DaysLine) → x ≡ Days v → b ≡ isNone (legsOf false cs (v .ends)) → b ≡ rangeBad cs x
-    unfolding some-of
-    bad-days v e k = rw (e, ← k) (or-false b ∙ or-false (b || false))
+pub ends-start : (cs : List Call) (w : List ℕ) (n : ℕ) → verdictBy (endsFirst cs (rowsIn rangeBack draftRange (n - 0) (drop 0 w))) ≡ verdictBy (endsFirst cs (rangesOn n w))
+ends-start cs w n = rw (sub-zero n) refl
 
-    pub bad-extra : (a : ExtraLine) → x ≡ Extra a → b ≡ isNone (legsOf true cs (a .ends)) → b ≡ rangeBad cs x
-    unfolding some-of
-    bad-extra a e k = rw (e, ← k) (or-false b)
+module _ (cs : List Call) (w : List ℕ) (n i at : ℕ) (o : Verdict) (v : verdictBy (endsFirst cs (rowsIn rangeBack draftRange (n - i) (drop at w))) ≡ o) where
+  -- t says whether the ends of the range at hand are missing
+  module _ (h : i < n) (range : RangeLine) (d : range ≡ lineBack (drop at w)) (t : Bool) (f : t ≡ isNone (legsOn cs range)) where
+    turn : verdictBy (given t 16 (rangeBack (drop at w) .0) <|> endsFirst cs (rowsIn rangeBack draftRange (n - (i + 1)) (drop (at + draftRange) w))) ≡ o
+    unfolding endsFirst
+    turn =
+        ap (λ (t : Bool). verdictBy (given t 16 (rangeBack (drop at w) .0) <|> endsFirst cs (rowsIn rangeBack draftRange (n - (i + 1)) (drop (at + draftRange) w)))) (f ∙ ap (λ (x : RangeLine). isNone (legsOn cs x)) d)
+        ∙ ap (λ (xs : List (ℕ × RangeLine)). verdictBy (endsFirst cs xs)) (sym (rows-turn rangeBack draftRange n i at w h))
+        ∙ v
 
-pub ruleset ending = (tests, ends-found, ends-missing, bad-other, bad-category, bad-days, bad-extra)
+    pub ends-again : t ≡ false → verdictBy (endsFirst cs (rowsIn rangeBack draftRange (n - (i + 1)) (drop (at + draftRange) w))) ≡ o
+    unfolding _<|>_
+    ends-again y = rw y at turn
 
--- ---- the loop of `ranges_wrong`, for `search ranged`: x is what the line says that is cut at place p; o is what all lines answer
+    pub ends-out : (line : ℕ) (r : Verdict) → t ≡ true → line ≡ rangeBack (drop at w) .0 → r ≡ verdictBy (some (offenceAt 16 line)) → r ≡ o
+    unfolding _<|>_
+    ends-out line r y z k = k ∙ ap (λ (l : ℕ). Offends (offenceAt 16 l)) z ∙ (rw y at turn)
 
--- the first line whose range is bad
-unfoldable pub badLine : List Call → List Line → FirstLine
-badLine cs [] = Nowhere
-badLine cs (l ∷ ls) = cond (rangeBad cs (toldIn (l .text))) (At (l .no)) (badLine cs ls)
+  pub ends-done : n ≤ i → Fine ≡ o
+  unfolding endsFirst
+  ends-done h = rw (rows-none rangeBack draftRange n i (drop at w) h) at v
 
--- the lines before play no part in 16
-bad-first : (cs : List Call) (before ls : List Line) → badLine cs ls ≡ lineBy (first (λ (before : List Line) (l : Line). cond (rangeBad cs (toldIn (l .text))) 16 0) before ls)
-unfolding badLine first
-bad-first cs before [] = refl
-bad-first cs before (l ∷ ls) = go (rangeBad cs (toldIn (l .text))) _ (bad-first cs (before ++ (l ∷ [])) ls)
-  where
-    go : (t : Bool) (o : Option Offence) → badLine cs ls ≡ lineBy o → cond t (At (l .no)) (badLine cs ls) ≡ lineBy (orElse (cond (eqb (cond t 16 0) 0) none (some (cond t 16 0, l .no))) o)
-    go true o ih = refl
-    go false o ih = ih
-
-pub ranges-start : (cs : List Call) (ls : List Line) → badLine cs ls ≡ lineBy (first (λ (before : List Line) (l : Line). cond (rangeBad cs (toldIn (l .text))) 16 0) [] ls)
-ranges-start cs ls = bad-first cs [] ls
-
-module _ (b : List ℕ) (p n : ℕ) (r : Cut) (h : p < length b) (e : r ≡ cutAt b p n) (x : Told) (d : x ≡ toldIn (take (r .stop - p) (drop p b)))
-    (cs : List Call) (t : Bool) (f : t ≡ rangeBad cs x) (o : FirstLine) (v : badLine cs (linesFrom n p (drop p b)) ≡ o) where
-  ranges-turn : cond t (At n) (badLine cs (linesFrom (r .no) (r .next) (drop (r .next) b))) ≡ o
-  unfolding badLine
-  ranges-turn = rw (cutting b p n r h e .step, ← d, ← f) at v
-
-  pub ranges-again : t ≡ false → badLine cs (linesFrom (r .no) (r .next) (drop (r .next) b)) ≡ o
-  ranges-again y = rw y at ranges-turn
-
-  pub ranges-out : t ≡ true → At n ≡ o
-  ranges-out y = rw y at ranges-turn
-
-pub ranges-done : (b : List ℕ) (p n : ℕ) (cs : List Call) (o : FirstLine) → length b ≤ p → badLine cs (linesFrom n p (drop p b)) ≡ o → Nowhere ≡ o
-unfolding badLine
-ranges-done b p n cs o h v = rw (lines-none b p n h) at v
-
-pub ruleset ranged = (tests, walk, ranges-start, ranges-again, ranges-out, ranges-done)
+pub ruleset ended = (tests, ends-start, ends-again, ends-out, ends-done)

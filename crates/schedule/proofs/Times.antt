@@ -1,30 +1,22 @@
--- The times of a service's calls (15): the needs of the functions that check one call, and of the loop over the lines. Assumes nothing.
-use mathlib.Core.Path.{_≡_, refl, sym, _∙_}
-use mathlib.Core.List.{List, [], _∷_, _++_, map}
-use mathlib.Core.Bool.{Bool, true, false, cond, _&&_, _||_}
+-- The times of a service's calls (15): the needs of the functions that check one call, and of the loop over the calls. Assumes nothing.
+use mathlib.Core.Path.{_≡_, refl, sym, ap, _∙_}
+use mathlib.Core.List.{List}
+use mathlib.Core.Bool.{Bool, true, false, not, _&&_, _||_}
 use mathlib.Core.Option.{some}
-use mathlib.Core.Logic.{⊎-elim}
-use denote.Enum.Declared.{tagOf}
-use types.Run.{OneOf}
 use Prim.Native.Nat.{ℕ, _+_, _-_, _≤_, _<_}
-use native.Mathlib.Omega.{arith}
-use lib.ListN.{length, take, drop}
+use native.Mathlib.Nat.{sub-zero}
+use lib.ListN.{drop}
 use lib.Dec.{eqb}
-use Rattle.base.specs.Lists.{gathered}
 use Rattle.base.proofs.Laws.{tests}
-use Rattle.lines.specs.Lines.{linesFrom, cutAt}
-use Rattle.lines.specs.declared.Cut.{Cut}
-use Rattle.lines.proofs.Laws.{cutting, lines-none, walk}
-use Rattle.timetable.specs.Plan.{toldIn, asCall}
+use Rattle.draft.specs.Draft.{draftCall, callBack, callsOn}
+use Rattle.timetable.specs.Offences.{offenceAt, given, _<|>_, verdictBy}
 use Rattle.timetable.specs.Ranges.{hasArrival, hasDeparture}
-use Rattle.timetable.specs.Checks.{timesStated, notBelow, later, timesRise, lastStated, callLines, timesFirst}
+use Rattle.timetable.specs.Checks.{timesStated, notBelow, later, timesRise, lastStated, timesFirst}
+use Rattle.timetable.specs.Table.{rowsIn}
 use Rattle.timetable.specs.declared.Call.{Call}
-use Rattle.timetable.specs.declared.Told.{Told}
-use Rattle.timetable.specs.declared.Told.the-variants.{Skip, Other, Broken, Opens, Category, Days, Extra, Calls}
-use Rattle.timetable.proofs.Told.{the-type}
-use Rattle.schedule.specs.Schedule.{lineBy}
-use Rattle.schedule.specs.declared.FirstLine.{FirstLine}
-use Rattle.schedule.specs.declared.FirstLine.the-variants.{At, Nowhere}
+use Rattle.timetable.specs.declared.Verdict.{Verdict}
+use Rattle.timetable.specs.declared.Verdict.the-variants.{Fine, Offends}
+use Rattle.timetable.proofs.Rows.{rows-turn, rows-none}
 
 -- ---- one call, for `search fitting`: two tests, one after the other
 
@@ -53,45 +45,35 @@ module _ (call : Call) (f g s r : Bool) (e : f ≡ hasArrival call) (d : g ≡ h
 
 pub ruleset fitting = (tests, and-then, and-not, stated-then, stated-not, rise-then, rise-not)
 
--- ---- the loop of `times_wrong`, for `search timed`: x is what the line says that is cut at place p; o is what all lines answer
+-- ---- the loop of `times_wrong`, for `search timed`: the calls from the i-th of c on, whose words start at `at`; o is what all calls answer
 
--- a line of another kind is no call
-no-call : (t : Told) → OneOf (0 ∷ 1 ∷ 2 ∷ 3 ∷ 4 ∷ 5 ∷ 6 ∷ []) (tagOf the-type t) → asCall t ≡ []
-no-call Skip k = refl
-no-call Other k = refl
-no-call Broken k = refl
-no-call (Opens o) k = refl
-no-call (Category g) k = refl
-no-call (Days v) k = refl
-no-call (Extra a) k = refl
-no-call (Calls c) k = absurd (⊎-elim (λ w. omega arith) (⊎-elim (λ w. omega arith) (⊎-elim (λ w. omega arith) (⊎-elim (λ w. omega arith) (⊎-elim (λ w. omega arith) (⊎-elim (λ w. omega arith) (λ w. omega arith)))))) k)
+pub times-start : (w : List ℕ) (c : ℕ) → verdictBy (timesFirst c 0 0 (rowsIn callBack draftCall (c - 0) (drop 0 w))) ≡ verdictBy (timesFirst c 0 0 (callsOn c w))
+times-start w c = rw (sub-zero c) refl
 
--- the calls from place p on, with their lines' numbers
-abbrev callsFrom : List ℕ → ℕ → ℕ → List (ℕ × Call)
-callsFrom b n p = callLines (linesFrom n p (drop p b))
+module _ (w : List ℕ) (c i at before : ℕ) (o : Verdict) (v : verdictBy (timesFirst c i before (rowsIn callBack draftCall (c - i) (drop at w))) ≡ o) where
+  -- t says whether the times of the call at hand fit
+  module _ (h : i < c) (call : Call) (d : call ≡ callBack (drop at w) .1) (t : Bool) (f : t ≡ (timesStated c i call && timesRise before call)) where
+    abbrev rest : ℕ → Verdict
+    rest m = verdictBy (timesFirst c (i + 1) m (rowsIn callBack draftCall (c - (i + 1)) (drop (at + draftCall) w)))
 
-module _ (b : List ℕ) (p n : ℕ) (r : Cut) (h : p < length b) (e : r ≡ cutAt b p n) (x : Told) (d : x ≡ toldIn (take (r .stop - p) (drop p b))) where
-  calls-turn : callsFrom b n p ≡ map (λ (c : Call). (n, c)) (asCall x) ++ callsFrom b (r .no) (r .next)
-  unfolding callLines gathered
-  calls-turn = rw (cutting b p n r h e .step, ← d)
+    turn : verdictBy (given (not t) 15 (callBack (drop at w) .0) <|> timesFirst c (i + 1) (lastStated before call) (rowsIn callBack draftCall (c - (i + 1)) (drop (at + draftCall) w))) ≡ o
+    unfolding timesFirst
+    turn =
+        ap (λ (t : Bool). verdictBy (given (not t) 15 (callBack (drop at w) .0) <|> timesFirst c (i + 1) (lastStated before call) (rowsIn callBack draftCall (c - (i + 1)) (drop (at + draftCall) w)))) f
+        ∙ ap (λ (x : Call). verdictBy (given (not (timesStated c i x && timesRise before x)) 15 (callBack (drop at w) .0) <|> timesFirst c (i + 1) (lastStated before x) (rowsIn callBack draftCall (c - (i + 1)) (drop (at + draftCall) w)))) d
+        ∙ ap (λ (xs : List (ℕ × Call)). verdictBy (timesFirst c i before xs)) (sym (rows-turn callBack draftCall c i at w h))
+        ∙ v
 
-  module _ (c i before : ℕ) (o : FirstLine) (v : lineBy (timesFirst c i before (callLines (linesFrom n p (drop p b)))) ≡ o) where
-    pub times-other : OneOf (0 ∷ 1 ∷ 2 ∷ 3 ∷ 4 ∷ 5 ∷ 6 ∷ []) (tagOf the-type x) → lineBy (timesFirst c i before (callLines (linesFrom (r .no) (r .next) (drop (r .next) b)))) ≡ o
-    times-other k = rw (calls-turn, no-call x k) at v
+    pub times-again : (m : ℕ) → not t ≡ false → m ≡ lastStated before call → verdictBy (timesFirst c (i + 1) m (rowsIn callBack draftCall (c - (i + 1)) (drop (at + draftCall) w))) ≡ o
+    unfolding _<|>_
+    times-again m y z = ap rest z ∙ (rw y at turn)
 
-    module _ (call : Call) (k : x ≡ Calls call) (t : Bool) (f : t ≡ (timesStated c i call && timesRise before call)) where
-      call-turn : lineBy (cond t (timesFirst c (i + 1) (lastStated before call) (callsFrom b (r .no) (r .next))) (some (15, n))) ≡ o
-      unfolding timesFirst
-      call-turn = rw (calls-turn, k, ← f) at v
+    pub times-out : (line : ℕ) (r : Verdict) → not t ≡ true → line ≡ callBack (drop at w) .0 → r ≡ verdictBy (some (offenceAt 15 line)) → r ≡ o
+    unfolding _<|>_
+    times-out line r y z k = k ∙ ap (λ (l : ℕ). Offends (offenceAt 15 l)) z ∙ (rw y at turn)
 
-      pub times-again : (m : ℕ) → t ≡ true → m ≡ lastStated before call → lineBy (timesFirst c (i + 1) m (callLines (linesFrom (r .no) (r .next) (drop (r .next) b)))) ≡ o
-      times-again m y z = rw z (rw y at call-turn)
+  pub times-done : c ≤ i → Fine ≡ o
+  unfolding timesFirst
+  times-done h = rw (rows-none callBack draftCall c i (drop at w) h) at v
 
-      pub times-out : t ≡ false → At n ≡ o
-      times-out y = rw y at call-turn
-
-pub times-done : (b : List ℕ) (p n c i before : ℕ) (o : FirstLine) → length b ≤ p → lineBy (timesFirst c i before (callLines (linesFrom n p (drop p b)))) ≡ o → Nowhere ≡ o
-unfolding callLines gathered timesFirst
-times-done b p n c i before o h v = rw (lines-none b p n h) at v
-
-pub ruleset timed = (tests, walk, times-other, times-again, times-out, times-done)
+pub ruleset timed = (tests, times-start, times-again, times-out, times-done)

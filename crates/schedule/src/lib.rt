@@ -1,62 +1,45 @@
-// The checks of a service by line: its calls' times (15) and its ranges' ends (16). Its lines are those of b from place `at` on, the
-// first of them line `no`.
+// The checks of a service by line, on its draft: the times of its calls (15) and the ends of its ranges (16).
+use draft::DRAFT_CALL_WORDS;
+use draft::DRAFT_RANGE_WORDS;
 use route::Found;
 use timetable::Call;
-use timetable::Ends;
-use timetable::Told;
+use timetable::RangeLine;
+use timetable::Verdict;
 ghost use mathlib.Core.Path.{_≡_};
-ghost use mathlib.Core.List.{List, []};
-ghost use mathlib.Core.Bool.{cond, _&&_, _||_};
-ghost use Prim.Native.Nat.{_+_, _*_, _≤_, _<_};
+ghost use mathlib.Core.Bool.{_&&_, _||_};
+ghost use Prim.Native.Nat.{_*_, _≤_, _<_};
 ghost use lib.ListN.{length};
-ghost use Rattle.lines.specs.Lines.{Line, linesAt};
-ghost use Rattle.route.specs.Route.{callsIn};
-ghost use Rattle.timetable.specs.Offences.{first};
-ghost use Rattle.timetable.specs.Plan.{toldIn};
-ghost use Rattle.timetable.specs.Ranges.{hasArrival, hasDeparture, legsOf};
-ghost use Rattle.timetable.specs.Checks.{timesStated, notBelow, later as laterOf, timesRise, lastStated, callLines, timesFirst, isNone, rangeBad};
-ghost use Rattle.schedule.specs.Schedule.{lineBy};
-
-// The first line that breaks a rule, if one does.
-pub enum FirstLine {
-    At(u32),
-    Nowhere,
-}
+ghost use Rattle.timetable.specs.Offences.{verdictBy};
+ghost use Rattle.timetable.specs.Ranges.{hasArrival, hasDeparture};
+ghost use Rattle.timetable.specs.Service.{legsOn};
+ghost use Rattle.timetable.specs.Checks.{timesStated, notBelow, later as laterOf, timesRise, lastStated, timesFirst, isNone, endsFirst};
+ghost use Rattle.draft.specs.Draft.{draftCall, draftRange, callsOn, callsIn, rangesOn};
 
 // ---- 15
 
-// The line of the first of c calls whose times are missing or fall. Only schedule lines are taken as calls; every other kind is passed over.
-pub fn times_wrong(b: &[u8], at: usize, no: u32, c: u32) -> FirstLine
-    requires { ⌜ (at ≤ length (now b)) × (length (now b) ≤ 16777216) × (no ≤ at + 1) ⌝ }
-    ensures { λ r. ⌜ r ≡ lineBy (timesFirst c 0 0 (callLines (linesAt (now (b .entry)) at no))) ⌝ }
+// The first of c calls whose times are missing or fall.
+pub fn times_wrong(calls: &[u32], c: u32) -> Verdict
+    requires { ⌜ draftCall * c ≤ length (now calls) ⌝ }
+    ensures { λ r. ⌜ r ≡ verdictBy (timesFirst c 0 0 (callsOn c (now (calls .entry)))) ⌝ }
 {
-    let mut place = at;
-    let mut line = no;
     let mut i: u32 = 0;
+    let mut at: usize = 0;
     let mut before: u32 = 0;
-    while place < b.len() {
-        let cut = reader::line_from(b, place, line);
-        let stop = cut.stop;
-        let said = told::told_in(&b[place..stop]);
-        let here = line;
-        place = cut.next;
-        line = cut.no;
-        let Told::Calls(call) = said else {
-            continue;
-        };
-        if times_fit(c, i, before, call) {
-            before = last_stated(before, call);
-            i += 1;
-        } else {
-            return FirstLine::At(here);
+    while i < c {
+        let call = draft::call_at(calls, at);
+        if !times_fit(c, i, before, call) {
+            return timetable::offends(15, draft::call_line(calls, at));
         }
+        before = last_stated(before, call);
+        at += DRAFT_CALL_WORDS;
+        i += 1;
     }
-    FirstLine::Nowhere
+    Verdict::Fine
 }
 
 // Whether the i-th call of c states the times that it needs, and none of them falls after `before`, the time stated last.
 fn times_fit(c: u32, i: u32, before: u32, call: Call) -> bool
-    requires { ⌜ i < 16777216 ⌝ }
+    requires { ⌜ i < c ⌝ }
     ensures { λ r. ⌜ r ≡ (timesStated c i call && timesRise before call) ⌝ }
 {
     let stated = times_stated(c, i, call);
@@ -65,7 +48,7 @@ fn times_fit(c: u32, i: u32, before: u32, call: Call) -> bool
 }
 
 fn times_stated(c: u32, i: u32, call: Call) -> bool
-    requires { ⌜ i < 16777216 ⌝ }
+    requires { ⌜ i < c ⌝ }
     ensures { λ r. ⌜ r ≡ timesStated c i call ⌝ }
 {
     let arrival = stated_or(i == 0, arrives(call));
@@ -137,44 +120,29 @@ fn later(stated: bool, time: u32, before: u32) -> u32
 
 // ---- 16
 
-// The line of the first range whose ends are not found among the c calls of w, or are in wrong order.
-pub fn ranges_wrong(b: &[u8], at: usize, no: u32, w: &[u32], c: u32) -> FirstLine
-    requires { ⌜ (at ≤ length (now b)) × (length (now b) ≤ 16777216) × (no ≤ at + 1) ⌝ }
-    requires { ⌜ c * 4 ≤ length (now w) ⌝ }
-    ensures { λ r. ⌜ r ≡ lineBy (first (λ (before : List Line) (l : Line). cond (rangeBad (callsIn c (now (w .entry))) (toldIn (l .text))) 16 0) [] (linesAt (now (b .entry)) at no)) ⌝ }
+// The first of n ranges whose ends are not found among the c calls, or are in wrong order.
+pub fn ends_wrong(ranges: &[u32], n: u32, calls: &[u32], c: u32) -> Verdict
+    requires { ⌜ (draftRange * n ≤ length (now ranges)) × (draftCall * c ≤ length (now calls)) ⌝ }
+    ensures { λ r. ⌜ r ≡ verdictBy (endsFirst (callsIn c (now (calls .entry))) (rangesOn n (now (ranges .entry)))) ⌝ }
 {
-    let mut place = at;
-    let mut line = no;
-    while place < b.len() {
-        let cut = reader::line_from(b, place, line);
-        let stop = cut.stop;
-        if range_bad(told::told_in(&b[place..stop]), w, c) {
-            return FirstLine::At(line);
+    let mut i: u32 = 0;
+    let mut at: usize = 0;
+    while i < n {
+        if ends_missing(draft::range_at(ranges, at), calls, c) {
+            return timetable::offends(16, draft::range_line(ranges, at));
         }
-        place = cut.next;
-        line = cut.no;
+        at += DRAFT_RANGE_WORDS;
+        i += 1;
     }
-    FirstLine::Nowhere
+    Verdict::Fine
 }
 
-// Whether what a line says is such a range.
-fn range_bad(said: Told, w: &[u32], c: u32) -> bool
-    requires { ⌜ c * 4 ≤ length (now w) ⌝ }
-    ensures { λ r. ⌜ r ≡ rangeBad (callsIn c (now (w .entry))) said ⌝ }
+// Whether a range's ends are not found, or are in wrong order.
+fn ends_missing(range: RangeLine, calls: &[u32], c: u32) -> bool
+    requires { ⌜ draftCall * c ≤ length (now calls) ⌝ }
+    ensures { λ r. ⌜ r ≡ isNone (legsOn (callsIn c (now (calls .entry))) range) ⌝ }
 {
-    match said {
-        Told::Category(g) => ends_bad(w, c, g.ends, false),
-        Told::Days(v) => ends_bad(w, c, v.ends, false),
-        Told::Extra(a) => ends_bad(w, c, a.ends, true),
-        _ => false,
-    }
-}
-
-fn ends_bad(w: &[u32], c: u32, ends: Ends, loose: bool) -> bool
-    requires { ⌜ c * 4 ≤ length (now w) ⌝ }
-    ensures { λ r. ⌜ r ≡ isNone (legsOf loose (callsIn c (now (w .entry))) ends) ⌝ }
-{
-    let found = route::legs_of(w, c, ends, loose);
+    let found = route::legs_on(calls, c, range);
     match found {
         Found::Between(from, to) => false,
         Found::Missing => true,

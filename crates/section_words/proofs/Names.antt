@@ -10,7 +10,7 @@ use borrow.Author.Tests.{eq-eqb, ne-eqb}
 use Rattle.base.specs.Lists.{every}
 use Rattle.base.proofs.Laws.{tests}
 use Rattle.columns.specs.Columns.{columns, isBlank, blank}
-use Rattle.columns.proofs.Laws.{length-pad, getD-pad, part-columns}
+use Rattle.columns.proofs.Laws.{length-columns, getD-pad, part-columns}
 use Rattle.timetable.specs.Files.{nameLength}
 
 -- ---- one byte more
@@ -50,8 +50,7 @@ module _ (b : ℕ) where
 -- ---- the needs of `name_length`: b was read before place k of the name p, which stands in columns 13 to 62
 
 name-all : (text : List ℕ) → length (columns 13 62 text) ≡ 50
-unfolding columns
-name-all text = length-pad 50 (drop 12 text)
+name-all text = length-columns 13 62 text
 
 pub name-start : (text : List ℕ) → nameLength (take 50 (columns 13 62 text)) ≡ nameLength (columns 13 62 text)
 name-start text = ap nameLength (take-all 50 (columns 13 62 text) (omega (arith, name-all text)))

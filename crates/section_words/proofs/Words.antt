@@ -1,126 +1,100 @@
--- The words of lines: those of a section are those of its records, 13, 3 or 3 for each. Assumes nothing.
+-- The words of lines: those of a section are those of its records, so many for each. Assumes nothing.
 use mathlib.Core.Path.{_≡_, refl, ap, sym, _∙_}
 use mathlib.Core.List.{List, [], _∷_, _++_, append-nil}
-use Prim.Native.Nat.{ℕ, suc, _+_, _*_}
-use native.Mathlib.Nat.{mul-zero, mul-add}
+use mathlib.Core.Bool.{Bool, true, false, cond}
+use Prim.Native.Nat.{ℕ, suc, _*_}
+use native.Mathlib.Nat.{mul-zero, mul-one, mul-add}
 use lib.ListN.{length, length-append}
 use Rattle.base.specs.Lists.{gathered}
 use Rattle.base.proofs.Lists.{gathered-append}
-use Rattle.columns.specs.Columns.{columns, number}
 use Rattle.lines.specs.Lines.{Line, skipped}
-use Rattle.bitfield.specs.BitField.{hexWords, bitsIn}
-use Rattle.forms.specs.Form.{fits}
+use Rattle.bitfield.proofs.Hex.{length-bits}
+use Rattle.forms.specs.Form.{formOf}
 use Rattle.forms.specs.Columns.{bitFieldColumns, stopColumns, interchangeColumns}
-use Rattle.timetable.specs.Files.{Held, listed, held-in, bitFieldOf, stopOf, nameLength, interchangeOf}
-use Rattle.timetable.specs.Load.{bitFieldSize, stopSize, interchangeSize, bitFieldWords, stopWords, interchangeWords}
-use Rattle.sections.specs.Sections.{numberOn, asNumber, numbers, lineAt}
+use Rattle.forms.specs.declared.Form.{Form}
+use Rattle.forms.specs.declared.Form.the-variants.{Fits, Broken as BrokenForm}
+use Rattle.timetable.specs.Layout.{bitFieldSize, stopSize, interchangeSize}
+use Rattle.timetable.specs.Files.{Held, skip, listed, held-in, heldBy, bitFieldOf, stopOf, interchangeOf}
+use Rattle.timetable.specs.Table.{bitFieldWords, stopWords, interchangeWords}
+use Rattle.sections.specs.Sections.{numberedBy, numberOn, asNumber, numbers}
 use Rattle.sections.specs.declared.Section.{Section}
 use Rattle.sections.specs.declared.Section.the-variants.{BitFields, Stops, Interchanges}
 use Rattle.sections.specs.declared.Numbered.{Numbered}
 use Rattle.sections.specs.declared.Numbered.the-variants.{Number, Skipped, Broken}
-use Rattle.sections.proofs.Held.{holds, number-is}
-use Rattle.sections.proofs.Files.{count-fields, count-stops, count-records}
-use Rattle.section_words.specs.Words.{lineWords, sectionWords}
+use Rattle.sections.proofs.Files.{count-fields, count-stops, count-interchanges}
+use Rattle.section_words.specs.Words.{recordWords, wordsOn, sectionWords}
 
--- ---- the words of a section
+-- ---- the words of a section are those of what its lines hold
 
-held-words : {X : Type 0} (f : Line → Held X) (w : X → List ℕ) (ls : List Line) → gathered (λ (l : Line). gathered w (listed (f l))) ls ≡ gathered w (held-in f ls)
-unfolding gathered held-in
-held-words f w [] = refl
-held-words f w (l ∷ ls) = ap (λ r. gathered w (listed (f l)) ++ r) (held-words f w ls) ∙ sym (gathered-append w (listed (f l)) (held-in f ls))
+module _ {X : Type 0} (w : X → List ℕ) (s : Section) (f : Line → Held X) where
+  section-words : ((l : Line) → wordsOn s (l .start) (l .text) ≡ gathered w (listed (f l))) → (ls : List Line) → sectionWords s ls ≡ gathered w (held-in f ls)
+  unfolding sectionWords gathered held-in
+  section-words e [] = refl
+  section-words e (l ∷ ls) = rw (e l, section-words e ls) (sym (gathered-append w (listed (f l)) (held-in f ls)))
+
+  -- of a line: t is whether it is skipped, g its form, k the number of its record x
+  one-record : (own : ℕ → List ℕ) (t : Bool) (g : Form) (x : X) (k : ℕ) → own k ≡ w x → gathered own (asNumber (cond t Skipped (numberedBy g k))) ≡ gathered w (listed (cond t skip (heldBy g x)))
+  unfolding gathered
+  one-record own true g x k e = refl
+  one-record own false Fits x k e = ap (λ (r : List ℕ). r ++ []) e
+  one-record own false (BrokenForm c) x k e = refl
 
 module _ (ls : List Line) where
   pub words-fields : sectionWords BitFields ls ≡ gathered bitFieldWords (held-in bitFieldOf ls)
-  unfolding lineWords
-  words-fields = held-words bitFieldOf bitFieldWords ls
+  unfolding wordsOn numberOn
+  words-fields = section-words bitFieldWords BitFields bitFieldOf (λ l. one-record bitFieldWords BitFields bitFieldOf (recordWords BitFields (l .start) (l .text)) (skipped (l .text)) (formOf bitFieldColumns (l .text)) _ _ refl) ls
 
   pub words-stops : sectionWords Stops ls ≡ gathered stopWords (held-in stopOf ls)
-  unfolding lineWords
-  words-stops = held-words stopOf stopWords ls
+  unfolding wordsOn numberOn
+  words-stops = section-words stopWords Stops stopOf (λ l. one-record stopWords Stops stopOf (recordWords Stops (l .start) (l .text)) (skipped (l .text)) (formOf stopColumns (l .text)) _ _ refl) ls
 
-  pub words-records : sectionWords Interchanges ls ≡ gathered interchangeWords (held-in interchangeOf ls)
-  unfolding lineWords
-  words-records = held-words interchangeOf interchangeWords ls
+  pub words-interchanges : sectionWords Interchanges ls ≡ gathered interchangeWords (held-in interchangeOf ls)
+  unfolding wordsOn numberOn
+  words-interchanges = section-words interchangeWords Interchanges interchangeOf (λ l. one-record interchangeWords Interchanges interchangeOf (recordWords Interchanges (l .start) (l .text)) (skipped (l .text)) (formOf interchangeColumns (l .text)) _ _ refl) ls
 
 -- ---- the words of a line, by what it has for a number
 
-pub length-bits : (text : List ℕ) → length (bitsIn text) ≡ 12
-unfolding bitsIn hexWords
-length-bits text = refl
+module _ (s : Section) (start : ℕ) (text : List ℕ) (n : Numbered) (e : n ≡ numberOn s text) where
+  pub words-skipped : n ≡ Skipped → wordsOn s start text ≡ []
+  unfolding wordsOn gathered
+  words-skipped y = rw (sym e ∙ y) refl
 
-module _ (s : Section) (at : ℕ) (text : List ℕ) (n : Numbered) (e : n ≡ numberOn s text) where
-  pub words-skipped : n ≡ Skipped → lineWords s (lineAt at text) ≡ []
-  unfolding numberOn lineWords gathered
-  words-skipped y = go s (sym e ∙ y)
-    where
-      go : (s : Section) → numberOn s text ≡ Skipped → lineWords s (lineAt at text) ≡ []
-      go BitFields k = ap (λ h. gathered bitFieldWords (listed h)) (holds _ _ Skipped (skipped text) (fits bitFieldColumns text) k)
-      go Stops k = ap (λ h. gathered stopWords (listed h)) (holds _ _ Skipped (skipped text) (fits stopColumns text) k)
-      go Interchanges k = ap (λ h. gathered interchangeWords (listed h)) (holds _ _ Skipped (skipped text) (fits interchangeColumns text) k)
+  pub words-broken : (c : ℕ) → n ≡ Broken c → wordsOn s start text ≡ []
+  unfolding wordsOn gathered
+  words-broken c y = rw (sym e ∙ y) refl
 
-  pub words-broken : n ≡ Broken → lineWords s (lineAt at text) ≡ []
-  unfolding numberOn lineWords gathered
-  words-broken y = go s (sym e ∙ y)
-    where
-      go : (s : Section) → numberOn s text ≡ Broken → lineWords s (lineAt at text) ≡ []
-      go BitFields k = ap (λ h. gathered bitFieldWords (listed h)) (holds _ _ Broken (skipped text) (fits bitFieldColumns text) k)
-      go Stops k = ap (λ h. gathered stopWords (listed h)) (holds _ _ Broken (skipped text) (fits stopColumns text) k)
-      go Interchanges k = ap (λ h. gathered interchangeWords (listed h)) (holds _ _ Broken (skipped text) (fits interchangeColumns text) k)
-
-  module _ (k : ℕ) (y : n ≡ Number k) where
-    pub words-field : s ≡ BitFields → lineWords s (lineAt at text) ≡ k ∷ bitsIn text
-    unfolding numberOn lineWords gathered
-    words-field z =
-        let q : numberOn BitFields text ≡ Number k = rw z at (sym e ∙ y) in
-        let m = number-is k (number (columns 1 6 text)) (skipped text) (fits bitFieldColumns text) q in
-        rw z (ap (λ h. gathered bitFieldWords (listed h)) (holds _ _ (Number k) (skipped text) (fits bitFieldColumns text) q) ∙ rw (m, append-nil (bitsIn text)) refl)
-
-    pub words-stop : s ≡ Stops → lineWords s (lineAt at text) ≡ k ∷ (at + 12) ∷ nameLength (columns 13 62 text) ∷ []
-    unfolding numberOn lineWords gathered
-    words-stop z =
-        let q : numberOn Stops text ≡ Number k = rw z at (sym e ∙ y) in
-        let m = number-is k (number (columns 1 7 text)) (skipped text) (fits stopColumns text) q in
-        rw z (ap (λ h. gathered stopWords (listed h)) (holds _ _ (Number k) (skipped text) (fits stopColumns text) q) ∙ rw m refl)
-
-    pub words-record : s ≡ Interchanges → lineWords s (lineAt at text) ≡ k ∷ number (columns 9 10 text) ∷ number (columns 12 13 text) ∷ []
-    unfolding numberOn lineWords gathered
-    words-record z =
-        let q : numberOn Interchanges text ≡ Number k = rw z at (sym e ∙ y) in
-        let m = number-is k (number (columns 1 7 text)) (skipped text) (fits interchangeColumns text) q in
-        rw z (ap (λ h. gathered interchangeWords (listed h)) (holds _ _ (Number k) (skipped text) (fits interchangeColumns text) q) ∙ rw m refl)
+  pub words-number : (k : ℕ) → n ≡ Number k → wordsOn s start text ≡ recordWords s start text k
+  unfolding wordsOn gathered
+  words-number k y = rw (sym e ∙ y) (append-nil (recordWords s start text k))
 
 -- ---- how many words
 
--- a line's number does not matter to its words
-pub words-any : (s : Section) (l : Line) → lineWords s l ≡ lineWords s (lineAt (l .start) (l .text))
-unfolding lineWords
-words-any BitFields l = refl
-words-any Stops l = refl
-words-any Interchanges l = refl
-
--- the words of a record
+-- those of a record
 abbrev pub sizeOf : Section → ℕ
 sizeOf BitFields = bitFieldSize
 sizeOf Stops = stopSize
 sizeOf Interchanges = interchangeSize
 
-length-line : (s : Section) (l : Line) → length (lineWords s l) ≡ sizeOf s * length (asNumber (numberOn s (l .text)))
-length-line s l = ap length (words-any s l) ∙ go s (numberOn s (l .text)) refl
-  where
-    go : (s : Section) (n : Numbered) → n ≡ numberOn s (l .text) → length (lineWords s (lineAt (l .start) (l .text))) ≡ sizeOf s * length (asNumber n)
-    go s Skipped e = ap length (words-skipped s (l .start) (l .text) Skipped e refl) ∙ sym (mul-zero (sizeOf s))
-    go s Broken e = ap length (words-broken s (l .start) (l .text) Broken e refl) ∙ sym (mul-zero (sizeOf s))
-    go BitFields (Number k) e = ap length (words-field BitFields (l .start) (l .text) (Number k) e k refl refl) ∙ ap suc (length-bits (l .text))
-    go Stops (Number k) e = ap length (words-stop Stops (l .start) (l .text) (Number k) e k refl refl)
-    go Interchanges (Number k) e = ap length (words-record Interchanges (l .start) (l .text) (Number k) e k refl refl)
+pub length-record : (s : Section) (start : ℕ) (text : List ℕ) (k : ℕ) → length (recordWords s start text k) ≡ sizeOf s
+length-record BitFields start text k = ap suc (length-bits text)
+length-record Stops start text k = refl
+length-record Interchanges start text k = refl
 
-pub length-words : (s : Section) (ls : List Line) → length (sectionWords s ls) ≡ sizeOf s * length (numbers s ls)
-unfolding gathered numbers
+length-line : (s : Section) (start : ℕ) (text : List ℕ) → length (wordsOn s start text) ≡ sizeOf s * length (asNumber (numberOn s text))
+length-line s start text = go (numberOn s text) refl
+  where
+    go : (n : Numbered) → n ≡ numberOn s text → length (wordsOn s start text) ≡ sizeOf s * length (asNumber n)
+    go Skipped e = ap length (words-skipped s start text Skipped e refl) ∙ sym (mul-zero (sizeOf s))
+    go (Broken c) e = ap length (words-broken s start text (Broken c) e c refl) ∙ sym (mul-zero (sizeOf s))
+    go (Number k) e = ap length (words-number s start text (Number k) e k refl) ∙ length-record s start text k ∙ sym (mul-one (sizeOf s))
+
+length-words : (s : Section) (ls : List Line) → length (sectionWords s ls) ≡ sizeOf s * length (numbers s ls)
+unfolding sectionWords gathered numbers
 length-words s [] = sym (mul-zero (sizeOf s))
 length-words s (l ∷ ls) =
-    length-append (lineWords s l) (sectionWords s ls) ∙ rw (length-line s l, length-words s ls) (sym (mul-add (sizeOf s) _ (length (numbers s ls))) ∙ ap (λ (k : ℕ). sizeOf s * k) (sym (length-append (asNumber (numberOn s (l .text))) (numbers s ls))))
+    length-append (wordsOn s (l .start) (l .text)) (sectionWords s ls)
+    ∙ rw (length-line s (l .start) (l .text), length-words s ls) (sym (mul-add (sizeOf s) _ (length (numbers s ls))) ∙ ap (λ (k : ℕ). sizeOf s * k) (sym (length-append (asNumber (numberOn s (l .text))) (numbers s ls))))
 
--- 13 words for each bit field, 3 for each stop and each interchange record
 module _ (ls : List Line) where
   pub length-fields : length (sectionWords BitFields ls) ≡ bitFieldSize * length (held-in bitFieldOf ls)
   length-fields = length-words BitFields ls ∙ rw (count-fields ls) refl
@@ -128,5 +102,5 @@ module _ (ls : List Line) where
   pub length-stops : length (sectionWords Stops ls) ≡ stopSize * length (held-in stopOf ls)
   length-stops = length-words Stops ls ∙ rw (count-stops ls) refl
 
-  pub length-records : length (sectionWords Interchanges ls) ≡ interchangeSize * length (held-in interchangeOf ls)
-  length-records = length-words Interchanges ls ∙ rw (count-records ls) refl
+  pub length-interchanges : length (sectionWords Interchanges ls) ≡ interchangeSize * length (held-in interchangeOf ls)
+  length-interchanges = length-words Interchanges ls ∙ rw (count-interchanges ls) refl

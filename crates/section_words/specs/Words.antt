@@ -1,18 +1,25 @@
--- The words that the lines of files 2, 3 and 4 give to the table. Assumes nothing.
-use Prim.Native.Nat.{ℕ}
-use mathlib.Core.List.{List}
+-- The words that the lines of files 2, 3 and 4 give to the table, by what each line has for a number. Assumes nothing.
+use Prim.Native.Nat.{ℕ, _+_}
+use mathlib.Core.List.{List, [], _∷_}
 use Rattle.base.specs.Lists.{gathered}
+use Rattle.columns.specs.Columns.{columns, number}
 use Rattle.lines.specs.Lines.{Line}
-use Rattle.timetable.specs.Files.{listed, bitFieldOf, stopOf, interchangeOf}
-use Rattle.timetable.specs.Load.{bitFieldWords, stopWords, interchangeWords}
+use Rattle.bitfield.specs.BitField.{bitsIn}
+use Rattle.timetable.specs.Files.{nameLength}
+use Rattle.sections.specs.Sections.{numberOn, asNumber}
 use Rattle.sections.specs.declared.Section.{Section}
 use Rattle.sections.specs.declared.Section.the-variants.{BitFields, Stops, Interchanges}
 
--- the words that a line gives to the table
-unfoldable pub lineWords : Section → Line → List ℕ
-lineWords BitFields l = gathered bitFieldWords (listed (bitFieldOf l))
-lineWords Stops l = gathered stopWords (listed (stopOf l))
-lineWords Interchanges l = gathered interchangeWords (listed (interchangeOf l))
+-- the words of the record of number k on a line that starts at a place
+abbrev pub recordWords : Section → ℕ → List ℕ → ℕ → List ℕ
+recordWords BitFields start text k = k ∷ bitsIn text
+recordWords Stops start text k = k ∷ (start + 12) ∷ nameLength (columns 13 62 text) ∷ []
+recordWords Interchanges start text k = k ∷ number (columns 9 10 text) ∷ number (columns 12 13 text) ∷ []
 
-abbrev pub sectionWords : Section → List Line → List ℕ
-sectionWords s ls = gathered (lineWords s) ls
+-- those that the line gives
+unfoldable pub wordsOn : Section → ℕ → List ℕ → List ℕ
+wordsOn s start text = gathered (recordWords s start text) (asNumber (numberOn s text))
+
+-- those of lines
+unfoldable pub sectionWords : Section → List Line → List ℕ
+sectionWords s ls = gathered (λ (l : Line). wordsOn s (l .start) (l .text)) ls

@@ -12,13 +12,13 @@ ghost use lib.ListN.{length};
 ghost use Rattle.columns.specs.Columns.{columns, number as numberIn};
 ghost use Rattle.lines.specs.Lines.{linesOf};
 ghost use Rattle.words.specs.Words.{write};
+ghost use Rattle.timetable.specs.Layout.{mostFileBytes, bitFieldSize, stopSize, interchangeSize};
 ghost use Rattle.timetable.specs.Files.{nameLength};
-ghost use Rattle.sections.specs.Sections.{lineAt};
-ghost use Rattle.section_words.specs.Words.{lineWords, sectionWords};
+ghost use Rattle.section_words.specs.Words.{wordsOn, sectionWords};
 
 // Writes the words of a section from place p on; the place after them.
 pub fn put_section(section: Section, f: &[u8], t: &mut [u32], p: usize) -> usize
-    requires { ⌜ length (now f) ≤ 16777216 ⌝ }
+    requires { ⌜ length (now f) ≤ mostFileBytes ⌝ }
     requires { ⌜ p + length (sectionWords section (linesOf (now f))) ≤ length (now t) ⌝ }
     ensures { λ r. ⌜ (r ≡ p + length (sectionWords section (linesOf (now (f .entry))))) × (now (t .exit) ≡ write (now (t .entry)) p (sectionWords section (linesOf (now (f .entry))))) ⌝ }
 {
@@ -37,14 +37,14 @@ pub fn put_section(section: Section, f: &[u8], t: &mut [u32], p: usize) -> usize
 
 // Writes the words of a line that starts at `start`, if it holds a record; the place after them.
 fn put_line(section: Section, text: &[u8], start: usize, t: &mut [u32], q: usize) -> usize
-    requires { ⌜ start ≤ 16777216 ⌝ }
-    requires { ⌜ q + length (lineWords section (lineAt start (now text))) ≤ length (now t) ⌝ }
-    ensures { λ r. ⌜ (r ≡ q + length (lineWords section (lineAt start (now (text .entry))))) × (now (t .exit) ≡ write (now (t .entry)) q (lineWords section (lineAt start (now (text .entry))))) ⌝ }
+    requires { ⌜ start ≤ mostFileBytes ⌝ }
+    requires { ⌜ q + length (wordsOn section start (now text)) ≤ length (now t) ⌝ }
+    ensures { λ r. ⌜ (r ≡ q + length (wordsOn section start (now (text .entry)))) × (now (t .exit) ≡ write (now (t .entry)) q (wordsOn section start (now (text .entry)))) ⌝ }
 {
     let n = sections::number_on(section, text);
     match n {
         Numbered::Skipped => q,
-        Numbered::Broken => q,
+        Numbered::Broken(column) => q,
         Numbered::Number(x) => match section {
             Section::BitFields => put_bit_field(t, q, x, bitfield::bits_in(text)),
             Section::Stops => put_stop(t, q, x, start, text),
@@ -54,8 +54,8 @@ fn put_line(section: Section, text: &[u8], start: usize, t: &mut [u32], q: usize
 }
 
 fn put_bit_field(t: &mut [u32], q: usize, number: u32, bits: [u32; BIT_WORDS]) -> usize
-    requires { ⌜ q + 13 ≤ length (now t) ⌝ }
-    ensures { λ r. ⌜ (r ≡ q + 13) × (now (t .exit) ≡ write (now (t .entry)) q (number ∷ bits)) ⌝ }
+    requires { ⌜ q + bitFieldSize ≤ length (now t) ⌝ }
+    ensures { λ r. ⌜ (r ≡ q + bitFieldSize) × (now (t .exit) ≡ write (now (t .entry)) q (number ∷ bits)) ⌝ }
 {
     t[q] = number;
     words::put12(t, q + 1, bits);
@@ -63,17 +63,17 @@ fn put_bit_field(t: &mut [u32], q: usize, number: u32, bits: [u32; BIT_WORDS]) -
 }
 
 fn put_stop(t: &mut [u32], q: usize, number: u32, start: usize, text: &[u8]) -> usize
-    requires { ⌜ start ≤ 16777216 ⌝ }
-    requires { ⌜ q + 3 ≤ length (now t) ⌝ }
-    ensures { λ r. ⌜ (r ≡ q + 3) × (now (t .exit) ≡ write (now (t .entry)) q (number ∷ (start + 12) ∷ nameLength (columns 13 62 (now (text .entry))) ∷ [])) ⌝ }
+    requires { ⌜ start ≤ mostFileBytes ⌝ }
+    requires { ⌜ q + stopSize ≤ length (now t) ⌝ }
+    ensures { λ r. ⌜ (r ≡ q + stopSize) × (now (t .exit) ≡ write (now (t .entry)) q (number ∷ (start + 12) ∷ nameLength (columns 13 62 (now (text .entry))) ∷ [])) ⌝ }
 {
     words::put3(t, q, number, (start + 12) as u32, name_length(text));
     q + STOP_WORDS
 }
 
 fn put_interchange(t: &mut [u32], q: usize, number: u32, text: &[u8]) -> usize
-    requires { ⌜ q + 3 ≤ length (now t) ⌝ }
-    ensures { λ r. ⌜ (r ≡ q + 3) × (now (t .exit) ≡ write (now (t .entry)) q (number ∷ numberIn (columns 9 10 (now (text .entry))) ∷ numberIn (columns 12 13 (now (text .entry))) ∷ [])) ⌝ }
+    requires { ⌜ q + interchangeSize ≤ length (now t) ⌝ }
+    ensures { λ r. ⌜ (r ≡ q + interchangeSize) × (now (t .exit) ≡ write (now (t .entry)) q (number ∷ numberIn (columns 9 10 (now (text .entry))) ∷ numberIn (columns 12 13 (now (text .entry))) ∷ [])) ⌝ }
 {
     words::put3(
         t,
@@ -92,7 +92,7 @@ fn name_length(text: &[u8]) -> u32
     let name = columns::part(text, 13, 62);
     let mut k: u32 = 50;
     while 0 < k {
-        if columns::byte_at(name, k as usize - 1) != 32 {
+        if columns::byte_at(name, k as usize - 1) != b' ' {
             return k;
         }
         k -= 1;

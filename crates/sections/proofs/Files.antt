@@ -1,22 +1,28 @@
 -- The needs of the checks of whole files, for `search files`: r is what the walk of the lines ls answers. Assumes nothing.
 use mathlib.Core.Path.{_≡_, refl, ap, sym, _∙_}
-use mathlib.Core.List.{List, []}
-use mathlib.Core.Option.{Option, none, some}
+use mathlib.Core.List.{List, [], _∷_}
+use mathlib.Core.Option.{Option}
 use Prim.Native.Nat.{ℕ, _+_, _≤_, _<_}
 use native.Mathlib.Omega.{arith}
 use lib.ListN.{length, length-map}
-use lib.Dec.{eqb}
 use borrow.Author.Tests.{eq-eqb, ne-eqb}
-use Rattle.base.proofs.Laws.{apart, tests}
-use Rattle.lines.specs.Lines.{Line}
-use Rattle.timetable.specs.Delivery.{StopRecord}
-use Rattle.timetable.specs.Offences.{Offence, orElse, when, _<|>_, first}
-use Rattle.timetable.specs.Files.{held-in, bitFieldOf, bitFieldsFirst, stopOf, stopsFirst, interchangeOf, interchangesFirst}
-use Rattle.sections.specs.Sections.{numbers, lineOffence, scanBy}
+use Rattle.base.proofs.Laws.{tests}
+use Rattle.columns.specs.Columns.{columns, number}
+use Rattle.lines.specs.Lines.{Line, skipped}
+use Rattle.forms.specs.Form.{formOf}
+use Rattle.forms.specs.Columns.{bitFieldColumns, stopColumns, interchangeColumns}
+use Rattle.timetable.specs.Delivery.{StopRecord, Interchange}
+use Rattle.timetable.specs.Offences.{offenceAt, _<|>_, first, checkedBy}
+use Rattle.timetable.specs.Files.{held-in, bitFieldOf, bitFieldLineOffence, bitFieldsFirst, stopOf, stopLineOffence, stopsFirst}
+use Rattle.timetable.specs.Files.{interchangeOf, interchangeOffence, interchangeLineOffence, interchangesFirst}
+use Rattle.timetable.specs.declared.Offence.{Offence}
+use Rattle.timetable.specs.declared.Checked.{Checked}
+use Rattle.timetable.specs.declared.Checked.the-variants.{Holds, Refused}
+use Rattle.timetable.proofs.Offences.{first-same, checked-holds, checked-refused}
+use Rattle.sections.specs.Sections.{numbers, numberOn, recordOffence, lineOffence}
 use Rattle.sections.specs.declared.Section.the-variants.{BitFields, Stops, Interchanges}
-use Rattle.sections.specs.declared.Scan.{Scan}
-use Rattle.sections.specs.declared.Scan.the-variants.{Records, Wrong}
-use Rattle.sections.proofs.Held.{field-numbers, stop-numbers, record-numbers}
+use Rattle.sections.proofs.Held.{by-number, field-numbers, stop-numbers, interchange-numbers}
+use Rattle.sections.proofs.Offences.{just}
 
 -- ---- how many records: later crates take it from here
 
@@ -27,66 +33,66 @@ module _ (ls : List Line) where
   pub count-stops : length (numbers Stops ls) ≡ length (held-in stopOf ls)
   count-stops = ap length (stop-numbers ls) ∙ length-map (held-in stopOf ls) _
 
-  pub count-records : length (numbers Interchanges ls) ≡ length (held-in interchangeOf ls)
-  count-records = ap length (record-numbers ls) ∙ length-map (held-in interchangeOf ls) _
+  pub count-interchanges : length (numbers Interchanges ls) ≡ length (held-in interchangeOf ls)
+  count-interchanges = ap length (interchange-numbers ls) ∙ length-map (held-in interchangeOf ls) _
 
--- ---- what an answer says
+-- ---- a line's own offence is the one that the paper's file says
 
-module _ (o : Option Offence) (k m : ℕ) (r : Scan) (e : r ≡ scanBy o k m) where
-  pub scan-wrong : (a b : ℕ) → r ≡ Wrong a b → o ≡ some (a, b)
-  scan-wrong a b y = go o (sym e ∙ y)
-    where
-      go : (o : Option Offence) → scanBy o k m ≡ Wrong a b → o ≡ some (a, b)
-      go (some x) v = let p : x .0 ≡ a = cc in let q : x .1 ≡ b = cc in rw (← p, ← q) refl
-      go none v = apart (cc)
+just-number : (stops : List StopRecord) (es : List Interchange) (no : ℕ) (c : Interchange) → interchangeOffence stops es no c ≡ interchangeOffence stops es no (just (c .number))
+just-number stops [] line c = refl
+just-number stops (e ∷ es) line c = refl
 
-  module _ (c n : ℕ) (y : r ≡ Records c n) where
-    pub scan-records : (o ≡ none) × (k ≡ c) × (m ≡ n)
-    scan-records = go o (sym e ∙ y)
-      where
-        go : (o : Option Offence) → scanBy o k m ≡ Records c n → (o ≡ none) × (k ≡ c) × (m ≡ n)
-        go none v = (refl, cc, cc)
-        go (some x) v = apart (cc)
+module _ (n : ℕ) (stops : List StopRecord) (before : List Line) (l : Line) where
+  line-of-fields : lineOffence BitFields n stops before l ≡ bitFieldLineOffence n before l
+  unfolding lineOffence numberOn recordOffence
+  line-of-fields = sym (by-number _ (recordOffence BitFields n stops before (l .no) (l .text)) (l .no) (skipped (l .text)) (formOf bitFieldColumns (l .text)) _ (number (columns 1 6 (l .text))) refl)
 
-    -- "2 UMSTEIGB without a record"
-    without-record : c < 1 → Wrong 2 n ≡ scanBy (orElse o (when (eqb k 0) 2 m)) k m
-    without-record l = let z : k ≡ 0 = omega (arith, scan-records .1) in rw (scan-records .0, eq-eqb k 0 z, scan-records .2) refl
+  line-of-stops : lineOffence Stops n stops before l ≡ stopLineOffence before l
+  unfolding lineOffence numberOn recordOffence
+  line-of-stops = sym (by-number _ (recordOffence Stops n stops before (l .no) (l .text)) (l .no) (skipped (l .text)) (formOf stopColumns (l .text)) _ (number (columns 1 7 (l .text))) refl)
 
-    with-records : 1 ≤ c → Records c n ≡ scanBy (orElse o (when (eqb k 0) 2 m)) k m
-    with-records l = rw (scan-records .0, ne-eqb k 0 (λ z. omega (arith, scan-records .1)), scan-records .1, scan-records .2) refl
+  line-of-interchanges : lineOffence Interchanges n stops before l ≡ interchangeLineOffence stops before l
+  unfolding lineOffence numberOn recordOffence
+  line-of-interchanges = sym (by-number _ (recordOffence Interchanges n stops before (l .no) (l .text)) (l .no) (skipped (l .text)) (formOf interchangeColumns (l .text)) _ (number (columns 1 7 (l .text))) (just-number stops (held-in interchangeOf before) (l .no) _))
 
 -- ---- each file
 
-module _ (ls : List Line) (days : ℕ) (stops : List StopRecord) (r : Scan) where
-  pub fields-checked : r ≡ scanBy (first (lineOffence BitFields days stops) [] ls) (length (numbers BitFields ls)) (length ls + 1)
-      → r ≡ scanBy (bitFieldsFirst days ls) (length (held-in bitFieldOf ls)) (length ls + 1)
-  unfolding bitFieldsFirst lineOffence
-  fields-checked e = e ∙ rw count-fields refl
+module _ (ls : List Line) (days : ℕ) (stops : List StopRecord) (r : Checked) where
+  pub fields-checked : r ≡ checkedBy (first (lineOffence BitFields days stops) [] ls) (length (numbers BitFields ls)) (length ls + 1)
+      → r ≡ checkedBy (bitFieldsFirst days ls) (length (held-in bitFieldOf ls)) (length ls + 1)
+  unfolding bitFieldsFirst
+  fields-checked e = e ∙ rw (count-fields, first-same _ _ (line-of-fields days stops) [] ls) refl
 
-  pub stops-checked : r ≡ scanBy (first (lineOffence Stops days stops) [] ls) (length (numbers Stops ls)) (length ls + 1)
-      → r ≡ scanBy (stopsFirst ls) (length (held-in stopOf ls)) (length ls + 1)
-  unfolding stopsFirst lineOffence
-  stops-checked e = e ∙ rw count-stops refl
+  pub stops-checked : r ≡ checkedBy (first (lineOffence Stops days stops) [] ls) (length (numbers Stops ls)) (length ls + 1)
+      → r ≡ checkedBy (stopsFirst ls) (length (held-in stopOf ls)) (length ls + 1)
+  unfolding stopsFirst
+  stops-checked e = e ∙ rw (count-stops, first-same _ _ (line-of-stops days stops) [] ls) refl
 
-  module _ (e : r ≡ scanBy (first (lineOffence Interchanges days stops) [] ls) (length (numbers Interchanges ls)) (length ls + 1)) where
+  module _ (e : r ≡ checkedBy (first (lineOffence Interchanges days stops) [] ls) (length (numbers Interchanges ls)) (length ls + 1)) where
     -- the offences of its lines
     abbrev own : Option Offence
-    own = first (lineOffence Interchanges days stops) [] ls
+    own = first (interchangeLineOffence stops) [] ls
 
-    here : r ≡ scanBy own (length (held-in interchangeOf ls)) (length ls + 1)
-    here = e ∙ rw count-records refl
+    here : r ≡ checkedBy own (length (held-in interchangeOf ls)) (length ls + 1)
+    here = e ∙ rw (count-interchanges, first-same _ _ (line-of-interchanges days stops) [] ls) refl
 
-    pub records-wrong : (a b : ℕ) → r ≡ Wrong a b → r ≡ scanBy (interchangesFirst stops ls) (length (held-in interchangeOf ls)) (length ls + 1)
-    unfolding interchangesFirst lineOffence _<|>_
-    records-wrong a b y = y ∙ rw (scan-wrong own _ _ r here a b y) refl
+    pub interchanges-refused : (x : Offence) → r ≡ Refused x → r ≡ checkedBy (interchangesFirst stops ls) (length (held-in interchangeOf ls)) (length ls + 1)
+    unfolding interchangesFirst _<|>_
+    interchanges-refused x y = y ∙ rw (checked-refused own _ _ r here x y) refl
 
-    module _ (c n : ℕ) (y : r ≡ Records c n) where
-      pub records-none : c < 1 → Wrong 2 n ≡ scanBy (interchangesFirst stops ls) (length (held-in interchangeOf ls)) (length ls + 1)
-      unfolding interchangesFirst lineOffence _<|>_
-      records-none l = without-record own _ _ r here c n y l
+    module _ (c n : ℕ) (y : r ≡ Holds c n) where
+      -- "2 UMSTEIGB without a record"
+      pub interchanges-none : (x : Offence) → c < 1 → x ≡ offenceAt 2 n → Refused x ≡ checkedBy (interchangesFirst stops ls) (length (held-in interchangeOf ls)) (length ls + 1)
+      unfolding interchangesFirst _<|>_
+      interchanges-none x l z =
+          let h = checked-holds own _ _ r here c n y in
+          let k : length (held-in interchangeOf ls) ≡ 0 = omega (arith, h .1) in
+          rw (h .0, eq-eqb (length (held-in interchangeOf ls)) 0 k, h .2) (ap Refused z)
 
-      pub records-checked : 1 ≤ c → Records c n ≡ scanBy (interchangesFirst stops ls) (length (held-in interchangeOf ls)) (length ls + 1)
-      unfolding interchangesFirst lineOffence _<|>_
-      records-checked l = with-records own _ _ r here c n y l
+      pub interchanges-checked : 1 ≤ c → Holds c n ≡ checkedBy (interchangesFirst stops ls) (length (held-in interchangeOf ls)) (length ls + 1)
+      unfolding interchangesFirst _<|>_
+      interchanges-checked l =
+          let h = checked-holds own _ _ r here c n y in
+          rw (h .0, ne-eqb (length (held-in interchangeOf ls)) 0 (λ z. omega (arith, h .1)), h .1, h .2) refl
 
-pub ruleset files = (tests, fields-checked, stops-checked, records-wrong, records-none, records-checked)
+pub ruleset files = (tests, fields-checked, stops-checked, interchanges-refused, interchanges-none, interchanges-checked)

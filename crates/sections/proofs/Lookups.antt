@@ -13,34 +13,25 @@ use Rattle.base.proofs.Laws.{or-false, tests}
 use Rattle.columns.specs.Columns.{columns, number}
 use Rattle.lines.specs.Lines.{Line, skipped, linesFrom, cutAt}
 use Rattle.lines.specs.declared.Cut.{Cut}
-use Rattle.lines.proofs.Laws.{cutting, lines-none, walk}
+use Rattle.lines.proofs.Laws.{cutting, lines-none, walk, gathered-any}
 use Rattle.bitfield.specs.BitField.{bitsIn}
-use Rattle.forms.specs.Form.{formOf, fits}
-use Rattle.forms.specs.Columns.{bitFieldColumns, stopColumns, interchangeColumns}
+use Rattle.forms.specs.Form.{formOf}
+use Rattle.forms.specs.Columns.{columnsOf, bitFieldColumns}
 use Rattle.forms.specs.declared.Form.{Form}
-use Rattle.forms.specs.declared.Form.the-variants.{Fits, Broken as BrokenAt}
+use Rattle.forms.specs.declared.Form.the-variants.{Fits, Broken as BrokenForm}
+use Rattle.forms.specs.declared.LineKind.{LineKind}
 use Rattle.timetable.specs.Delivery.{BitField}
-use Rattle.timetable.specs.Files.{skip, broken, held, listed, held-in, bitFieldOf, stopOf, interchangeOf, hasField, hasStop, hasInterchange}
-use Rattle.sections.specs.Sections.{sectionColumns, numberEnd, numberOn, asNumber, numbers, hasNumber, wordsBy, wordsOf}
+use Rattle.timetable.specs.Files.{skip, listed, held-in, heldBy, bitFieldOf, stopOf, interchangeOf, hasField, hasStop, hasInterchange}
+use Rattle.sections.specs.Sections.{lineKind, numberEnd, numberedBy, numberOn, asNumber, numbers, hasNumber, wordsBy, wordsOf}
 use Rattle.sections.specs.declared.Section.{Section}
 use Rattle.sections.specs.declared.Section.the-variants.{BitFields, Stops, Interchanges}
 use Rattle.sections.specs.declared.Numbered.{Numbered}
 use Rattle.sections.specs.declared.Numbered.the-variants.{Number, Skipped, Broken}
-use Rattle.sections.proofs.Held.{gathered-any, held-gathered, field-numbers, stop-numbers, record-numbers}
+use Rattle.sections.proofs.Held.{held-gathered, field-numbers, stop-numbers, interchange-numbers}
 
 -- ---- the number on a line, for `search numbering`
 
--- a section's form, and that its number is short enough to be read
-module _ (s : Section) (text : List ℕ) (g : Form) where
-  pub form-field : s ≡ BitFields → g ≡ formOf bitFieldColumns text → g ≡ formOf (sectionColumns s) text
-  form-field k e = rw k e
-
-  pub form-stop : s ≡ Stops → g ≡ formOf stopColumns text → g ≡ formOf (sectionColumns s) text
-  form-stop k e = rw k e
-
-  pub form-record : s ≡ Interchanges → g ≡ formOf interchangeColumns text → g ≡ formOf (sectionColumns s) text
-  form-record k e = rw k e
-
+-- a section's number is short enough to be read
 pub end-small : (s : Section) (to : ℕ) → to ≡ numberEnd s → to - (1 - 1) ≤ 9
 end-small s to e = rw e (go s)
   where
@@ -49,22 +40,25 @@ end-small s to e = rw e (go s)
     go Stops = omega arith
     go Interchanges = omega arith
 
--- t is whether the line is skipped, g its form
+-- t is whether the line is skipped, k the kind of its section's lines, g its form
 module _ (s : Section) (text : List ℕ) (t : Bool) (e : t ≡ skipped text) where
   pub number-skipped : t ≡ true → Skipped ≡ numberOn s text
   unfolding numberOn
   number-skipped y = rw (sym e ∙ y) refl
 
-  module _ (y : t ≡ false) (g : Form) (d : g ≡ formOf (sectionColumns s) text) where
-    pub number-broken : (c : ℕ) → g ≡ BrokenAt c → Broken ≡ numberOn s text
-    unfolding numberOn
-    number-broken c z = rw (sym e ∙ y, sym d ∙ z) refl
+  module _ (y : t ≡ false) (k : LineKind) (q : k ≡ lineKind s) (g : Form) (d : g ≡ formOf (columnsOf k) text) where
+    form-is : g ≡ formOf (columnsOf (lineKind s)) text
+    form-is = rw (← q) d
 
-    pub number-fits : (to k : ℕ) → g ≡ Fits → to ≡ numberEnd s → k ≡ number (columns 1 to text) → Number k ≡ numberOn s text
+    pub number-broken : (c : ℕ) → g ≡ BrokenForm c → Broken c ≡ numberOn s text
     unfolding numberOn
-    number-fits to k z x v = rw (sym e ∙ y, sym d ∙ z, ← x) (ap Number v)
+    number-broken c z = rw (sym e ∙ y, sym form-is ∙ z) refl
 
-pub ruleset numbering = (tests, form-field, form-stop, form-record, end-small, number-skipped, number-broken, number-fits)
+    pub number-fits : (to n : ℕ) → g ≡ Fits → to ≡ numberEnd s → n ≡ number (columns 1 to text) → Number n ≡ numberOn s text
+    unfolding numberOn
+    number-fits to n z x v = rw (sym e ∙ y, sym form-is ∙ z, ← x) (ap Number v)
+
+pub ruleset numbering = (tests, end-small, number-skipped, number-broken, number-fits)
 
 -- ---- what is asked of the number on a line, for `search asked`: n is what the line has for a number
 
@@ -73,9 +67,9 @@ module _ (n m : Numbered) (e : n ≡ m) (k : ℕ) where
   unfolding some-of
   is-skipped y = rw (sym e ∙ y) refl
 
-  pub is-broken : n ≡ Broken → false ≡ hasNumber k (asNumber m)
+  pub is-broken : (c : ℕ) → n ≡ Broken c → false ≡ hasNumber k (asNumber m)
   unfolding some-of
-  is-broken y = rw (sym e ∙ y) refl
+  is-broken c y = rw (sym e ∙ y) refl
 
   pub is-held : (x : ℕ) → n ≡ Number x → eqb x k ≡ hasNumber k (asNumber m)
   unfolding some-of
@@ -84,12 +78,12 @@ module _ (n m : Numbered) (e : n ≡ m) (k : ℕ) where
 -- another number in the columns of the number
 pub is-other : (s : Section) (text : List ℕ) (to x k : ℕ) → to ≡ numberEnd s → x ≡ number (columns 1 to text) → (x ≡ k → ⊥) → false ≡ hasNumber k (asNumber (numberOn s text))
 unfolding numberOn some-of
-is-other s text to x k e d z = rw (← e, ← d) (go (skipped text) (fits (sectionColumns s) text))
+is-other s text to x k e d z = rw (← e, ← d) (go (skipped text) (formOf (columnsOf (lineKind s)) text))
   where
-    go : (t u : Bool) → false ≡ hasNumber k (asNumber (cond t Skipped (cond u (Number x) Broken)))
-    go true u = refl
-    go false true = rw (ne-eqb x k z) refl
-    go false false = refl
+    go : (t : Bool) (g : Form) → false ≡ hasNumber k (asNumber (cond t Skipped (numberedBy g x)))
+    go true g = refl
+    go false Fits = rw (ne-eqb x k z) refl
+    go false (BrokenForm c) = refl
 
 pub ruleset asked = (tests, end-small, is-skipped, is-broken, is-held, is-other)
 
@@ -133,13 +127,13 @@ pub ruleset looks = (tests, walk, has-again, has-out, has-done)
 
 -- ---- the words of a bit field, for `search bits`: b is whether the line holds a bit field of number k
 
-find-append : (k : ℕ) (t u : Bool) (x : BitField) (hs : List BitField) (b : Bool)
-    → b ≡ hasNumber k (asNumber (cond t Skipped (cond u (Number (x .number)) Broken)))
-    → wordsOf k (listed (cond t skip (cond u (held x) broken)) ++ hs) ≡ cond b (x .words) (wordsOf k hs)
+find-append : (k : ℕ) (t : Bool) (g : Form) (x : BitField) (hs : List BitField) (b : Bool)
+    → b ≡ hasNumber k (asNumber (cond t Skipped (numberedBy g (x .number))))
+    → wordsOf k (listed (cond t skip (heldBy g x)) ++ hs) ≡ cond b (x .words) (wordsOf k hs)
 unfolding find some-of
-find-append k true u x hs b e = rw e refl
-find-append k false false x hs b e = rw e refl
-find-append k false true x hs b e = rw e (go (eqb (x .number) k))
+find-append k true g x hs b e = rw e refl
+find-append k false (BrokenForm c) x hs b e = rw e refl
+find-append k false Fits x hs b e = rw e (go (eqb (x .number) k))
   where
     go : (t : Bool) → wordsBy (cond t (some x) (find (λ (f : BitField). eqb (f .number) k) hs)) ≡ cond (t || false) (x .words) (wordsOf k hs)
     go true = refl
@@ -154,8 +148,8 @@ module _ (f : List ℕ) (at : ℕ) (r : Cut) (h : at < length f) (e : r ≡ cutA
   bits-step : cond b (bitsIn (text f at r h e)) (wordsOf k (held-in bitFieldOf (linesFrom 1 (r .next) (drop (r .next) f)))) ≡ q
   unfolding numberOn
   bits-step =
-      sym (find-append k (skipped (text f at r h e)) (fits bitFieldColumns (text f at r h e)) (here (text f at r h e)) _ b d)
-      ∙ rw (held-gathered bitFieldOf (linesFrom 1 (r .next) (drop (r .next) f))) (ap (wordsOf k) (sym (gathered-step f at r h e (λ (l : List ℕ). listed (cond (skipped l) skip (cond (fits bitFieldColumns l) (held (here l)) broken))))))
+      sym (find-append k (skipped (text f at r h e)) (formOf bitFieldColumns (text f at r h e)) (here (text f at r h e)) _ b d)
+      ∙ rw (held-gathered bitFieldOf (linesFrom 1 (r .next) (drop (r .next) f))) (ap (wordsOf k) (sym (gathered-step f at r h e (λ (l : List ℕ). listed (cond (skipped l) skip (heldBy (formOf bitFieldColumns l) (here l)))))))
       ∙ ap (wordsOf k) (sym (held-gathered bitFieldOf (linesFrom 1 at (drop at f)))) ∙ v
 
   pub bits-again : b ≡ false → wordsOf k (held-in bitFieldOf (linesFrom 1 (r .next) (drop (r .next) f))) ≡ q
@@ -184,7 +178,7 @@ module _ (r : Bool) (k : ℕ) (ls : List Line) where
   pub has-stop : r ≡ hasNumber k (numbers Stops ls) → r ≡ hasStop k (held-in stopOf ls)
   has-stop e = e ∙ ap (hasNumber k) (stop-numbers ls) ∙ some-map _ _ (held-in stopOf ls)
 
-  pub has-record : r ≡ hasNumber k (numbers Interchanges ls) → r ≡ hasInterchange k (held-in interchangeOf ls)
-  has-record e = e ∙ ap (hasNumber k) (record-numbers ls) ∙ some-map _ _ (held-in interchangeOf ls)
+  pub has-interchange : r ≡ hasNumber k (numbers Interchanges ls) → r ≡ hasInterchange k (held-in interchangeOf ls)
+  has-interchange e = e ∙ ap (hasNumber k) (interchange-numbers ls) ∙ some-map _ _ (held-in interchangeOf ls)
 
 pub ruleset knows = (tests, has-field, has-stop)

@@ -8,25 +8,29 @@ use lib.Dec.{eqb}
 use Rattle.base.specs.Lists.{some-of, find, gathered}
 use Rattle.columns.specs.Columns.{columns, number}
 use Rattle.lines.specs.Lines.{Line, skipped}
-use Rattle.forms.specs.Form.{Row, fits}
-use Rattle.forms.specs.Columns.{bitFieldColumns, stopColumns, interchangeColumns}
+use Rattle.bitfield.specs.BitField.{bitsIn}
+use Rattle.forms.specs.Form.{formOf}
+use Rattle.forms.specs.Columns.{columnsOf}
+use Rattle.forms.specs.declared.Form.{Form}
+use Rattle.forms.specs.declared.Form.the-variants.{Fits, Broken as BrokenForm}
+use Rattle.forms.specs.declared.LineKind.{LineKind}
+use Rattle.forms.specs.declared.LineKind.the-variants.{BitField as BitFieldLine, Stop, Interchange}
 use Rattle.timetable.specs.Delivery.{BitField, StopRecord}
-use Rattle.timetable.specs.Offences.{Offence}
+use Rattle.timetable.specs.Offences.{formOffence}
 use Rattle.timetable.specs.Files.{held-in, bitFieldOf, bitFieldOffence, stopOf, stopOffence, interchangeOf, interchangeOffence}
+use Rattle.timetable.specs.declared.Offence.{Offence}
 use Rattle.sections.specs.declared.Section.{Section}
 use Rattle.sections.specs.declared.Section.the-variants.{BitFields, Stops, Interchanges}
 use Rattle.sections.specs.declared.Numbered.{Numbered}
 use Rattle.sections.specs.declared.Numbered.the-variants.{Number, Skipped, Broken}
-use Rattle.sections.specs.declared.Scan.{Scan}
-use Rattle.sections.specs.declared.Scan.the-variants.{Records, Wrong}
 
 -- ---- the number of the record on a line
 
--- the form of a line
-abbrev pub sectionColumns : Section → List Row
-sectionColumns BitFields = bitFieldColumns
-sectionColumns Stops = stopColumns
-sectionColumns Interchanges = interchangeColumns
+-- the kind of its lines
+abbrev pub lineKind : Section → LineKind
+lineKind BitFields = BitFieldLine
+lineKind Stops = Stop
+lineKind Interchanges = Interchange
 
 -- the last column of its number, which starts in column 1
 abbrev pub numberEnd : Section → ℕ
@@ -34,12 +38,16 @@ numberEnd BitFields = 6
 numberEnd Stops = 7
 numberEnd Interchanges = 7
 
+abbrev pub numberedBy : Form → ℕ → Numbered
+numberedBy Fits n = Number n
+numberedBy (BrokenForm c) n = Broken c
+
 unfoldable pub numberOn : Section → List ℕ → Numbered
-numberOn s text = cond (skipped text) Skipped (cond (fits (sectionColumns s) text) (Number (number (columns 1 (numberEnd s) text))) Broken)
+numberOn s text = cond (skipped text) Skipped (numberedBy (formOf (columnsOf (lineKind s)) text) (number (columns 1 (numberEnd s) text)))
 
 abbrev pub asNumber : Numbered → List ℕ
 asNumber Skipped = []
-asNumber Broken = []
+asNumber (Broken column) = []
 asNumber (Number n) = n ∷ []
 
 -- the numbers of the records of lines, in order
@@ -49,24 +57,26 @@ numbers s ls = gathered (λ (l : Line). asNumber (numberOn s (l .text))) ls
 abbrev pub hasNumber : ℕ → List ℕ → Bool
 hasNumber n ns = some-of (λ (x : ℕ). eqb x n) ns
 
--- ---- what a line gives and what is wrong with it
+-- ---- what is wrong with a line
 
--- a line of which only place and text matter
-abbrev pub lineAt : ℕ → List ℕ → Line
-lineAt at text = record { no = 0; start = at; text = text }
+-- with the record of number k on a line, after the lines before it: its own offence looks at nothing else of the record but a bit field's words
+unfoldable pub recordOffence : Section → ℕ → List StopRecord → List Line → ℕ → List ℕ → ℕ → Option Offence
+recordOffence BitFields n stops before line text k = bitFieldOffence n (held-in bitFieldOf before) line (record { number = k; words = bitsIn text })
+recordOffence Stops n stops before line text k = stopOffence (held-in stopOf before) line (record { number = k; offset = 0; size = 0 })
+recordOffence Interchanges n stops before line text k = interchangeOffence stops (held-in interchangeOf before) line (record { number = k; firstTime = 0; secondTime = 0 })
+
+-- 4, then the record's own
+abbrev pub numberedOffence : (ℕ → Option Offence) → ℕ → Numbered → Option Offence
+numberedOffence own line Skipped = none
+numberedOffence own line (Broken c) = formOffence (BrokenForm c) line
+numberedOffence own line (Number k) = own k
 
 -- a line's own offence after the lines before it
-unfoldable pub lineOffence : Section → ℕ → List StopRecord → List Line → Line → ℕ
-lineOffence BitFields n stops before l = bitFieldOffence n (held-in bitFieldOf before) (bitFieldOf l)
-lineOffence Stops n stops before l = stopOffence (held-in stopOf before) (stopOf l)
-lineOffence Interchanges n stops before l = interchangeOffence stops (held-in interchangeOf before) (interchangeOf l)
+unfoldable pub lineOffence : Section → ℕ → List StopRecord → List Line → Line → Option Offence
+lineOffence s n stops before l = numberedOffence (recordOffence s n stops before (l .no) (l .text)) (l .no) (numberOn s (l .text))
 
--- what checking a section answers: its first offence, or how many records it has and the number after its last line's
-abbrev pub scanBy : Option Offence → ℕ → ℕ → Scan
-scanBy none count next = Records count next
-scanBy (some o) count next = Wrong (o .0) (o .1)
+-- ---- the twelve words of a bit field that was found, zeros where there is none
 
--- the twelve words of a bit field that was found, zeros where there is none
 abbrev pub wordsBy : Option BitField → List ℕ
 wordsBy none = replicate 12 0
 wordsBy (some f) = f .words

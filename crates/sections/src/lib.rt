@@ -1,22 +1,25 @@
 // BITFELD, BAHNHOF and UMSTEIGB: each line's own checks, and look-ups by number.
 use forms::Form;
+use forms::LineKind;
 use timetable::BIT_WORDS;
+use timetable::Checked;
+use timetable::Offence;
+use timetable::Verdict;
 ghost use mathlib.Core.Path.{_≡_};
 ghost use mathlib.Core.List.{[]};
-ghost use mathlib.Core.Bool.{cond, _||_};
+ghost use mathlib.Core.Bool.{_||_};
 ghost use Prim.Native.Nat.{_+_, _%_, _≤_};
 ghost use lib.ListN.{length};
 ghost use lib.Dec.{eqb};
 ghost use Rattle.lines.specs.Lines.{linesOf};
-ghost use Rattle.forms.specs.Form.{formOf};
 ghost use Rattle.bitfield.specs.BitField.{bitsIn};
-ghost use Rattle.timetable.specs.Offences.{first};
-ghost use Rattle.timetable.specs.Files.{held, orNumber, bitFieldsIn, stopsIn, interchangesIn};
-ghost use Rattle.timetable.specs.Files.{bitFieldOf, hasField, bitFieldOffence, bitFieldsFirst};
-ghost use Rattle.timetable.specs.Files.{stopOf, hasStop, stopOffence, stopsFirst};
-ghost use Rattle.timetable.specs.Files.{interchangeOf, recordOffence, interchangesFirst};
-ghost use Rattle.sections.specs.Sections.{sectionColumns, numberEnd, numberOn, asNumber, numbers, hasNumber};
-ghost use Rattle.sections.specs.Sections.{lineAt, lineOffence, scanBy, wordsOf};
+ghost use Rattle.timetable.specs.Layout.{mostFileBytes, mostPeriodDays};
+ghost use Rattle.timetable.specs.Offences.{first, verdictBy, checkedBy};
+ghost use Rattle.timetable.specs.Files.{bitFieldsIn, hasField, bitFieldOffence, bitFieldsFirst};
+ghost use Rattle.timetable.specs.Files.{stopsIn, hasStop, stopOffence, stopsFirst};
+ghost use Rattle.timetable.specs.Files.{interchangesIn, interchangeOffence, interchangesFirst};
+ghost use Rattle.sections.specs.Sections.{lineKind, numberEnd, numberOn, asNumber, numbers, hasNumber};
+ghost use Rattle.sections.specs.Sections.{recordOffence, numberedOffence, lineOffence, wordsOf};
 ghost use Rattle.sections.specs.declared.Section.the-variants.{Interchanges};
 
 // The sections of the table that files 2 to 4 give.
@@ -26,70 +29,68 @@ pub enum Section {
     Interchanges,
 }
 
-// The number of the record on a line; a line that is skipped has none, nor has one whose form is broken.
+// The number of the record on a line; a line that is skipped has none, nor has one whose form is broken (the column where it is).
 pub enum Numbered {
     Number(u32),
     Skipped,
-    Broken,
+    Broken(usize),
 }
 
-// How many records a file has and the line number after its last line, or number and line of its first offence.
-pub enum Scan {
-    Records { count: u32, next: u32 },
-    Wrong { number: u32, line: u32 },
-}
-
-// ---- the files
+// ---- the files: how many records each has, and the line number after its last line
 
 // BAHNHOF is not read here: the file itself stands in its place.
-pub fn check_bit_fields(f: &[u8], days: u32) -> Scan
-    requires { ⌜ length (now f) ≤ 16777216 ⌝ }
-    requires { ⌜ days ≤ 380 ⌝ }
-    ensures { λ r. ⌜ r ≡ scanBy (bitFieldsFirst days (linesOf (now (f .entry)))) (length (bitFieldsIn (now (f .entry)))) (length (linesOf (now (f .entry))) + 1) ⌝ }
+pub fn check_bit_fields(f: &[u8], days: u32) -> Checked
+    requires { ⌜ length (now f) ≤ mostFileBytes ⌝ }
+    requires { ⌜ days ≤ mostPeriodDays ⌝ }
+    ensures { λ r. ⌜ r ≡ checkedBy (bitFieldsFirst days (linesOf (now (f .entry)))) (length (bitFieldsIn (now (f .entry)))) (length (linesOf (now (f .entry))) + 1) ⌝ }
 {
-    scan_section(Section::BitFields, f, days, f)
+    check_section(Section::BitFields, f, days, f)
 }
 
 // Neither the days nor BAHNHOF are read here: 0 and the file itself stand in their places.
-pub fn check_stops(f: &[u8]) -> Scan
-    requires { ⌜ length (now f) ≤ 16777216 ⌝ }
-    ensures { λ r. ⌜ r ≡ scanBy (stopsFirst (linesOf (now (f .entry)))) (length (stopsIn (now (f .entry)))) (length (linesOf (now (f .entry))) + 1) ⌝ }
+pub fn check_stops(f: &[u8]) -> Checked
+    requires { ⌜ length (now f) ≤ mostFileBytes ⌝ }
+    ensures { λ r. ⌜ r ≡ checkedBy (stopsFirst (linesOf (now (f .entry)))) (length (stopsIn (now (f .entry)))) (length (linesOf (now (f .entry))) + 1) ⌝ }
 {
-    scan_section(Section::Stops, f, 0, f)
+    check_section(Section::Stops, f, 0, f)
 }
 
 // UMSTEIGB has at least one record. The days are not read here: 0 stands in their place.
-pub fn check_interchanges(f: &[u8], bahnhof: &[u8]) -> Scan
-    requires { ⌜ length (now f) ≤ 16777216 ⌝ }
-    ensures { λ r. ⌜ r ≡ scanBy (interchangesFirst (stopsIn (now (bahnhof .entry))) (linesOf (now (f .entry)))) (length (interchangesIn (now (f .entry)))) (length (linesOf (now (f .entry))) + 1) ⌝ }
+pub fn check_interchanges(f: &[u8], bahnhof: &[u8]) -> Checked
+    requires { ⌜ length (now f) ≤ mostFileBytes ⌝ }
+    ensures { λ r. ⌜ r ≡ checkedBy (interchangesFirst (stopsIn (now (bahnhof .entry))) (linesOf (now (f .entry)))) (length (interchangesIn (now (f .entry)))) (length (linesOf (now (f .entry))) + 1) ⌝ }
 {
-    let scan = scan_section(Section::Interchanges, f, 0, bahnhof);
-    let Scan::Records { count, next } = scan else {
-        return scan;
+    let checked = check_section(Section::Interchanges, f, 0, bahnhof);
+    let Checked::Holds(count, next) = checked else {
+        return checked;
     };
     if count < 1 {
-        return Scan::Wrong {
-            number: 2,
-            line: next,
-        };
+        return Checked::Refused(timetable::offence_at(2, next));
     }
-    scan
+    checked
 }
 
 // ---- look-ups, each behind one function; line numbers do not matter to them, so each line is cut as line 1
 
-// Whether BITFELD, or a part of it, has a bit field of this number.
+// Whether BITFELD has a bit field of this number.
 pub fn known_field(f: &[u8], number: u32) -> bool
     ensures { λ r. ⌜ r ≡ hasField number (bitFieldsIn (now (f .entry))) ⌝ }
 {
     has_number(Section::BitFields, f, number)
 }
 
-// Whether BAHNHOF, or a part of it, has this stop.
+// Whether BAHNHOF has this stop.
 pub fn known_stop(f: &[u8], number: u32) -> bool
     ensures { λ r. ⌜ r ≡ hasStop number (stopsIn (now (f .entry))) ⌝ }
 {
     has_number(Section::Stops, f, number)
+}
+
+// Whether the part of a file before a line has a record of the line's number.
+fn seen_earlier(section: Section, before: &[u8], number: u32) -> bool
+    ensures { λ r. ⌜ r ≡ hasNumber number (numbers section (linesOf (now (before .entry)))) ⌝ }
+{
+    has_number(section, before, number)
 }
 
 // The twelve words of the first bit field of this number, zeros where there is none.
@@ -136,7 +137,7 @@ fn holds_number(section: Section, text: &[u8], number: u32) -> bool
     match n {
         Numbered::Number(x) => x == number,
         Numbered::Skipped => false,
-        Numbered::Broken => false,
+        Numbered::Broken(column) => false,
     }
 }
 
@@ -149,21 +150,21 @@ pub fn number_on(section: Section, text: &[u8]) -> Numbered
     if lines::skips(text) {
         return Numbered::Skipped;
     }
-    let form = section_form(section, text);
+    let form = forms::line_form(line_kind(section), text);
     match form {
         Form::Fits => Numbered::Number(columns::number_in(text, 1, number_end(section))),
-        Form::Broken(column) => Numbered::Broken,
+        Form::Broken(column) => Numbered::Broken(column),
     }
 }
 
-// Whether a line has the form of its section.
-fn section_form(section: Section, text: &[u8]) -> Form
-    ensures { λ r. ⌜ r ≡ formOf (sectionColumns section) (now (text .entry)) ⌝ }
+// The kind of a section's lines.
+fn line_kind(section: Section) -> LineKind
+    ensures { λ r. ⌜ r ≡ lineKind section ⌝ }
 {
     match section {
-        Section::BitFields => forms::bit_field_form(text),
-        Section::Stops => forms::stop_form(text),
-        Section::Interchanges => forms::interchange_form(text),
+        Section::BitFields => LineKind::BitField,
+        Section::Stops => LineKind::Stop,
+        Section::Interchanges => LineKind::Interchange,
     }
 }
 
@@ -178,13 +179,24 @@ fn number_end(section: Section) -> usize
     }
 }
 
+// How many records a line holds.
+fn records_of(n: Numbered) -> u32
+    ensures { λ r. ⌜ r ≡ length (asNumber n) ⌝ }
+{
+    match n {
+        Numbered::Number(x) => 1,
+        Numbered::Skipped => 0,
+        Numbered::Broken(column) => 0,
+    }
+}
+
 // ---- checks
 
 // The own checks of every line of a file.
-fn scan_section(section: Section, f: &[u8], days: u32, bahnhof: &[u8]) -> Scan
-    requires { ⌜ length (now f) ≤ 16777216 ⌝ }
-    requires { ⌜ days ≤ 380 ⌝ }
-    ensures { λ r. ⌜ r ≡ scanBy (first (lineOffence section days (stopsIn (now (bahnhof .entry)))) [] (linesOf (now (f .entry)))) (length (numbers section (linesOf (now (f .entry))))) (length (linesOf (now (f .entry))) + 1) ⌝ }
+fn check_section(section: Section, f: &[u8], days: u32, bahnhof: &[u8]) -> Checked
+    requires { ⌜ length (now f) ≤ mostFileBytes ⌝ }
+    requires { ⌜ days ≤ mostPeriodDays ⌝ }
+    ensures { λ r. ⌜ r ≡ checkedBy (first (lineOffence section days (stopsIn (now (bahnhof .entry)))) [] (linesOf (now (f .entry)))) (length (numbers section (linesOf (now (f .entry))))) (length (linesOf (now (f .entry))) + 1) ⌝ }
 {
     let mut at: usize = 0;
     let mut no: u32 = 1;
@@ -194,64 +206,77 @@ fn scan_section(section: Section, f: &[u8], days: u32, bahnhof: &[u8]) -> Scan
         let stop = cut.stop;
         let text = &f[at..stop];
         let n = number_on(section, text);
-        let o = offence_on(section, n, &f[0..at], text, days, bahnhof, count);
-        if o != 0 {
-            return Scan::Wrong {
-                number: o,
-                line: no,
-            };
+        let own = line_verdict(section, n, &f[0..at], text, no, days, bahnhof, count);
+        if let Verdict::Offends(offence) = own {
+            return Checked::Refused(offence);
         }
         count += records_of(n);
         at = cut.next;
         no = cut.no;
     }
-    Scan::Records { count, next: no }
+    Checked::Holds(count, no)
 }
 
-// The own offence of a line that has n for a number, after the part of its file before it, which has so many records.
-fn offence_on(
+// The own checks of line `no`, which has n for a number, after the part of its file before it, which has so many records: 4, then the record's own.
+fn line_verdict(
     section: Section,
     n: Numbered,
     before: &[u8],
     text: &[u8],
+    no: u32,
     days: u32,
     bahnhof: &[u8],
     count: u32,
-) -> u32
-    requires { ⌜ n ≡ numberOn section (now text) ⌝ }
-    requires { ⌜ days ≤ 380 ⌝ }
+) -> Verdict
+    requires { ⌜ days ≤ mostPeriodDays ⌝ }
     requires { ⌜ count ≡ length (numbers section (linesOf (now before))) ⌝ }
-    ensures { λ r. ⌜ r ≡ lineOffence section days (stopsIn (now (bahnhof .entry))) (linesOf (now (before .entry))) (lineAt 0 (now (text .entry))) ⌝ }
+    ensures { λ r. ⌜ r ≡ verdictBy (numberedOffence (recordOffence section days (stopsIn (now (bahnhof .entry))) (linesOf (now (before .entry))) no (now (text .entry))) no n) ⌝ }
 {
     match n {
-        Numbered::Skipped => 0,
-        Numbered::Broken => 4,
+        Numbered::Skipped => Verdict::Fine,
+        Numbered::Broken(column) => {
+            Verdict::Offends(Offence {
+                number: 4,
+                line: no,
+                column,
+            })
+        }
         Numbered::Number(x) => match section {
-            Section::BitFields => field_offence(before, text, x, days),
-            Section::Stops => stop_offence(before, x),
-            Section::Interchanges => record_offence(before, x, bahnhof, count),
+            Section::BitFields => field_verdict(x, before, text, no, days),
+            Section::Stops => stop_verdict(x, before, no),
+            Section::Interchanges => interchange_verdict(x, before, no, bahnhof, count),
         },
     }
 }
 
 // 7, 6 or 8: 000000, seen earlier, frame bits wrong.
-fn field_offence(before: &[u8], text: &[u8], number: u32, days: u32) -> u32
-    requires { ⌜ days ≤ 380 ⌝ }
-    ensures { λ r. ⌜ r ≡ bitFieldOffence days (bitFieldsIn (now (before .entry))) (held (record { number = number; words = bitsIn (now (text .entry)) })) ⌝ }
+fn field_verdict(number: u32, before: &[u8], text: &[u8], no: u32, days: u32) -> Verdict
+    requires { ⌜ days ≤ mostPeriodDays ⌝ }
+    ensures { λ r. ⌜ r ≡ verdictBy (bitFieldOffence days (bitFieldsIn (now (before .entry))) no (record { number = number; words = bitsIn (now (text .entry)) })) ⌝ }
 {
-    let zero = given(number == 0, 7);
-    let seen = given(known_field(before, number), 6);
-    let frame = given(!bitfield::is_framed(bitfield::bits_in(text), days), 8);
-    earlier(zero, earlier(seen, frame))
+    if number == 0 {
+        return timetable::offends(7, no);
+    }
+    if seen_earlier(Section::BitFields, before, number) {
+        return timetable::offends(6, no);
+    }
+    if bitfield::is_framed(bitfield::bits_in(text), days) {
+        return Verdict::Fine;
+    }
+    timetable::offends(8, no)
 }
 
 // 7 or 6: a number that no stop has, seen earlier.
-fn stop_offence(before: &[u8], number: u32) -> u32
-    ensures { λ r. ⌜ r ≡ stopOffence (stopsIn (now (before .entry))) (held (record { number = number; offset = 0; size = 0 })) ⌝ }
+fn stop_verdict(number: u32, before: &[u8], no: u32) -> Verdict
+    ensures { λ r. ⌜ r ≡ verdictBy (stopOffence (stopsIn (now (before .entry))) no (record { number = number; offset = 0; size = 0 })) ⌝ }
 {
-    let barred = given(is_barred(number), 7);
-    let seen = given(known_stop(before, number), 6);
-    earlier(barred, seen)
+    if is_barred(number) {
+        return timetable::offends(7, no);
+    }
+    if seen_earlier(Section::Stops, before, number) {
+        return timetable::offends(6, no);
+    }
+    Verdict::Fine
 }
 
 // Whether no stop has this number: 9999999, or ending 00000.
@@ -265,39 +290,21 @@ fn is_barred(number: u32) -> bool
 }
 
 // 7: the first record is not 9999999; after it 6 or 9: seen earlier, not in BAHNHOF.
-fn record_offence(before: &[u8], number: u32, bahnhof: &[u8], count: u32) -> u32
+fn interchange_verdict(number: u32, before: &[u8], no: u32, bahnhof: &[u8], count: u32) -> Verdict
     requires { ⌜ count ≡ length (numbers Interchanges (linesOf (now before))) ⌝ }
-    ensures { λ r. ⌜ r ≡ recordOffence (stopsIn (now (bahnhof .entry))) (interchangesIn (now (before .entry))) (record { number = number; firstTime = 0; secondTime = 0 }) ⌝ }
+    ensures { λ r. ⌜ r ≡ verdictBy (interchangeOffence (stopsIn (now (bahnhof .entry))) (interchangesIn (now (before .entry))) no (record { number = number; firstTime = 0; secondTime = 0 })) ⌝ }
 {
     if count == 0 {
-        return given(number != 9999999, 7);
+        if number == 9999999 {
+            return Verdict::Fine;
+        }
+        return timetable::offends(7, no);
     }
-    let seen = given(has_number(Section::Interchanges, before, number), 6);
-    let stop = given(!known_stop(bahnhof, number), 9);
-    earlier(seen, stop)
-}
-
-// An offence that is given exactly when the test holds; 0 is none.
-fn given(test: bool, number: u32) -> u32
-    ensures { λ r. ⌜ r ≡ cond test number 0 ⌝ }
-{
-    if test { number } else { 0 }
-}
-
-// The earlier of two offences in the stated order.
-fn earlier(a: u32, b: u32) -> u32
-    ensures { λ r. ⌜ r ≡ orNumber a b ⌝ }
-{
-    if a == 0 { b } else { a }
-}
-
-// How many records a line holds.
-fn records_of(n: Numbered) -> u32
-    ensures { λ r. ⌜ r ≡ length (asNumber n) ⌝ }
-{
-    match n {
-        Numbered::Number(x) => 1,
-        Numbered::Skipped => 0,
-        Numbered::Broken => 0,
+    if seen_earlier(Section::Interchanges, before, number) {
+        return timetable::offends(6, no);
     }
+    if known_stop(bahnhof, number) {
+        return Verdict::Fine;
+    }
+    timetable::offends(9, no)
 }

@@ -1,4 +1,5 @@
-pub mod Lent
+pub mod Stretches
+pub mod Drafts
 pub mod Legs
 pub mod Size
 pub mod Order

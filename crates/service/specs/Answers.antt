@@ -1,62 +1,89 @@
--- What the checks of one service answer, by the definitions of the crate timetable. Assumes nothing.
-use Prim.Native.Nat.{ℕ, _+_, _-_, _*_}
-use mathlib.Core.List.{List, map}
-use mathlib.Core.Bool.{Bool, false, cond, not}
+-- What the checks of one service answer, by the definitions of the crate timetable. Nobody has to believe this file. Assumes nothing.
+use Prim.Native.Nat.{ℕ, _≤_, _<_}
+use mathlib.Core.Path.{_≡_}
+use mathlib.Core.List.{List, _∷_, map}
+use mathlib.Core.Bool.{Bool, false, not}
 use mathlib.Core.Option.{Option, none, some}
-use lib.ListN.{drop}
-use lib.Dec.{leb}
-use Rattle.base.specs.Lists.{some-of, gathered, below}
-use Rattle.lines.specs.Lines.{Line}
-use Rattle.timetable.specs.Delivery.{BitField, CategoryRange, DayRange}
-use Rattle.timetable.specs.Offences.{Offence, _<|>_, when}
-use Rattle.timetable.specs.Service.{firstLine, serviceOf}
-use Rattle.timetable.specs.Checks.{eachOnce, operated, stretches, legCount, torn}
-use Rattle.timetable.specs.Load.{serviceHead, callSize, categorySize, daySize}
-use Rattle.timetable.specs.Table.{rowsIn, categoryAt, dayAt}
-use Rattle.sections.specs.Sections.{wordsOf}
-use Rattle.gather.specs.declared.Sizes.{Sizes}
-use Rattle.service.specs.declared.Checked.{Checked}
-use Rattle.service.specs.declared.Checked.the-variants.{Takes, Offends}
+use lib.ListN.{length}
+use lib.Dec.{leb, ltb}
+use Rattle.base.specs.Lists.{some-of, below}
+use Rattle.lines.specs.Lines.{linesAt}
+use Rattle.timetable.specs.Layout.{mostCalls, mostCategories, mostDays}
+use Rattle.timetable.specs.Delivery.{BitField, StopRecord, DayRange, Service}
+use Rattle.timetable.specs.Offences.{_<|>_, given}
+use Rattle.timetable.specs.Service.{blocks, serviceOf}
+use Rattle.timetable.specs.Legs.{operated, stretches}
+use Rattle.timetable.specs.Checks.{eachOnce, timesFirst, endsFirst, legsFirst, serviceFirst}
+use Rattle.timetable.specs.Table.{serviceWords, calls#, categories#, days#, extraPlace}
+use Rattle.timetable.specs.declared.Offence.{Offence}
+use Rattle.timetable.specs.declared.Part.the-variants.{Category, Days, Extra}
+use Rattle.draft.specs.Draft.{callsLent, rangesLent, callsOn, callsIn, rangesOn, rangesIn, ranges#, Within, partIn, draftedService}
+use Rattle.draft.specs.declared.Counts.{Counts}
+use Rattle.draft.specs.declared.Drafted.{Drafted}
+use Rattle.reading.specs.Reading.{serviceAt, Boundary}
+use Rattle.service.specs.declared.ServiceCheck.{ServiceCheck}
+use Rattle.service.specs.declared.ServiceCheck.the-variants.{Takes, Refused}
 
--- the words that a service takes, or its first offence
-abbrev pub checkedBy : Option Offence → ℕ → Checked
-checkedBy none size = Takes size
-checkedBy (some o) size = Offends (o .0) (o .1)
+-- ---- the answer for a service of a file
 
--- 17, 18 and 19: the last of the service's checks
-abbrev pub legChecks : List BitField → ℕ → List Line → Option Offence
-legChecks fields n ls =
-    when (not (eachOnce (λ (r : CategoryRange). r .legs) (legCount (serviceOf ls)) (serviceOf ls .categories))) 17 (firstLine ls .no)
-    <|> when (not (eachOnce (λ (r : DayRange). r .legs) (legCount (serviceOf ls)) (serviceOf ls .days))) 18 (firstLine ls .no)
-    <|> when (torn fields n (serviceOf ls)) 19 (firstLine ls .no)
+-- the service that begins at a place takes so many words, and the next begins at the place `end`, with line m
+pub record ServiceTaken (f : List ℕ) (at n words end m : ℕ) : Type 0 where
+  pub size : words ≡ length (serviceWords (serviceOf (serviceAt f at n)))
+  pub services : blocks (linesAt f at n) ≡ serviceAt f at n ∷ blocks (linesAt f end m)
+  pub past : at < end
+  pub next : Boundary f end m
 
--- ---- the same on rows of words, as numbers; 0 for none
+-- "every line's own checks, then the service's checks": its first offence, or its words
+abbrev pub CheckedAs : List BitField → List StopRecord → ℕ → List ℕ → ℕ → ℕ → ServiceCheck → Type 0
+CheckedAs fields stops days f at n (Refused o) = serviceFirst fields stops days (serviceAt f at n) ≡ some o
+CheckedAs fields stops days f at n (Takes words end m) = (serviceFirst fields stops days (serviceAt f at n) ≡ none) × ServiceTaken f at n words end m
 
-abbrev pub tornRows : List BitField → ℕ → ℕ → List DayRange → Bool
-tornRows fields n legs rs = some-of (λ (d : ℕ). leb 2 (stretches false (map (operated fields rs d) (below legs)))) (below n)
+-- ---- the same for a draft
 
-abbrev pub daysOffence : List BitField → ℕ → ℕ → List DayRange → ℕ
-daysOffence fields n legs rs = cond (eachOnce (λ (r : DayRange). r .legs) legs rs) (cond (tornRows fields n legs rs) 19 0) 18
+-- the words lent hold as many calls, and ranges of each kind, as the counts say
+pub record Counted (k : Counts) (calls ranges : List ℕ) : Type 0 where
+  pub within : Within k
+  pub calls-lent : callsLent ≤ length calls
+  pub ranges-lent : rangesLent ≤ length ranges
+  pub categories : length (partIn Category (rangesIn (ranges# k) ranges)) ≡ k .categories
+  pub days : length (partIn Days (rangesIn (ranges# k) ranges)) ≡ k .days
+  pub extras : length (partIn Extra (rangesIn (ranges# k) ranges)) ≡ k .extras
 
-abbrev pub legsOffence : List BitField → ℕ → ℕ → List CategoryRange → List DayRange → ℕ
-legsOffence fields n legs cs rs = cond (eachOnce (λ (r : CategoryRange). r .legs) legs cs) (daysOffence fields n legs rs) 17
+-- the service that the words hold
+abbrev pub serviceIn : Drafted → List ℕ → List ℕ → Service
+serviceIn d calls ranges = draftedService (d .opening) (d .line) (callsIn (d .counts .calls) calls) (rangesIn (ranges# (d .counts)) ranges)
 
--- where the ranges of a service of these sizes stand in its words
-abbrev pub categoriesFrom : Sizes → ℕ
-categoriesFrom z = serviceHead + callSize * z .calls
+-- 14, 15, 16, then 17 to 19
+abbrev pub draftFirst : List BitField → ℕ → Drafted → List ℕ → List ℕ → Option Offence
+draftFirst fields days d calls ranges =
+    given (ltb (d .counts .calls) 2) 14 (d .line)
+    <|> timesFirst (d .counts .calls) 0 0 (callsOn (d .counts .calls) calls)
+    <|> endsFirst (callsIn (d .counts .calls) calls) (rangesOn (ranges# (d .counts)) ranges)
+    <|> legsFirst fields days (d .line) (serviceIn d calls ranges)
 
-abbrev pub dayRangesFrom : Sizes → ℕ
-dayRangesFrom z = categoriesFrom z + categorySize * z .categories
+abbrev pub checkBy : Option Offence → Service → Drafted → ServiceCheck
+checkBy none s d = Takes (length (serviceWords s)) (d .end) (d .no)
+checkBy (some o) s d = Refused o
 
-abbrev pub dayRangesEnd : Sizes → ℕ
-dayRangesEnd z = dayRangesFrom z + daySize * z .«day_ranges»
+-- ---- 18 and 19 of operating-day ranges over so many legs
 
-abbrev pub categoryRows : Sizes → List ℕ → List CategoryRange
-categoryRows z w = rowsIn categoryAt categorySize (z .categories) (drop (categoriesFrom z) w)
+-- on a day the operated legs form two or more separate stretches
+abbrev pub rowsBroken : List BitField → ℕ → List DayRange → ℕ → Bool
+rowsBroken fields legs rs d = leb 2 (stretches false (map (operated fields rs d) (below legs)))
 
-abbrev pub dayRows : Sizes → List ℕ → List DayRange
-dayRows z w = rowsIn dayAt daySize (z .«day_ranges») (drop (dayRangesFrom z) w)
+-- on some day of n days they do
+abbrev pub rowsTorn : List BitField → ℕ → ℕ → List DayRange → Bool
+rowsTorn fields n legs rs = some-of (rowsBroken fields legs rs) (below n)
 
--- twelve words for each of v ranges (bit field, from, to): those of its bit field
-unfoldable pub bitsFor : List BitField → ℕ → List ℕ → List ℕ
-bitsFor fields v w = gathered (λ (r : DayRange). wordsOf (r .field) fields) (rowsIn dayAt daySize v w)
+abbrev pub daysFirst : List BitField → ℕ → ℕ → ℕ → List DayRange → Option Offence
+daysFirst fields n line legs rs = given (not (eachOnce (λ (r : DayRange). r .legs) legs rs)) 18 line <|> given (rowsTorn fields n legs rs) 19 line
+
+-- ---- the words of a service
+
+-- its calls are there, no more than it may have, and so are its ranges
+pub record Sized (w : List ℕ) : Type 0 where
+  pub some-calls : 1 ≤ calls# w
+  pub calls : calls# w ≤ mostCalls
+  pub categories : categories# w ≤ mostCategories
+  pub days : days# w ≤ mostDays
+  pub ranges-lie : extraPlace w ≤ length w

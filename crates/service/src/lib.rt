@@ -1,176 +1,198 @@
-// The checks of one service of FPLAN: every line's own checks, then the service's. Its lines are those of `block` from `place` on, the
-// first of them line `no`.
-use gather::Sizes;
-use line_checks::Counts;
-use line_checks::Own;
-use schedule::FirstLine;
+// The checks of one service of FPLAN: every line's own checks as it is read, then the service's on its draft, the last of them on its words.
+use cover::FirstRange;
+use draft::Drafted;
+use reading::Read;
+use timetable::CALL_WORDS;
+use timetable::CALLS_AT;
+use timetable::CATEGORIES_AT;
+use timetable::CATEGORY_WORDS;
+use timetable::DAYS_AT;
+use timetable::DAYS_WORDS;
+use timetable::MOST_SERVICE_WORDS;
+use timetable::Offence;
+use timetable::SERVICE_WORDS;
+use timetable::Verdict;
 ghost use mathlib.Core.Path.{_≡_};
-ghost use mathlib.Core.List.{List, []};
-ghost use mathlib.Core.Bool.{true, cond};
-ghost use Prim.Native.Nat.{_+_, _-_, _*_, _≤_, _<_};
+ghost use mathlib.Core.Bool.{true};
+ghost use Prim.Native.Nat.{ℕ, _+_, _*_, _≤_, _<_};
 ghost use lib.ListN.{length};
-ghost use Rattle.lines.specs.Lines.{Line, linesAt};
-ghost use Rattle.words.specs.Words.{write};
-ghost use Rattle.timetable.specs.Offences.{first};
-ghost use Rattle.timetable.specs.Files.{bitFieldsIn, stopsIn};
-ghost use Rattle.timetable.specs.Plan.{toldIn, callsOf};
-ghost use Rattle.timetable.specs.Service.{serviceOf};
+ghost use Rattle.bitfield.specs.BitField.{runsOn};
+ghost use Rattle.timetable.specs.Layout.{daySize, mostPeriodDays};
 ghost use Rattle.timetable.specs.Delivery.{DayRange};
-ghost use Rattle.timetable.specs.Checks.{rangeBad, eachOnce, serviceChecks, serviceFirst};
-ghost use Rattle.timetable.specs.Load.{serviceWords};
-ghost use Rattle.timetable.specs.Table.{rowsIn, dayAt};
-ghost use Rattle.line_checks.specs.Own.{countsOf, Within};
-ghost use Rattle.schedule.specs.Schedule.{lineBy};
-ghost use Rattle.service.specs.Answers.{checkedBy, legChecks, tornRows, daysOffence, legsOffence, dayRangesEnd, categoryRows, dayRows, bitsFor};
+ghost use Rattle.timetable.specs.Offences.{verdictBy};
+ghost use Rattle.timetable.specs.Files.{bitFieldsIn, stopsIn};
+ghost use Rattle.timetable.specs.Legs.{fieldRuns};
+ghost use Rattle.timetable.specs.Checks.{eachOnce, legsFirst};
+ghost use Rattle.timetable.specs.Table.{rowsIn, dayAt, serviceAt};
+ghost use Rattle.draft.specs.Draft.{callsLent, rangesLent};
+ghost use Rattle.reading.specs.Reading.{Boundary};
+ghost use Rattle.service.specs.Answers.{CheckedAs, Counted, serviceIn, draftFirst, checkBy, rowsBroken, rowsTorn, daysFirst, Sized};
 
-// How many words a service takes, or number and line of its first offence.
-pub enum Checked {
-    Takes(u32),
-    Offends { number: u32, line: u32 },
+// What checking a service answers: the words that it takes and where the next service begins (the place and the number of its *Z line, or of
+// the file's end); or its first offence.
+pub enum ServiceCheck {
+    Takes { words: u32, end: usize, no: u32 },
+    Refused(Offence),
 }
 
-// Every line's own checks, then 14 to 19.
+// The service that begins at a place, with line `no`: every line's own checks, then 14 to 19. `calls` and `ranges` are lent for its draft.
 pub fn check_service(
-    block: &[u8],
-    place: usize,
+    fplan: &[u8],
+    at: usize,
     no: u32,
     bitfeld: &[u8],
     bahnhof: &[u8],
     days: u32,
-) -> Checked
-    requires { ⌜ (place < length (now block)) × (length (now block) ≤ 16777216) × (no ≤ place + 1) × (days ≤ 380) ⌝ }
-    ensures { λ r. ⌜ r ≡ checkedBy (serviceFirst (bitFieldsIn (now (bitfeld .entry))) (stopsIn (now (bahnhof .entry))) days (linesAt (now (block .entry)) place no)) (length (serviceWords (serviceOf (linesAt (now (block .entry)) place no)))) ⌝ }
+    calls: &mut [u32],
+    ranges: &mut [u32],
+) -> ServiceCheck
+    requires { ⌜ (at < length (now fplan)) × (days ≤ mostPeriodDays) × (callsLent ≤ length (now calls)) × (rangesLent ≤ length (now ranges)) ⌝ }
+    requires { ⌜ Boundary (now fplan) at no ⌝ }
+    ensures { λ r. ⌜ CheckedAs (bitFieldsIn (now (bitfeld .entry))) (stopsIn (now (bahnhof .entry))) days (now (fplan .entry)) at no r ⌝ }
 {
-    let own = line_checks::own_checks(block, place, no, bitfeld, bahnhof);
-    match own {
-        Own::Wrong { number, line } => Checked::Offends { number, line },
-        Own::Fine(counts) => route_checks(block, place, no, counts, bitfeld, days),
+    let read = reading::read_checked(fplan, at, no, bitfeld, bahnhof, calls, ranges);
+    match read {
+        Read::Refused(offence) => ServiceCheck::Refused(offence),
+        Read::Service(d) => draft_checks(d, calls, ranges, bitfeld, days),
     }
 }
 
-// 14 to 19 of a service with so many lines of each kind.
-fn route_checks(
-    block: &[u8],
-    place: usize,
-    no: u32,
-    counts: Counts,
+// ---- 14 to 19 of a drafted service
+
+fn draft_checks(
+    d: Drafted,
+    calls: &[u32],
+    ranges: &[u32],
     bitfeld: &[u8],
     days: u32,
-) -> Checked
-    requires { ⌜ (place < length (now block)) × (length (now block) ≤ 16777216) × (no ≤ place + 1) × (days ≤ 380) ⌝ }
-    requires { ⌜ (countsOf (linesAt (now block) place no) ≡ counts) × Within counts ⌝ }
-    ensures { λ r. ⌜ r ≡ checkedBy (serviceChecks (bitFieldsIn (now (bitfeld .entry))) days (linesAt (now (block .entry)) place no)) (length (serviceWords (serviceOf (linesAt (now (block .entry)) place no)))) ⌝ }
+) -> ServiceCheck
+    requires { ⌜ Counted (d .counts) (now calls) (now ranges) ⌝ }
+    requires { ⌜ days ≤ mostPeriodDays ⌝ }
+    ensures { λ r. ⌜ r ≡ checkBy (draftFirst (bitFieldsIn (now (bitfeld .entry))) days d (now (calls .entry)) (now (ranges .entry))) (serviceIn d (now (calls .entry)) (now (ranges .entry))) d ⌝ }
 {
-    let calls = counts.calls;
-    if calls < 2 {
-        return Checked::Offends {
-            number: 14,
-            line: no,
+    let counts = d.counts;
+    let c = counts.calls;
+    if c < 2 {
+        return ServiceCheck::Refused(timetable::offence_at(14, d.line));
+    }
+    if let Verdict::Offends(offence) = schedule::times_wrong(calls, c) {
+        return ServiceCheck::Refused(offence);
+    }
+    let n = draft::range_count(counts);
+    if let Verdict::Offends(offence) = schedule::ends_wrong(ranges, n, calls, c) {
+        return ServiceCheck::Refused(offence);
+    }
+    leg_checks(d, calls, ranges, bitfeld, days)
+}
+
+// 17 to 19, on the words of the service.
+fn leg_checks(d: Drafted, calls: &[u32], ranges: &[u32], bitfeld: &[u8], days: u32) -> ServiceCheck
+    requires { ⌜ Counted (d .counts) (now calls) (now ranges) ⌝ }
+    requires { ⌜ (2 ≤ d .counts .calls) × (days ≤ mostPeriodDays) ⌝ }
+    ensures { λ r. ⌜ r ≡ checkBy (legsFirst (bitFieldsIn (now (bitfeld .entry))) days (d .line) (serviceIn d (now (calls .entry)) (now (ranges .entry)))) (serviceIn d (now (calls .entry)) (now (ranges .entry))) d ⌝ }
+{
+    let opening = d.opening;
+    let counts = d.counts;
+    let n = draft::range_count(counts);
+    let mut words = [0u32; MOST_SERVICE_WORDS];
+    let sizes = service_words::service_into(
+        opening,
+        d.line,
+        calls,
+        counts.calls,
+        ranges,
+        n,
+        &mut words,
+        0,
+    );
+    if let Verdict::Offends(offence) = legs_wrong(&words, d.line, bitfeld, days) {
+        return ServiceCheck::Refused(offence);
+    }
+    ServiceCheck::Takes {
+        words: sizes.words,
+        end: d.end,
+        no: d.no,
+    }
+}
+
+// ---- 17 to 19 of a service whose words are at the front of `words`, and its *Z line's number is `line`
+
+fn legs_wrong(words: &[u32], line: u32, bitfeld: &[u8], days: u32) -> Verdict
+    requires { ⌜ Sized (now words) ⌝ }
+    requires { ⌜ days ≤ mostPeriodDays ⌝ }
+    ensures { λ r. ⌜ r ≡ verdictBy (legsFirst (bitFieldsIn (now (bitfeld .entry))) days line (serviceAt (now (words .entry)))) ⌝ }
+{
+    let c = words[CALLS_AT];
+    let g = words[CATEGORIES_AT];
+    let v = words[DAYS_AT];
+    let categories = SERVICE_WORDS + CALL_WORDS * c as usize;
+    let operating = categories + CATEGORY_WORDS * g as usize;
+    let end = operating + DAYS_WORDS * v as usize;
+    if cover::each_once(&words[categories..operating], g, CATEGORY_WORDS, c - 1) {
+        return days_wrong(&words[operating..end], v, c - 1, line, bitfeld, days);
+    }
+    timetable::offends(17, line)
+}
+
+// 18 and 19, where `ranges` holds v *A VE ranges.
+fn days_wrong(ranges: &[u32], v: u32, legs: u32, line: u32, bitfeld: &[u8], days: u32) -> Verdict
+    requires { ⌜ (v * daySize ≤ length (now ranges)) × (days ≤ mostPeriodDays) ⌝ }
+    ensures { λ r. ⌜ r ≡ verdictBy (daysFirst (bitFieldsIn (now (bitfeld .entry))) days line legs (rowsIn dayAt daySize v (now (ranges .entry)))) ⌝ }
+{
+    if cover::each_once(ranges, v, DAYS_WORDS, legs) {
+        if two_stretches(ranges, v, legs, bitfeld, days) {
+            return timetable::offends(19, line);
+        }
+        return Verdict::Fine;
+    }
+    timetable::offends(18, line)
+}
+
+// ---- 19, on all days at once
+
+// Whether on some day of the period the operated legs form two or more separate stretches, where each leg is covered once.
+fn two_stretches(ranges: &[u32], v: u32, legs: u32, bitfeld: &[u8], days: u32) -> bool
+    requires { ⌜ (v * daySize ≤ length (now ranges)) × (days ≤ mostPeriodDays) ⌝ }
+    requires { ⌜ eachOnce (λ (r : DayRange). r .legs) legs (rowsIn dayAt daySize v (now ranges)) ≡ true ⌝ }
+    ensures { λ r. ⌜ r ≡ rowsTorn (bitFieldsIn (now (bitfeld .entry))) days legs (rowsIn dayAt daySize v (now (ranges .entry))) ⌝ }
+{
+    bitfield::some_day(torn_days(ranges, v, legs, bitfeld), days)
+}
+
+// The days on which they do: a leg runs after one that ran and one that did not. The legs that one range covers run on the same days, so the
+// way along the route goes from range to range, and each range's bit field is looked up once.
+fn torn_days(ranges: &[u32], v: u32, legs: u32, bitfeld: &[u8]) -> [u32; 12]
+    requires { ⌜ v * daySize ≤ length (now ranges) ⌝ }
+    requires { ⌜ eachOnce (λ (r : DayRange). r .legs) legs (rowsIn dayAt daySize v (now ranges)) ≡ true ⌝ }
+    ensures { λ r. ⌜ ((d : ℕ) → d < mostPeriodDays → runsOn r d ≡ rowsBroken (bitFieldsIn (now (bitfeld .entry))) legs (rowsIn dayAt daySize v (now (ranges .entry))) d) ⌝ }
+{
+    let mut begun = bitfield::no_bits();
+    let mut ended = bitfield::no_bits();
+    let mut broken = bitfield::no_bits();
+    let mut leg: u32 = 0;
+    while leg < legs {
+        let FirstRange::At(place) = cover::covering_place(ranges, v, DAYS_WORDS, leg) else {
+            return broken;
         };
+        let on = field_days(bitfeld, ranges[place]);
+        // named first: the check covers no call that is laid straight into an array that a loop carries
+        let broken_now = bitfield::either(broken, bitfield::both(ended, on));
+        let ended_now = bitfield::either(ended, bitfield::without(begun, on));
+        let begun_now = bitfield::either(begun, on);
+        broken = broken_now;
+        ended = ended_now;
+        begun = begun_now;
+        leg = ranges[place + 2];
     }
-    if let FirstLine::At(line) = schedule::times_wrong(block, place, no, calls) {
-        return Checked::Offends { number: 15, line };
-    }
-    if let FirstLine::At(line) = ends_wrong(block, place, no) {
-        return Checked::Offends { number: 16, line };
-    }
-    leg_checks(block, place, no, bitfeld, days)
+    broken
 }
 
-// 16 on the gathered calls.
-fn ends_wrong(block: &[u8], place: usize, no: u32) -> FirstLine
-    requires { ⌜ (place ≤ length (now block)) × (length (now block) ≤ 16777216) × (no ≤ place + 1) ⌝ }
-    requires { ⌜ length (callsOf (linesAt (now block) place no)) ≤ 200 ⌝ }
-    ensures { λ r. ⌜ r ≡ lineBy (first (λ (before : List Line) (l : Line). cond (rangeBad (callsOf (linesAt (now (block .entry)) place no)) (toldIn (l .text))) 16 0) [] (linesAt (now (block .entry)) place no)) ⌝ }
+// The days of a bit field by its number: 0 is every day.
+fn field_days(bitfeld: &[u8], number: u32) -> [u32; 12]
+    ensures { λ r. ⌜ ((d : ℕ) → d < mostPeriodDays → runsOn r d ≡ fieldRuns (bitFieldsIn (now (bitfeld .entry))) number d) ⌝ }
 {
-    let mut calls = [0u32; gather::MOST_CALLS_WORDS];
-    let count = gather::calls_into(block, place, no, &mut calls);
-    schedule::ranges_wrong(block, place, no, &calls, count)
-}
-
-// 17, 18 and 19 on the words of the service.
-fn leg_checks(block: &[u8], place: usize, no: u32, bitfeld: &[u8], days: u32) -> Checked
-    requires { ⌜ (place < length (now block)) × (length (now block) ≤ 16777216) × (no ≤ place + 1) × (days ≤ 380) ⌝ }
-    requires { ⌜ Within (countsOf (linesAt (now block) place no)) × (2 ≤ length (callsOf (linesAt (now block) place no))) ⌝ }
-    ensures { λ r. ⌜ r ≡ checkedBy (legChecks (bitFieldsIn (now (bitfeld .entry))) days (linesAt (now (block .entry)) place no)) (length (serviceWords (serviceOf (linesAt (now (block .entry)) place no)))) ⌝ }
-{
-    let mut words = [0u32; timetable::MOST_SERVICE_WORDS];
-    let sizes = gather::service_into(block, place, no, &mut words, 0);
-    let offence = legs_offence(&words, sizes, bitfeld, days);
-    if offence != 0 {
-        return Checked::Offends {
-            number: offence,
-            line: no,
-        };
+    if number == 0 {
+        return bitfield::all_bits();
     }
-    Checked::Takes(sizes.words)
-}
-
-// 17, 18 or 19 of a service of these sizes whose words are at the front of `words`; 0 for none.
-fn legs_offence(words: &[u32], sizes: Sizes, bitfeld: &[u8], days: u32) -> u32
-    requires { ⌜ (1 ≤ sizes .calls) × (sizes .calls ≤ 200) × (sizes .categories ≤ 50) × (sizes .«day_ranges» ≤ 50) × (dayRangesEnd sizes ≤ length (now words)) × (days ≤ 380) ⌝ }
-    ensures { λ r. ⌜ r ≡ legsOffence (bitFieldsIn (now (bitfeld .entry))) days (sizes .calls - 1) (categoryRows sizes (now (words .entry))) (dayRows sizes (now (words .entry))) ⌝ }
-{
-    let legs = sizes.calls - 1;
-    let categories = timetable::SERVICE_WORDS + timetable::CALL_WORDS * sizes.calls as usize;
-    let operating = categories + timetable::CATEGORY_WORDS * sizes.categories as usize;
-    let end = operating + timetable::DAYS_WORDS * sizes.day_ranges as usize;
-    if cover::each_once(
-        &words[categories..operating],
-        sizes.categories,
-        timetable::CATEGORY_WORDS,
-        legs,
-    ) {
-        return days_offence(
-            &words[operating..end],
-            sizes.day_ranges,
-            legs,
-            bitfeld,
-            days,
-        );
-    }
-    17
-}
-
-// 18 or 19 of a service with so many legs, where `ranges` holds its *A VE ranges; 0 for none.
-fn days_offence(ranges: &[u32], day_ranges: u32, legs: u32, bitfeld: &[u8], days: u32) -> u32
-    requires { ⌜ («day_ranges» ≤ 50) × («day_ranges» * 3 ≤ length (now ranges)) × (days ≤ 380) ⌝ }
-    ensures { λ r. ⌜ r ≡ daysOffence (bitFieldsIn (now (bitfeld .entry))) days legs (rowsIn dayAt 3 «day_ranges» (now (ranges .entry))) ⌝ }
-{
-    if cover::each_once(ranges, day_ranges, timetable::DAYS_WORDS, legs) {
-        return torn_offence(ranges, day_ranges, legs, bitfeld, days);
-    }
-    18
-}
-
-// 19, where each leg is covered once.
-fn torn_offence(ranges: &[u32], day_ranges: u32, legs: u32, bitfeld: &[u8], days: u32) -> u32
-    requires { ⌜ («day_ranges» ≤ 50) × («day_ranges» * 3 ≤ length (now ranges)) × (days ≤ 380) ⌝ }
-    requires { ⌜ eachOnce (λ (r : DayRange). r .legs) legs (rowsIn dayAt 3 «day_ranges» (now ranges)) ≡ true ⌝ }
-    ensures { λ r. ⌜ r ≡ cond (tornRows (bitFieldsIn (now (bitfeld .entry))) days legs (rowsIn dayAt 3 «day_ranges» (now (ranges .entry)))) 19 0 ⌝ }
-{
-    let mut bits = [0u32; timetable::MOST_DAYS_BITS];
-    lend_bits(bitfeld, ranges, day_ranges, &mut bits);
-    if cover::two_stretches(ranges, day_ranges, &bits, legs, days) {
-        return 19;
-    }
-    0
-}
-
-// Writes twelve words for each of the ranges (bit field, from, to) to the front of `bits`: those of its bit field in BITFELD. A look-up
-// reads BITFELD from its top, and a range may cover many legs; so each range's bit field is fetched once, before 19 is tested, and not
-// for every leg. 19 itself takes a leg's twelve words from `bits` as one [u32; 12].
-fn lend_bits(bitfeld: &[u8], ranges: &[u32], day_ranges: u32, bits: &mut [u32])
-    requires { ⌜ («day_ranges» * 3 ≤ length (now ranges)) × («day_ranges» * 12 ≤ length (now bits)) ⌝ }
-    ensures { λ _. ⌜ now (bits .exit) ≡ write (now (bits .entry)) 0 (bitsFor (bitFieldsIn (now (bitfeld .entry))) «day_ranges» (now (ranges .entry))) ⌝ }
-{
-    let mut i: usize = 0;
-    let mut to: usize = 0;
-    let mut left = day_ranges;
-    while 0 < left {
-        words::put12(bits, to, sections::field_bits(bitfeld, ranges[i]));
-        i += timetable::DAYS_WORDS;
-        to += timetable::BIT_WORDS;
-        left -= 1;
-    }
+    sections::field_bits(bitfeld, number)
 }

@@ -5,7 +5,7 @@ use mathlib.Core.List.{List, [], _∷_, _++_}
 use mathlib.Core.Bool.{true, not}
 use lib.ListN.{take, set}
 use Rattle.base.specs.Lists.{every}
-use Rattle.timetable.proofs.Trial.{words}
+use Rattle.timetable.specs.Trial.{trialWords as words}
 use Rattle.timetable.specs.Table.{rowsIn, serviceAt, recordSound, recordsSound, headSound, isTable}
 
 -- the words, words lent after them, and the most that each bound lets pass

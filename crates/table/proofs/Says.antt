@@ -12,7 +12,7 @@ use borrow.Author.Tests.{leb-true, eqb-true}
 use Rattle.base.specs.Lists.{every}
 use Rattle.base.proofs.Loops.{and-true}
 use Rattle.calendar.specs.Calendar.{lastDay}
-use Rattle.timetable.specs.Load.{firstService}
+use Rattle.timetable.specs.Layout.{firstService}
 use Rattle.timetable.specs.Delivery.{CategoryRange, DayRange, ExtraRange}
 use Rattle.timetable.specs.Table.{word, rowsIn, callAt, legsAt, categoryAt, dayAt, extraAt, calls#, categories#, days#, extras#, categoryPlace, dayPlace, extraPlace, serviceAt, used, callSound, legsSound, serviceSound, countsSound, sizesSound, recordSound, recordsSound, headSound, isTable}
 use Rattle.timetable.specs.declared.Call.{Call}

@@ -4,7 +4,7 @@ use mathlib.Core.Path.{_≡_}
 use mathlib.Core.List.{List}
 use mathlib.Core.Bool.{Bool, true}
 use lib.ListN.{length}
-use Rattle.timetable.specs.Load.{recordSize}
+use Rattle.timetable.specs.Layout.{recordSize}
 use Rattle.timetable.specs.Table.{word, calls#, categories#, days#, extras#, headSound, isTable}
 
 -- the words of a table, and no later ones

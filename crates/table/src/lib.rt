@@ -1,5 +1,6 @@
 // Whether any words are a table (21), the words that a table uses, and the sections of its records.
 // Sums of words are taken in 64 bits, and no word is read before its place is known to be there.
+use timetable::ALL_FLAGS;
 use timetable::BIT_FIELD_WORDS;
 use timetable::BIT_FIELDS_AT;
 use timetable::CALL_WORDS;
@@ -16,11 +17,13 @@ use timetable::FIRST_SERVICE_AT;
 use timetable::HEADER_WORDS;
 use timetable::INTERCHANGE_WORDS;
 use timetable::INTERCHANGES_AT;
+use timetable::LATEST_TIME;
 use timetable::MOST_CALLS;
 use timetable::MOST_CATEGORIES;
 use timetable::MOST_DAYS;
 use timetable::MOST_EXTRAS;
 use timetable::MOST_PERIOD_DAYS;
+use timetable::MOST_REPEATS;
 use timetable::OFFSET_AT;
 use timetable::PERIOD_DAYS_AT;
 use timetable::REPEATS_AT;
@@ -36,22 +39,12 @@ ghost use Prim.Native.Nat.{_+_, _*_, _≤_};
 ghost use lib.ListN.{length, drop};
 ghost use lib.Dec.{leb, eqb};
 ghost use Rattle.base.specs.Lists.{every};
-ghost use Rattle.timetable.specs.Load.{headerSize, serviceHead, callSize, recordSize, firstService};
-ghost use Rattle.timetable.specs.Ranges.{inOrder};
-ghost use Rattle.timetable.specs.Table.{word, rowsIn, legsAt, callAt, serviceAt, categoryPlace, dayPlace, extraPlace, used, callSound, legsSound, serviceSound, countsSound, sizesSound, recordSound, recordsSound, headSound, isTable};
+ghost use Rattle.timetable.specs.Layout.{headerSize, serviceHead, callSize, recordSize, firstService};
+ghost use Rattle.timetable.specs.Table.{recordWords, rowsIn, legsAt, callAt, serviceAt, categoryPlace, dayPlace, extraPlace, used, callSound, legsSound, serviceSound, countsSound, sizesSound, recordSound, recordsSound, headSound, isTable};
 ghost use Rattle.table.specs.Whole.{recordEnd, headerSound};
 
 // The day after 31.12.2199.
 const AFTER_LAST_DAY: u64 = 109573;
-
-// Repeats and offset, at most.
-const MOST_REPEATS: u32 = 999;
-
-// 999 hours and 59 minutes.
-const LATEST_TIME: u32 = 59999;
-
-// Every flag of a call.
-const ALL_FLAGS: u32 = 15;
 
 // Whether the words are a table.
 pub fn is_table(w: &[u32]) -> bool
@@ -201,7 +194,7 @@ fn sizes_sound(w: &[u32]) -> bool
 // Whether its first word says how long its counts make it, and is within the words.
 fn length_sound(w: &[u32]) -> bool
     requires { ⌜ serviceHead ≤ length (now w) ⌝ }
-    ensures { λ r. ⌜ r ≡ (eqb (word (now (w .entry)) 0) (recordEnd (now (w .entry))) && leb (word (now (w .entry)) 0) (length (now (w .entry)))) ⌝ }
+    ensures { λ r. ⌜ r ≡ (eqb (recordWords (now (w .entry))) (recordEnd (now (w .entry))) && leb (recordWords (now (w .entry))) (length (now (w .entry)))) ⌝ }
 {
     let said = size(w[SIZE_AT]);
     if said as u64 != record_end(w) {
@@ -363,17 +356,8 @@ fn legs_sound(w: &[u32], p: usize, loose: bool, c: u32) -> bool
     requires { ⌜ p + 2 ≤ length (now w) ⌝ }
     ensures { λ r. ⌜ r ≡ legsSound loose c (legsAt 0 (drop p (now (w .entry)))) ⌝ }
 {
-    if !in_order(loose, w[p], w[p + 1]) {
+    if !timetable::in_order(loose, w[p], w[p + 1]) {
         return false;
     }
     w[p + 1] < c
-}
-
-fn in_order(loose: bool, from: u32, to: u32) -> bool
-    ensures { λ r. ⌜ r ≡ inOrder loose from to ⌝ }
-{
-    if loose {
-        return from <= to;
-    }
-    from < to
 }

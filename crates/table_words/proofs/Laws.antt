@@ -1,56 +1,90 @@
 -- A header and sections written one after the other are the table's words. Assumes nothing.
-use mathlib.Core.Path.{_≡_, refl, sym, ap, _∙_}
+use mathlib.Core.Path.{_≡_, _∙_}
 use mathlib.Core.List.{List, [], _∷_, _++_}
-use mathlib.Core.Bool.{cond}
-use Prim.Native.Nat.{ℕ, _+_, _≤_, _<_}
+use Prim.Native.Nat.{ℕ, _+_, _≤_}
 use native.Mathlib.Omega.{arith}
 use lib.ListN.{length, length-append}
-use lib.Dec.{ltb}
-use borrow.Author.Tests.{lt-ltb, le-ltb}
-use Rattle.base.proofs.Laws.{tests}
+use Rattle.base.proofs.Laws.{len-trans, tests}
+use Rattle.lines.specs.Lines.{linesOf}
 use Rattle.words.specs.Words.{write}
 use Rattle.words.proofs.Laws.{write-write}
-use Rattle.gather.proofs.Whole.{room-first, room-second, joined}
-use Rattle.timetable.specs.declared.Loaded.the-variants.{Accepted, Refused}
+use Rattle.timetable.specs.Layout.{headerSize}
+use Rattle.sections.specs.declared.Section.the-variants.{BitFields, Stops, Interchanges}
+use Rattle.section_words.specs.Words.{sectionWords}
 use Rattle.table_words.specs.declared.Header.{Header}
-use Rattle.table_words.specs.Words.{headerWords, roomFor}
-
--- a section, and what comes after it
-pub ruleset joining = (tests, room-first, room-second, joined)
+use Rattle.table_words.specs.Words.{headerWords, sectionsWords}
 
 -- ---- the header, for `search heading`
 
-pub header-room : (t B : List ℕ) → 8 + length B ≤ length t → 8 ≤ length t
-header-room t B h = omega arith
-
-pub body-room : (t t₁ B : List ℕ) → 8 + length B ≤ length t → length t₁ ≡ length t → 8 + length B ≤ length t₁
-body-room t t₁ B h l = omega arith
-
-pub table-written : (t t₁ t₂ B : List ℕ) (h : Header) → 8 + length B ≤ length t → t₁ ≡ write t 0 (headerWords h) → t₂ ≡ write t₁ 8 B → t₂ ≡ write t 0 (headerWords h ++ B)
-table-written t t₁ t₂ B h l e₁ e₂ = e₂ ∙ rw e₁ (write-write t 0 (headerWords h) B (omega arith))
-
-pub header-written : (t t₁ t₂ : List ℕ) (h : Header) → 8 ≤ length t → t₁ ≡ write t 0 (h .words ∷ h .start ∷ h .days ∷ h .fields ∷ [])
+pub header-written : (t t₁ t₂ : List ℕ) (h : Header) → headerSize ≤ length t → t₁ ≡ write t 0 (h .words ∷ h .start ∷ h .days ∷ h .fields ∷ [])
     → t₂ ≡ write t₁ 4 (h .stops ∷ h .interchanges ∷ h .services ∷ h .first ∷ []) → t₂ ≡ write t 0 (headerWords h)
 header-written t t₁ t₂ h l e₁ e₂ = e₂ ∙ rw e₁ (write-write t 0 (h .words ∷ h .start ∷ h .days ∷ h .fields ∷ []) (h .stops ∷ h .interchanges ∷ h .services ∷ h .first ∷ []) (omega arith))
 
-pub ruleset heading = (tests, header-room, body-room, table-written, header-written)
+pub ruleset heading = (tests, header-written)
 
--- ---- 20 or the table, for `search rooms`
+-- ---- the sections, for `search sections`: t is the table lent, and the words of each go behind those before them
 
-module _ (t B : List ℕ) (h : Header) where
-  pub too-short : length t < h .words → Refused 20 0 0 (h .words) ≡ roomFor (h .words) (length t)
-  too-short l = rw (lt-ltb (length t) (h .words) l) refl
+module _ (b s u t : List ℕ) (q : ℕ) (room : q + length (sectionsWords b s u) ≤ length t) where
+  abbrev B : List ℕ
+  B = sectionWords BitFields (linesOf b)
 
-  pub left-alone : (w : List ℕ) → length t < h .words → t ≡ cond (ltb (length t) (h .words)) t w
-  left-alone w l = rw (lt-ltb (length t) (h .words) l) refl
+  abbrev S : List ℕ
+  S = sectionWords Stops (linesOf s)
 
-  pub room-enough : h .words ≤ length t → h .words ≡ 8 + length B → 8 + length B ≤ length t
-  room-enough l e = omega arith
+  abbrev U : List ℕ
+  U = sectionWords Interchanges (linesOf u)
 
-  pub long-enough : h .words ≤ length t → Accepted (h .words) ≡ roomFor (h .words) (length t)
-  long-enough l = rw (le-ltb (length t) (h .words) l) refl
+  room-all : q + (length B + (length S + length U)) ≤ length t
+  unfolding sectionsWords
+  room-all = omega (arith, room, length-append B (S ++ U), length-append S U)
 
-  pub all-written : (t′ : List ℕ) → h .words ≤ length t → t′ ≡ write t 0 (headerWords h ++ B) → t′ ≡ cond (ltb (length t) (h .words)) t (write t 0 (headerWords h ++ B))
-  all-written t′ l e = rw (le-ltb (length t) (h .words) l) e
+  pub room-fields : q + length (sectionWords BitFields (linesOf b)) ≤ length t
+  room-fields = omega (arith, room-all)
 
-pub ruleset rooms = (tests, too-short, left-alone, room-enough, long-enough, all-written)
+  module _ (q₁ : ℕ) (e₁ : q₁ ≡ q + length (sectionWords BitFields (linesOf b))) (t₁ : List ℕ) (l₁ : length t₁ ≡ length t) where
+    pub room-stops : q₁ + length (sectionWords Stops (linesOf s)) ≤ length t₁
+    room-stops = omega (arith, room-all)
+
+    module _ (q₂ : ℕ) (e₂ : q₂ ≡ q₁ + length (sectionWords Stops (linesOf s))) (t₂ : List ℕ) (l₂ : length t₂ ≡ length t₁) where
+      pub room-interchanges : q₂ + length (sectionWords Interchanges (linesOf u)) ≤ length t₂
+      room-interchanges = omega (arith, room-all)
+
+      pub sections-written : (t₃ : List ℕ) → t₁ ≡ write t q (sectionWords BitFields (linesOf b)) → t₂ ≡ write t₁ q₁ (sectionWords Stops (linesOf s))
+          → t₃ ≡ write t₂ q₂ (sectionWords Interchanges (linesOf u)) → t₃ ≡ write t q (sectionsWords b s u)
+      unfolding sectionsWords
+      sections-written t₃ w₁ w₂ w₃ =
+          let v : t₃ ≡ write t₁ q₁ (S ++ U) = w₃ ∙ rw (w₂, e₂) (write-write t₁ q₁ S U room-stops) in
+          v ∙ rw (w₁, e₁) (write-write t q B (S ++ U) room-fields)
+
+pub sections-end : (b s u : List ℕ) (q q₁ q₂ q₃ : ℕ) → q₁ ≡ q + length (sectionWords BitFields (linesOf b)) → q₂ ≡ q₁ + length (sectionWords Stops (linesOf s))
+    → q₃ ≡ q₂ + length (sectionWords Interchanges (linesOf u)) → q₃ ≡ q + length (sectionsWords b s u)
+unfolding sectionsWords
+sections-end b s u q q₁ q₂ q₃ e₁ e₂ e₃ =
+    omega (
+      arith,
+      length-append (sectionWords BitFields (linesOf b)) (sectionWords Stops (linesOf s) ++ sectionWords Interchanges (linesOf u)),
+      length-append (sectionWords Stops (linesOf s)) (sectionWords Interchanges (linesOf u)),
+    )
+
+pub ruleset sections = (tests, room-fields, room-stops, room-interchanges, sections-written, sections-end, len-trans)
+
+-- ---- the table, for `search joining`: A is what the sections give, P what FPLAN gives
+
+module _ (A P t : List ℕ) (room : headerSize + length (A ++ P) ≤ length t) where
+  pub room-header : headerSize ≤ length t
+  room-header = omega arith
+
+  module _ (t₁ : List ℕ) (l₁ : length t₁ ≡ length t) where
+    pub room-sections : headerSize + length A ≤ length t₁
+    room-sections = omega (arith, length-append A P)
+
+    module _ (q : ℕ) (e : q ≡ headerSize + length A) (t₂ : List ℕ) (l₂ : length t₂ ≡ length t₁) where
+      pub room-plan : q + length P ≤ length t₂
+      room-plan = omega (arith, length-append A P)
+
+      pub table-written : (t₃ : List ℕ) (h : Header) → t₁ ≡ write t 0 (headerWords h) → t₂ ≡ write t₁ headerSize A → t₃ ≡ write t₂ q P → t₃ ≡ write t 0 (headerWords h ++ (A ++ P))
+      table-written t₃ h w₁ w₂ w₃ =
+          let v : t₃ ≡ write t₁ headerSize (A ++ P) = w₃ ∙ rw (w₂, e) (write-write t₁ headerSize A P room-sections) in
+          v ∙ rw w₁ (write-write t 0 (headerWords h) (A ++ P) room-header)
+
+pub ruleset joining = (tests, room-header, room-sections, room-plan, table-written, len-trans)

@@ -2,4 +2,3 @@ pub mod Lines
 pub mod Offences
 pub mod Records
 pub mod Rows
-pub mod Trial

@@ -8,7 +8,8 @@ use lib.ListN.{length, drop, length-append}
 use lib.Seq.{drop-at, take-at, drop-drop}
 use Rattle.base.specs.Lists.{All, gathered}
 use Rattle.timetable.specs.Delivery.{BitField, StopRecord, Interchange, CategoryRange, DayRange, ExtraRange, Service}
-use Rattle.timetable.specs.Load.{bitFieldWords, stopWords, interchangeWords, callWords, categoryWords, dayWords, extraWords, bitFieldSize, stopSize, interchangeSize, serviceHead, callSize, categorySize, daySize, extraSize, serviceSize, headWords, serviceWords}
+use Rattle.timetable.specs.Table.{bitFieldWords, stopWords, interchangeWords, callWords, categoryWords, dayWords, extraWords, serviceSize, headWords, serviceWords}
+use Rattle.timetable.specs.Layout.{bitFieldSize, stopSize, interchangeSize, serviceHead, callSize, categorySize, daySize, extraSize}
 use Rattle.timetable.specs.Table.{word, rowsIn, bitFieldAt, stopAt, interchangeAt, callAt, categoryAt, dayAt, extraAt, serviceAt, servicesIn}
 use Rattle.timetable.specs.declared.Call.{Call}
 use Rattle.timetable.proofs.Rows.{any, all-any, length-gathered, rows-back}

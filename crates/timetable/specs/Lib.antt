@@ -1,10 +1,13 @@
+pub mod Layout
 pub mod Delivery
 pub mod Offences
 pub mod Files
 pub mod Plan
 pub mod Ranges
 pub mod Service
+pub mod Legs
 pub mod Checks
-pub mod Load
 pub mod Table
+pub mod Load
 pub mod Questions
+pub mod Trial

@@ -1,6 +1,6 @@
 -- FPLAN, line by line: what each kind of line says. Assumes nothing.
 use Prim.Native.Nat.{ℕ, _+_, _*_}
-use mathlib.Core.List.{List, [], _∷_}
+use mathlib.Core.List.{List, [], _∷_, map}
 use mathlib.Core.Bool.{Bool, true, false, cond}
 use lib.Dec.{eqb}
 use Rattle.base.specs.Lists.{gathered}
@@ -9,19 +9,20 @@ use Rattle.lines.specs.Lines.{Line, skipped}
 use Rattle.fields.specs.Fields.{time, rangeEnd, detail}
 use Rattle.fields.specs.declared.Time.{Time}
 use Rattle.fields.specs.declared.Time.the-variants.{Absent, Stated, NoTime}
-use Rattle.forms.specs.Form.{fits}
+use Rattle.forms.specs.Form.{formOf}
+use Rattle.forms.specs.declared.Form.{Form}
+use Rattle.forms.specs.declared.Form.the-variants.{Fits, Broken as BrokenForm}
 use Rattle.forms.specs.Columns.{serviceColumns, categoryColumns, attributeColumns, callColumns}
 use Rattle.forms.specs.Kinds.{kindOf}
 use Rattle.forms.specs.declared.Kind.{Kind}
 use Rattle.forms.specs.declared.Kind.the-variants.{Opening as OpeningKind, Category as CategoryKind, Attribute, Schedule, Other as OtherKind}
 use Rattle.timetable.specs.declared.Opening.{Opening}
 use Rattle.timetable.specs.declared.Call.{Call}
-use Rattle.timetable.specs.declared.Ends.{Ends}
-use Rattle.timetable.specs.declared.CategoryLine.{CategoryLine}
-use Rattle.timetable.specs.declared.DaysLine.{DaysLine}
-use Rattle.timetable.specs.declared.ExtraLine.{ExtraLine}
+use Rattle.timetable.specs.declared.Part.{Part}
+use Rattle.timetable.specs.declared.Part.the-variants.{Category, Days, Extra}
+use Rattle.timetable.specs.declared.RangeLine.{RangeLine}
 use Rattle.timetable.specs.declared.Told.{Told}
-use Rattle.timetable.specs.declared.Told.the-variants.{Skip, Other, Broken, Opens, Category, Days, Extra, Calls}
+use Rattle.timetable.specs.declared.Told.the-variants.{Skip, Other, Broken, Opens, Ranges, Calls}
 
 -- "Bytes share a word first byte highest."
 abbrev pub twoBytes : ℕ → List ℕ → ℕ
@@ -41,32 +42,35 @@ openingIn text = record {
 }
 
 -- "*G: 4-6 category, 8-14 from, 16-22 to, 24-29 from-detail, 31-36 to-detail"
-abbrev pub categoryIn : List ℕ → CategoryLine
+abbrev pub categoryIn : List ℕ → RangeLine
 categoryIn text = record {
+  part = Category;
   name = threeBytes 4 text;
+  field = 0;
   ends = record {
     from = record { place = rangeEnd (columns 8 14 text); detail = detail (columns 24 29 text) };
     to = record { place = rangeEnd (columns 16 22 text); detail = detail (columns 31 36 text) };
   };
 }
 
--- "*A: .. 7-13 from, 15-21 to, .. 30-35 and 37-42 details"
-abbrev pub attributeEnds : List ℕ → Ends
-attributeEnds text = record {
-  from = record { place = rangeEnd (columns 7 13 text); detail = detail (columns 30 35 text) };
-  to = record { place = rangeEnd (columns 15 21 text); detail = detail (columns 37 42 text) };
-}
-
 -- ""VE" means operating days": V is byte 86, E byte 69
 abbrev pub VE : ℕ
 VE = 22085
 
--- "*A: 4-5 code, .. 23-28 bit field digits or blank"; "A blank bit field means 000000, daily."
-abbrev pub attributeIn : List ℕ → Told
-attributeIn text =
-    cond (eqb (twoBytes 4 text) VE)
-    (Days (record { field = number (columns 23 28 text); ends = attributeEnds text }))
-    (Extra (record { code = twoBytes 4 text; field = number (columns 23 28 text); ends = attributeEnds text }))
+abbrev pub attributePart : ℕ → Part
+attributePart code = cond (eqb code VE) Days Extra
+
+-- "*A: 4-5 code, 7-13 from, 15-21 to, 23-28 bit field digits or blank, 30-35 and 37-42 details"; "A blank bit field means 000000, daily."
+abbrev pub attributeIn : List ℕ → RangeLine
+attributeIn text = record {
+  part = attributePart (twoBytes 4 text);
+  name = twoBytes 4 text;
+  field = number (columns 23 28 text);
+  ends = record {
+    from = record { place = rangeEnd (columns 7 13 text); detail = detail (columns 30 35 text) };
+    to = record { place = rangeEnd (columns 15 21 text); detail = detail (columns 37 42 text) };
+  };
+}
 
 -- "absent time 0"
 abbrev pub minutesOf : Time → ℕ
@@ -89,16 +93,16 @@ callIn text = record {
   flags = flagsOf 1 (time (columns 30 35 text)) + flagsOf 2 (time (columns 37 42 text));
 }
 
--- a line of a kind says what `told` reads, if it has the form
-abbrev pub formed : Bool → Told → Told
-formed true t = t
-formed false t = Broken
+-- a line of a kind says what is read from it, if it has the form
+abbrev pub formed : Form → Told → Told
+formed Fits t = t
+formed (BrokenForm c) t = Broken c
 
 abbrev pub toldBy : Kind → List ℕ → Told
-toldBy OpeningKind text = formed (fits serviceColumns text) (Opens (openingIn text))
-toldBy CategoryKind text = formed (fits categoryColumns text) (Category (categoryIn text))
-toldBy Attribute text = formed (fits attributeColumns text) (attributeIn text)
-toldBy Schedule text = formed (fits callColumns text) (Calls (callIn text))
+toldBy OpeningKind text = formed (formOf serviceColumns text) (Opens (openingIn text))
+toldBy CategoryKind text = formed (formOf categoryColumns text) (Ranges (categoryIn text))
+toldBy Attribute text = formed (formOf attributeColumns text) (Ranges (attributeIn text))
+toldBy Schedule text = formed (formOf callColumns text) (Calls (callIn text))
 toldBy OtherKind text = Other
 
 -- what a line says: nothing where it is skipped, else what its kind reads
@@ -126,61 +130,49 @@ tolds (l ∷ ls) = toldIn (l .text) ∷ tolds ls
 abbrev pub asCall : Told → List Call
 asCall Skip = []
 asCall Other = []
-asCall Broken = []
+asCall (Broken c) = []
 asCall (Opens o) = []
-asCall (Category g) = []
-asCall (Days v) = []
-asCall (Extra a) = []
+asCall (Ranges r) = []
 asCall (Calls c) = c ∷ []
 
 abbrev pub asOpening : Told → List Opening
 asOpening Skip = []
 asOpening Other = []
-asOpening Broken = []
+asOpening (Broken c) = []
 asOpening (Opens o) = o ∷ []
-asOpening (Category g) = []
-asOpening (Days v) = []
-asOpening (Extra a) = []
+asOpening (Ranges r) = []
 asOpening (Calls c) = []
 
-abbrev pub asCategory : Told → List CategoryLine
-asCategory Skip = []
-asCategory Other = []
-asCategory Broken = []
-asCategory (Opens o) = []
-asCategory (Category g) = g ∷ []
-asCategory (Days v) = []
-asCategory (Extra a) = []
-asCategory (Calls c) = []
-
-abbrev pub asDays : Told → List DaysLine
-asDays Skip = []
-asDays Other = []
-asDays Broken = []
-asDays (Opens o) = []
-asDays (Category g) = []
-asDays (Days v) = v ∷ []
-asDays (Extra a) = []
-asDays (Calls c) = []
-
-abbrev pub asExtra : Told → List ExtraLine
-asExtra Skip = []
-asExtra Other = []
-asExtra Broken = []
-asExtra (Opens o) = []
-asExtra (Category g) = []
-asExtra (Days v) = []
-asExtra (Extra a) = a ∷ []
-asExtra (Calls c) = []
+abbrev pub asRange : Told → List RangeLine
+asRange Skip = []
+asRange Other = []
+asRange (Broken c) = []
+asRange (Opens o) = []
+asRange (Ranges r) = r ∷ []
+asRange (Calls c) = []
 
 abbrev pub callsOf : List Line → List Call
 callsOf ls = gathered asCall (tolds ls)
 
-abbrev pub categoryLines : List Line → List CategoryLine
-categoryLines ls = gathered asCategory (tolds ls)
+abbrev pub rangesOf : List Line → List RangeLine
+rangesOf ls = gathered asRange (tolds ls)
 
-abbrev pub daysLines : List Line → List DaysLine
-daysLines ls = gathered asDays (tolds ls)
+-- the three kinds of ranges, numbered in the table's order
+abbrev pub partNumber : Part → ℕ
+partNumber Category = 0
+partNumber Days = 1
+partNumber Extra = 2
 
-abbrev pub extraLines : List Line → List ExtraLine
-extraLines ls = gathered asExtra (tolds ls)
+abbrev pub isPart : Part → RangeLine → Bool
+isPart p r = eqb (partNumber (r .part)) (partNumber p)
+
+abbrev pub ofPart : Part → RangeLine → List RangeLine
+ofPart p r = cond (isPart p r) (r ∷ []) []
+
+-- the ranges of one kind, in line order
+abbrev pub partLines : Part → List Line → List RangeLine
+partLines p ls = gathered (ofPart p) (rangesOf ls)
+
+-- what is said of a kind, each with the number of its line
+unfoldable pub saidOn : {X : Type 0} → (Told → List X) → List Line → List (ℕ × X)
+saidOn say ls = gathered (λ (l : Line). map (λ x. (l .no, x)) (say (toldIn (l .text)))) ls

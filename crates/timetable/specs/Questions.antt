@@ -13,7 +13,8 @@ use Rattle.timetable.specs.Delivery.{Period, BitField, StopRecord, Inter
 use Rattle.timetable.specs.Offences.{_<|>_}
 use Rattle.timetable.specs.Files.{hasStop}
 use Rattle.timetable.specs.Ranges.{hasArrival, hasDeparture}
-use Rattle.timetable.specs.Checks.{fieldKnown, covers, covering, fieldRuns, stretches, legCount, operatedLegs}
+use Rattle.timetable.specs.Layout.{rowSize}
+use Rattle.timetable.specs.Legs.{fieldKnown, covers, covering, fieldRuns, stretches, legCount, operatedLegs}
 use Rattle.timetable.specs.Load.{onto}
 use Rattle.timetable.specs.Table.{tableOf, isTable}
 use Rattle.timetable.specs.declared.Call.{Call}
@@ -162,9 +163,6 @@ rowOf d s a n delay i c =
     ∷ interchangeAtStop d (c .stop) .firstTime
     ∷ interchangeAtStop d (c .stop) .secondTime
     ∷ []
-
-abbrev pub rowSize : ℕ
-rowSize = 7
 
 unfoldable pub rowsOf : Delivery → Service → ℕ → ℕ → ℕ → ℕ → List Call → List ℕ
 rowsOf d s a n delay i [] = []

@@ -6,13 +6,13 @@ use mathlib.Core.Option.{Option, none, some}
 use Rattle.base.specs.Lists.{gathered}
 use Rattle.lines.specs.Lines.{Line}
 use Rattle.timetable.specs.Delivery.{Legs, CategoryRange, DayRange, ExtraRange, Service}
-use Rattle.timetable.specs.Plan.{toldIn, opens, asOpening, callsOf, categoryLines, daysLines, extraLines}
+use Rattle.timetable.specs.Plan.{toldIn, opens, asOpening, callsOf, partLines}
 use Rattle.timetable.specs.Ranges.{legsOf}
 use Rattle.timetable.specs.declared.Opening.{Opening}
 use Rattle.timetable.specs.declared.Call.{Call}
-use Rattle.timetable.specs.declared.CategoryLine.{CategoryLine}
-use Rattle.timetable.specs.declared.DaysLine.{DaysLine}
-use Rattle.timetable.specs.declared.ExtraLine.{ExtraLine}
+use Rattle.timetable.specs.declared.Part.{Part}
+use Rattle.timetable.specs.declared.Part.the-variants.{Category, Days, Extra}
+use Rattle.timetable.specs.declared.RangeLine.{RangeLine}
 
 -- the lines before the first that opens a service
 unfoldable pub headLines : List Line → List Line
@@ -29,14 +29,24 @@ abbrev pub withLegs : {X : Type 0} → (Legs → X) → Option Legs → List X
 withLegs f none = []
 withLegs f (some g) = f g ∷ []
 
-abbrev pub categoryRange : List Call → CategoryLine → List CategoryRange
-categoryRange cs g = withLegs (λ (x : Legs). record { name = g .name; legs = x }) (legsOf false cs (g .ends))
+-- "*G and operating-day ranges need from < to ..; other *A need from ≤ to" (these are loose)
+abbrev pub loose : Part → Bool
+loose Category = false
+loose Days = false
+loose Extra = true
 
-abbrev pub dayRange : List Call → DaysLine → List DayRange
-dayRange cs v = withLegs (λ (x : Legs). record { field = v .field; legs = x }) (legsOf false cs (v .ends))
+-- the calls between which a range lies, where its line has both ends on the route and in order
+abbrev pub legsOn : List Call → RangeLine → Option Legs
+legsOn cs r = legsOf (loose (r .part)) cs (r .ends)
 
-abbrev pub extraRange : List Call → ExtraLine → List ExtraRange
-extraRange cs a = withLegs (λ (x : Legs). record { code = a .code; field = a .field; legs = x }) (legsOf true cs (a .ends))
+abbrev pub categoryRange : List Call → RangeLine → List CategoryRange
+categoryRange cs r = withLegs (λ (x : Legs). record { name = r .name; legs = x }) (legsOn cs r)
+
+abbrev pub dayRange : List Call → RangeLine → List DayRange
+dayRange cs r = withLegs (λ (x : Legs). record { field = r .field; legs = x }) (legsOn cs r)
+
+abbrev pub extraRange : List Call → RangeLine → List ExtraRange
+extraRange cs r = withLegs (λ (x : Legs). record { code = r .name; field = r .field; legs = x }) (legsOn cs r)
 
 -- a service's *Z line (a service always has one)
 abbrev pub firstLine : List Line → Line
@@ -54,7 +64,7 @@ serviceOf ls = record {
   line = firstLine ls .no;
   opening = firstOpening (asOpening (toldIn (firstLine ls .text)));
   calls = callsOf ls;
-  categories = gathered (categoryRange (callsOf ls)) (categoryLines ls);
-  days = gathered (dayRange (callsOf ls)) (daysLines ls);
-  extras = gathered (extraRange (callsOf ls)) (extraLines ls);
+  categories = gathered (categoryRange (callsOf ls)) (partLines Category ls);
+  days = gathered (dayRange (callsOf ls)) (partLines Days ls);
+  extras = gathered (extraRange (callsOf ls)) (partLines Extra ls);
 }

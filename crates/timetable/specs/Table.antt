@@ -1,17 +1,79 @@
--- Any words read as a table, and when they are "not a table (21)". Reading is total: n records from the front of the words. (The words as load
--- writes them: `tableWords` in Load.) Assumes nothing.
+-- Table (32-bit words): the words of a delivery as load writes them, any words read back, and when they are "not a table (21)". Reading is total:
+-- n records from the front of the words. Sizes and limits: Layout. Assumes nothing.
 use Prim.Native.Nat.{ℕ, zero, suc, _+_, _-_, _*_}
-use mathlib.Core.List.{List, [], _∷_}
+use mathlib.Core.List.{List, [], _∷_, _++_}
 use mathlib.Core.Bool.{Bool, true, false, cond, _&&_}
 use lib.ListN.{length, getD, take, drop}
 use lib.Dec.{ltb, leb, eqb}
-use Rattle.base.specs.Lists.{every}
+use Rattle.base.specs.Lists.{every, gathered}
 use Rattle.calendar.specs.Calendar.{lastDay}
+use Rattle.timetable.specs.Layout.{headerSize, bitFieldSize, stopSize, interchangeSize, serviceHead, callSize, categorySize, daySize, extraSize, recordSize, firstService}
+use Rattle.timetable.specs.Layout.{mostPeriodDays, mostCalls, mostCategories, mostDays, mostExtras, mostRepeats, latestTime, allFlags}
 use Rattle.timetable.specs.Delivery.{Period, BitField, StopRecord, Interchange, Legs, CategoryRange, DayRange, ExtraRange, Service, Delivery}
 use Rattle.timetable.specs.Ranges.{inOrder}
-use Rattle.timetable.specs.Load.{headerSize, bitFieldSize, stopSize, interchangeSize, serviceHead, callSize, categorySize, daySize, extraSize, recordSize, firstService}
 use Rattle.timetable.specs.declared.Call.{Call}
 use Rattle.timetable.specs.declared.Opening.{Opening}
+
+-- ---- as load writes it: "per bit field 13 (number, 12 words), stop 3 .., interchange 3 (number, two times), then services, all in file order"
+
+abbrev pub bitFieldWords : BitField → List ℕ
+bitFieldWords b = b .number ∷ b .words
+
+abbrev pub stopWords : StopRecord → List ℕ
+stopWords s = s .number ∷ s .offset ∷ s .size ∷ []
+
+abbrev pub interchangeWords : Interchange → List ℕ
+interchangeWords c = c .number ∷ c .firstTime ∷ c .secondTime ∷ []
+
+-- "calls of 4 (stop, arrival, departure, flags ..), *G of 3 (category .., from, to), *A VE of 3 (bit field, from, to), other of 4 (code .., bit field, from, to)"
+abbrev pub callWords : Call → List ℕ
+callWords c = c .stop ∷ c .arrival ∷ c .departure ∷ c .flags ∷ []
+
+abbrev pub categoryWords : CategoryRange → List ℕ
+categoryWords r = r .name ∷ r .legs .from ∷ r .legs .to ∷ []
+
+abbrev pub dayWords : DayRange → List ℕ
+dayWords r = r .field ∷ r .legs .from ∷ r .legs .to ∷ []
+
+abbrev pub extraWords : ExtraRange → List ℕ
+extraWords r = r .code ∷ r .field ∷ r .legs .from ∷ r .legs .to ∷ []
+
+abbrev pub serviceSize : Service → ℕ
+serviceSize s = recordSize (length (s .calls)) (length (s .categories)) (length (s .days)) (length (s .extras))
+
+-- "Service: its word count, number, administration .., repeats, offset, calls c, *G g, *A VE v, other a, *Z line: 11 words"
+abbrev pub headWords : Service → List ℕ
+headWords s =
+    serviceSize s ∷ s .opening .number ∷ s .opening .high ∷ s .opening .low ∷ s .opening .repeats ∷ s .opening .offset
+    ∷ length (s .calls) ∷ length (s .categories) ∷ length (s .days) ∷ length (s .extras) ∷ s .line ∷ []
+
+unfoldable pub serviceWords : Service → List ℕ
+serviceWords s =
+    headWords s
+    ++ (gathered callWords (s .calls) ++ (gathered categoryWords (s .categories) ++ (gathered dayWords (s .days) ++ gathered extraWords (s .extras))))
+
+-- all after the header
+abbrev pub sections : Delivery → List ℕ
+sections d =
+    gathered bitFieldWords (d .fields)
+    ++ (gathered stopWords (d .stops)
+    ++ (gathered interchangeWords (d .interchanges)
+    ++ gathered serviceWords (d .services)))
+
+-- "Header: words used, first day, n, bit fields B, stops S, interchange records U, services V, place of first service."
+unfoldable pub tableWords : Delivery → List ℕ
+tableWords d =
+    (headerSize + length (sections d))
+    ∷ d .period .start
+    ∷ d .period .days
+    ∷ length (d .fields)
+    ∷ length (d .stops)
+    ∷ length (d .interchanges)
+    ∷ length (d .services)
+    ∷ firstService (length (d .fields)) (length (d .stops)) (length (d .interchanges))
+    ∷ sections d
+
+-- ---- any words read back
 
 -- the word at a place
 abbrev pub word : List ℕ → ℕ → ℕ
@@ -47,7 +109,10 @@ dayAt w = record { field = word w 0; legs = legsAt 1 w }
 abbrev pub extraAt : List ℕ → ExtraRange
 extraAt w = record { code = word w 0; field = word w 1; legs = legsAt 2 w }
 
--- the counts that a service's words state: c, g, v, a
+-- the head of a service's words, by its names: its word count, and the counts c, g, v, a
+abbrev pub recordWords : List ℕ → ℕ
+recordWords w = word w 0
+
 abbrev pub calls# : List ℕ → ℕ
 calls# w = word w 6
 
@@ -83,26 +148,51 @@ serviceAt w = record {
 -- V records, each as long as its first word says
 unfoldable pub servicesIn : ℕ → List ℕ → List Service
 servicesIn zero w = []
-servicesIn (suc v) w = serviceAt w ∷ servicesIn v (drop (word w 0) w)
+servicesIn (suc v) w = serviceAt w ∷ servicesIn v (drop (recordWords w) w)
+
+-- the header's words, by their names
+abbrev pub usedWords : List ℕ → ℕ
+usedWords w = word w 0
+
+abbrev pub firstDay : List ℕ → ℕ
+firstDay w = word w 1
+
+abbrev pub periodDays : List ℕ → ℕ
+periodDays w = word w 2
+
+abbrev pub bitFields# : List ℕ → ℕ
+bitFields# w = word w 3
+
+abbrev pub stops# : List ℕ → ℕ
+stops# w = word w 4
+
+abbrev pub interchanges# : List ℕ → ℕ
+interchanges# w = word w 5
+
+abbrev pub services# : List ℕ → ℕ
+services# w = word w 6
+
+abbrev pub servicesPlace : List ℕ → ℕ
+servicesPlace w = word w 7
 
 -- the words used, from the front of the words lent
 abbrev pub used : List ℕ → List ℕ
-used w = take (word w 0) w
+used w = take (usedWords w) w
 
 unfoldable pub tableOf : List ℕ → Delivery
 tableOf w = record {
-  period = record { start = word w 1; days = word w 2 };
-  fields = rowsIn bitFieldAt bitFieldSize (word w 3) (drop headerSize (used w));
-  stops = rowsIn stopAt stopSize (word w 4) (drop (headerSize + bitFieldSize * word w 3) (used w));
-  interchanges = rowsIn interchangeAt interchangeSize (word w 5) (drop (headerSize + bitFieldSize * word w 3 + stopSize * word w 4) (used w));
-  services = servicesIn (word w 6) (drop (word w 7) (used w));
+  period = record { start = firstDay w; days = periodDays w };
+  fields = rowsIn bitFieldAt bitFieldSize (bitFields# w) (drop headerSize (used w));
+  stops = rowsIn stopAt stopSize (stops# w) (drop (headerSize + bitFieldSize * bitFields# w) (used w));
+  interchanges = rowsIn interchangeAt interchangeSize (interchanges# w) (drop (headerSize + bitFieldSize * bitFields# w + stopSize * stops# w) (used w));
+  services = servicesIn (services# w) (drop (servicesPlace w) (used w));
 }
 
 -- ---- not a table (21): the conditions, said as what a table keeps
 
 -- "a time over 59,999, flags over 15"
 abbrev pub callSound : Call → Bool
-callSound c = leb (c .arrival) 59999 && (leb (c .departure) 59999 && leb (c .flags) 15)
+callSound c = leb (c .arrival) latestTime && (leb (c .departure) latestTime && leb (c .flags) allFlags)
 
 -- "a range end not below c or in wrong order"
 abbrev pub legsSound : Bool → ℕ → Legs → Bool
@@ -111,7 +201,7 @@ legsSound loose c g = inOrder loose (g .from) (g .to) && ltb (g .to) c
 -- "repeats or offset over 999", and each call and range
 abbrev pub serviceSound : Service → Bool
 serviceSound s =
-    leb (s .opening .repeats) 999 && (leb (s .opening .offset) 999
+    leb (s .opening .repeats) mostRepeats && (leb (s .opening .offset) mostRepeats
     && (every callSound (s .calls)
     && (every (λ (r : CategoryRange). legsSound false (length (s .calls)) (r .legs)) (s .categories)
     && (every (λ (r : DayRange). legsSound false (length (s .calls)) (r .legs)) (s .days)
@@ -119,13 +209,13 @@ serviceSound s =
 
 -- "c outside 2 to 200, g, v, a over 50, 50, 100"
 abbrev pub countsSound : ℕ → ℕ → ℕ → ℕ → Bool
-countsSound c g v a = leb 2 c && (leb c 200 && (leb g 50 && (leb v 50 && leb a 100)))
+countsSound c g v a = leb 2 c && (leb c mostCalls && (leb g mostCategories && (leb v mostDays && leb a mostExtras)))
 
 -- the record at the front of the words: 11 words, counts in their bounds, "a count differs from 11 + 4c + 3g + 3v + 4a", and not past the words' end
 abbrev pub sizesSound : List ℕ → Bool
 sizesSound w =
     leb serviceHead (length w) && (countsSound (calls# w) (categories# w) (days# w) (extras# w)
-    && (eqb (word w 0) (recordSize (calls# w) (categories# w) (days# w) (extras# w)) && leb (word w 0) (length w)))
+    && (eqb (recordWords w) (recordSize (calls# w) (categories# w) (days# w) (extras# w)) && leb (recordWords w) (length w)))
 
 unfoldable pub recordSound : List ℕ → Bool
 recordSound w = sizesSound w && serviceSound (serviceAt w)
@@ -133,18 +223,18 @@ recordSound w = sizesSound w && serviceSound (serviceAt w)
 -- "the V records do not end exactly at words used"
 unfoldable pub recordsSound : ℕ → List ℕ → Bool
 recordsSound zero w = eqb (length w) 0
-recordsSound (suc v) w = recordSound w && recordsSound v (drop (word w 0) w)
+recordsSound (suc v) w = recordSound w && recordsSound v (drop (recordWords w) w)
 
 -- "fewer than 8, or words used under 8 or over those lent; n not 1 to 380, or last day after 31.12.2199; U is 0;
 -- word 7 is not 8 + 13B + 3S + 3U or is beyond words used": of the words lent, and of words 0 to 5 and 7
 unfoldable pub headSound : ℕ → ℕ → ℕ → ℕ → ℕ → ℕ → ℕ → ℕ → Bool
 headSound lent end first n b s u place =
     leb headerSize end && (leb end lent
-    && (leb 1 n && (leb n 380 && (leb (first + n) (lastDay + 1)
+    && (leb 1 n && (leb n mostPeriodDays && (leb (first + n) (lastDay + 1)
     && (leb 1 u && (eqb place (firstService b s u) && leb place end))))))
 
 -- "Any words are not a table (21) exactly if": this is false
 unfoldable pub isTable : List ℕ → Bool
 isTable w =
-    leb headerSize (length w) && (headSound (length w) (word w 0) (word w 1) (word w 2) (word w 3) (word w 4) (word w 5) (word w 7)
-    && recordsSound (word w 6) (drop (word w 7) (used w)))
+    leb headerSize (length w) && (headSound (length w) (usedWords w) (firstDay w) (periodDays w) (bitFields# w) (stops# w) (interchanges# w) (servicesPlace w)
+    && recordsSound (services# w) (drop (servicesPlace w) (used w)))

@@ -2,6 +2,13 @@
 // The rules of document 01 on them stand in specs/; the code that keeps them stands in the crates above.
 use fields::Detail;
 use fields::RangeEnd;
+ghost use mathlib.Core.Path.{_≡_};
+ghost use mathlib.Core.List.{[], _∷_};
+ghost use mathlib.Core.Option.{some};
+ghost use Rattle.timetable.specs.Offences.{offenceAt, verdictBy};
+ghost use Rattle.timetable.specs.Layout.{headerSize, bitFieldSize, stopSize, interchangeSize, serviceHead, callSize, categorySize, daySize, extraSize, rowSize};
+ghost use Rattle.timetable.specs.Layout.{mostFileBytes, mostPeriodDays, mostCalls, mostCategories, mostDays, mostExtras, mostRepeats, latestTime, allFlags};
+ghost use Rattle.timetable.specs.Ranges.{inOrder};
 
 // ---- what a line of FPLAN says
 
@@ -33,35 +40,69 @@ pub struct Ends {
     pub to: End,
 }
 
-// A *G line: its category as three bytes.
-pub struct CategoryLine {
+// The three kinds of ranges, in the table's order: *G, *A VE, and other *A.
+pub enum Part {
+    Category,
+    Days,
+    Extra,
+}
+
+// The line of a range: its category as three bytes or its code as two, its bit field (0 for daily, and of a *G), and its ends.
+pub struct RangeLine {
+    pub part: Part,
     pub name: u32,
-    pub ends: Ends,
-}
-
-// A *A VE line: its bit field, 0 for daily.
-pub struct DaysLine {
     pub field: u32,
     pub ends: Ends,
 }
 
-// Another *A line: its code as two bytes, and its bit field.
-pub struct ExtraLine {
-    pub code: u32,
-    pub field: u32,
-    pub ends: Ends,
-}
-
-// What a line of FPLAN says: nothing (skipped), something of another kind, something whose form is broken, or one of the kinds.
+// What a line of FPLAN says: nothing (skipped), something of another kind, something whose form is broken (the column where it is), or one of
+// the kinds.
 pub enum Told {
     Skip,
     Other,
-    Broken,
+    Broken(usize),
     Opens(Opening),
-    Category(CategoryLine),
-    Days(DaysLine),
-    Extra(ExtraLine),
+    Ranges(RangeLine),
     Calls(Call),
+}
+
+// ---- offences
+
+// An offence of a file: its number, its line, and the column where a form is broken (0 unless 4).
+pub struct Offence {
+    pub number: u32,
+    pub line: u32,
+    pub column: usize,
+}
+
+// An offence that is not 4.
+pub fn offence_at(number: u32, line: u32) -> Offence
+    ensures { λ r. ⌜ r ≡ offenceAt number line ⌝ }
+{
+    Offence {
+        number,
+        line,
+        column: 0,
+    }
+}
+
+// No offence, or the first.
+pub enum Verdict {
+    Fine,
+    Offends(Offence),
+}
+
+// The verdict of an offence that is not 4.
+pub fn offends(number: u32, line: u32) -> Verdict
+    ensures { λ r. ⌜ r ≡ verdictBy (some (offenceAt number line)) ⌝ }
+{
+    Verdict::Offends(offence_at(number, line))
+}
+
+// What checking a part of a delivery answers: the two numbers that it is asked for, or its first offence.
+pub enum Checked {
+    Holds(u32, u32),
+    Refused(Offence),
 }
 
 // ---- answers
@@ -97,7 +138,7 @@ pub enum Walked {
     Refused { number: u32, needed: u32 },
 }
 
-// ---- the table's sizes, in words
+// ---- the table's sizes, in words (specs/Layout; `sizes_tied` ties the two)
 
 pub const HEADER_WORDS: usize = 8;
 
@@ -156,7 +197,7 @@ pub const DAYS_AT: usize = 8;
 
 pub const EXTRAS_AT: usize = 9;
 
-// ---- limits
+// ---- limits (specs/Layout; `limits_tied` ties the two)
 
 // "file over 16,777,216 bytes" (1)
 pub const MOST_FILE_BYTES: usize = 16777216;
@@ -173,8 +214,63 @@ pub const MOST_DAYS: u32 = 50;
 
 pub const MOST_EXTRAS: u32 = 100;
 
-// The words of a service that has as many calls and ranges as it may: 11 + 4 * 200 + 3 * 50 + 3 * 50 + 4 * 100.
-pub const MOST_SERVICE_WORDS: usize = 1511;
+// Repeats and offset have three digits.
+pub const MOST_REPEATS: u32 = 999;
 
-// The words of the bit fields of as many operating-day ranges as a service may have: 12 * 50.
-pub const MOST_DAYS_BITS: usize = 600;
+// 999 hours and 59 minutes.
+pub const LATEST_TIME: u32 = 59999;
+
+// Every flag of a call.
+pub const ALL_FLAGS: u32 = 15;
+
+// The words of a service that has as many calls and ranges as it may.
+pub const MOST_SERVICE_WORDS: usize = SERVICE_WORDS
+    + CALL_WORDS * MOST_CALLS as usize
+    + CATEGORY_WORDS * MOST_CATEGORIES as usize
+    + DAYS_WORDS * MOST_DAYS as usize
+    + EXTRA_WORDS * MOST_EXTRAS as usize;
+
+// Whether a range's ends are in order; other *A ranges are loose: from may equal to.
+pub fn in_order(loose: bool, from: u32, to: u32) -> bool
+    ensures { λ r. ⌜ r ≡ inOrder loose from to ⌝ }
+{
+    if loose {
+        return from <= to;
+    }
+    from < to
+}
+
+// The sizes that the contracts name, by the names that the code uses.
+pub fn sizes_tied() -> [usize; 10]
+    ensures { λ r. ⌜ r ≡ headerSize ∷ bitFieldSize ∷ stopSize ∷ interchangeSize ∷ serviceHead ∷ callSize ∷ categorySize ∷ daySize ∷ extraSize ∷ rowSize ∷ [] ⌝ }
+{
+    [
+        HEADER_WORDS,
+        BIT_FIELD_WORDS,
+        STOP_WORDS,
+        INTERCHANGE_WORDS,
+        SERVICE_WORDS,
+        CALL_WORDS,
+        CATEGORY_WORDS,
+        DAYS_WORDS,
+        EXTRA_WORDS,
+        ROW_WORDS,
+    ]
+}
+
+// The limits, in the same way.
+pub fn limits_tied() -> [usize; 9]
+    ensures { λ r. ⌜ r ≡ mostFileBytes ∷ mostPeriodDays ∷ mostCalls ∷ mostCategories ∷ mostDays ∷ mostExtras ∷ mostRepeats ∷ latestTime ∷ allFlags ∷ [] ⌝ }
+{
+    [
+        MOST_FILE_BYTES,
+        MOST_PERIOD_DAYS as usize,
+        MOST_CALLS as usize,
+        MOST_CATEGORIES as usize,
+        MOST_DAYS as usize,
+        MOST_EXTRAS as usize,
+        MOST_REPEATS as usize,
+        LATEST_TIME as usize,
+        ALL_FLAGS as usize,
+    ]
+}

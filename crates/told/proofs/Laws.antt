@@ -6,21 +6,19 @@ use Prim.Native.Nat.{ℕ, _+_, _*_, _^_, _<_}
 use native.Mathlib.Nat.{add-zero}
 use native.Mathlib.Omega.{arith}
 use lib.Dec.{leb}
-use borrow.Author.Tests.{eq-eqb, ne-eqb, leb-true}
+use borrow.Author.Tests.{leb-true}
 use Rattle.base.proofs.Laws.{tests}
-use Rattle.columns.specs.Columns.{columns, number}
 use Rattle.lines.specs.Lines.{skipped}
 use Rattle.fields.specs.declared.Time.{Time}
 use Rattle.fields.specs.declared.Time.the-variants.{Stated}
-use Rattle.forms.specs.Form.{Row, fits, formOf}
+use Rattle.forms.specs.Form.{Row, formOf}
 use Rattle.forms.specs.Kinds.{kindOf}
 use Rattle.forms.specs.declared.Form.{Form}
 use Rattle.forms.specs.declared.Form.the-variants.{Fits, Broken as BrokenForm}
 use Rattle.forms.specs.declared.Kind.{Kind}
-use Rattle.timetable.specs.Plan.{twoBytes, attributeEnds, attributeIn, flagsOf, formed, toldBy, toldIn}
-use Rattle.timetable.specs.declared.Ends.{Ends}
+use Rattle.timetable.specs.Plan.{flagsOf, formed, toldBy, toldIn}
 use Rattle.timetable.specs.declared.Told.{Told}
-use Rattle.timetable.specs.declared.Told.the-variants.{Skip, Broken, Days, Extra}
+use Rattle.timetable.specs.declared.Told.the-variants.{Skip, Broken}
 use Rattle.timetable.proofs.Lines.{flags-le}
 
 -- b says whether the line is skipped
@@ -35,19 +33,11 @@ module _ (text : List ℕ) (b : Bool) (e : b ≡ skipped text) where
 
 -- f is the line's form
 module _ (rows : List Row) (text : List ℕ) (f : Form) (e : f ≡ formOf rows text) where
-  pub form-fits : (x y : Told) → f ≡ Fits → x ≡ y → x ≡ formed (fits rows text) y
+  pub form-fits : (x y : Told) → f ≡ Fits → x ≡ y → x ≡ formed (formOf rows text) y
   form-fits x y t v = rw (← e, t) v
 
-  pub form-broken : (y : Told) (column : ℕ) → f ≡ BrokenForm column → Broken ≡ formed (fits rows text) y
+  pub form-broken : (y : Told) (column : ℕ) → f ≡ BrokenForm column → Broken column ≡ formed (formOf rows text) y
   form-broken y column t = rw (← e, t)
-
--- the code, the bit field and the range ends of a *A line
-module _ (text : List ℕ) (code field : ℕ) (ends : Ends) (c : code ≡ twoBytes 4 text) (f : field ≡ number (columns 23 28 text)) (e : ends ≡ attributeEnds text) where
-  pub days-told : code ≡ 22085 → Days (record { field = field; ends = ends }) ≡ attributeIn text
-  days-told t = rw (← c, eq-eqb code 22085 t, f, e)
-
-  pub extra-told : (code ≡ 22085 → ⊥) → Extra (record { code = code; field = field; ends = ends }) ≡ attributeIn text
-  extra-told t = rw (← c, ne-eqb code 22085 t, f, e)
 
 -- the flags of a stated time, which "-" forbids or not
 module _ (f m : ℕ) (b : Bool) (t : Time) (e : t ≡ Stated m b) where
@@ -60,4 +50,4 @@ module _ (f m : ℕ) (b : Bool) (t : Time) (e : t ≡ Stated m b) where
 pub flags-fit : (a b f g : ℕ) (t u : Time) → a ≡ flagsOf f t → b ≡ flagsOf g u → leb f 2 ≡ true → leb g 2 ≡ true → a + b < 2 ^ 32
 flags-fit a b f g t u p q i j = omega (arith, flags-le f t, flags-le g u, leb-true f 2 i, leb-true g 2 j)
 
-pub ruleset telling = (tests, told-skip, told-kind, form-fits, form-broken, days-told, extra-told, flags-barred, flags-free, flags-fit)
+pub ruleset telling = (tests, told-skip, told-kind, form-fits, form-broken, flags-barred, flags-free, flags-fit)

@@ -1,24 +1,31 @@
 // What a line of FPLAN says: its kind by its first bytes, its form by its kind's columns, and then its fields.
+use columns::Class;
 use fields::Time;
 use forms::Form;
 use forms::Kind;
+use forms::LineKind;
 use timetable::Call;
-use timetable::CategoryLine;
-use timetable::DaysLine;
 use timetable::End;
 use timetable::Ends;
-use timetable::ExtraLine;
 use timetable::Opening;
+use timetable::Part;
+use timetable::RangeLine;
 use timetable::Told;
 ghost use mathlib.Core.Path.{_≡_};
-ghost use Prim.Native.Nat.{_≤_, _<_};
-ghost use Rattle.columns.specs.Columns.{columns};
-ghost use Rattle.fields.specs.Fields.{rangeEnd, detail};
-ghost use Rattle.forms.specs.Form.{fits};
+ghost use mathlib.Core.Bool.{_||_};
+ghost use Prim.Native.Nat.{_+_, _-_, _≤_, _<_};
+ghost use lib.ListN.{length};
+ghost use lib.Dec.{eqb};
+ghost use Rattle.base.specs.Lists.{every};
+ghost use Rattle.columns.specs.Columns.{columns, column, isBlank, blank, isOf};
+ghost use Rattle.fields.specs.Fields.{time, clock};
+ghost use Rattle.forms.specs.Form.{formOf, isTime};
 ghost use Rattle.forms.specs.Columns.{serviceColumns, categoryColumns, attributeColumns, callColumns};
 ghost use Rattle.forms.specs.Kinds.{kindOf};
-ghost use Rattle.timetable.specs.Plan.{twoBytes, threeBytes, openingIn, categoryIn, attributeEnds, attributeIn, minutesOf, flagsOf, callIn, formed, toldBy, toldIn, isOpening};
-ghost use Rattle.timetable.specs.declared.Told.the-variants.{Opens, Category, Calls};
+ghost use Rattle.timetable.specs.Plan.{twoBytes, threeBytes, openingIn, categoryIn, attributePart, attributeIn, minutesOf, flagsOf, callIn, formed, toldBy, toldIn, isOpening};
+ghost use Rattle.timetable.specs.Layout.{mostFileBytes};
+ghost use Rattle.timetable.specs.declared.Told.the-variants.{Opens, Ranges, Calls};
+ghost use Rattle.told.specs.Calls.{headFits, tailFits, endFits, callWith};
 
 // "VE" as two bytes: operating days.
 const VE: u32 = b'V' as u32 * 256 + b'E' as u32;
@@ -68,12 +75,12 @@ fn is_opening(kind: Kind) -> bool
 // ---- *Z
 
 fn opening_told(text: &[u8]) -> Told
-    ensures { λ r. ⌜ r ≡ formed (fits serviceColumns (now (text .entry))) (Opens (openingIn (now (text .entry)))) ⌝ }
+    ensures { λ r. ⌜ r ≡ formed (formOf serviceColumns (now (text .entry))) (Opens (openingIn (now (text .entry)))) ⌝ }
 {
-    let Form::Fits = forms::service_form(text) else {
-        return Told::Broken;
-    };
-    Told::Opens(opening_in(text))
+    match forms::line_form(LineKind::Opening, text) {
+        Form::Fits => Told::Opens(opening_in(text)),
+        Form::Broken(column) => Told::Broken(column),
+    }
 }
 
 fn opening_in(text: &[u8]) -> Opening
@@ -91,15 +98,15 @@ fn opening_in(text: &[u8]) -> Opening
 // ---- *G
 
 fn category_told(text: &[u8]) -> Told
-    ensures { λ r. ⌜ r ≡ formed (fits categoryColumns (now (text .entry))) (Category (categoryIn (now (text .entry)))) ⌝ }
+    ensures { λ r. ⌜ r ≡ formed (formOf categoryColumns (now (text .entry))) (Ranges (categoryIn (now (text .entry)))) ⌝ }
 {
-    let Form::Fits = forms::category_form(text) else {
-        return Told::Broken;
-    };
-    Told::Category(category_in(text))
+    match forms::line_form(LineKind::Category, text) {
+        Form::Fits => Told::Ranges(category_in(text)),
+        Form::Broken(column) => Told::Broken(column),
+    }
 }
 
-fn category_in(text: &[u8]) -> CategoryLine
+fn category_in(text: &[u8]) -> RangeLine
     ensures { λ r. ⌜ r ≡ categoryIn (now (text .entry)) ⌝ }
 {
     let from = End {
@@ -110,8 +117,10 @@ fn category_in(text: &[u8]) -> CategoryLine
         place: fields::range_end_in(text, 16, 22),
         detail: fields::detail_in(text, 31, 36),
     };
-    CategoryLine {
+    RangeLine {
+        part: Part::Category,
         name: three_bytes(text, 4),
+        field: 0,
         ends: Ends { from, to },
     }
 }
@@ -119,29 +128,18 @@ fn category_in(text: &[u8]) -> CategoryLine
 // ---- *A
 
 fn attribute_told(text: &[u8]) -> Told
-    ensures { λ r. ⌜ r ≡ formed (fits attributeColumns (now (text .entry))) (attributeIn (now (text .entry))) ⌝ }
+    ensures { λ r. ⌜ r ≡ formed (formOf attributeColumns (now (text .entry))) (Ranges (attributeIn (now (text .entry)))) ⌝ }
 {
-    let Form::Fits = forms::attribute_form(text) else {
-        return Told::Broken;
-    };
-    attribute_in(text)
+    match forms::line_form(LineKind::Attribute, text) {
+        Form::Fits => Told::Ranges(attribute_in(text)),
+        Form::Broken(column) => Told::Broken(column),
+    }
 }
 
-fn attribute_in(text: &[u8]) -> Told
+fn attribute_in(text: &[u8]) -> RangeLine
     ensures { λ r. ⌜ r ≡ attributeIn (now (text .entry)) ⌝ }
 {
     let code = two_bytes(text, 4);
-    let field = columns::number_in(text, 23, 28);
-    let ends = attribute_ends(text);
-    if code == VE {
-        return Told::Days(DaysLine { field, ends });
-    }
-    Told::Extra(ExtraLine { code, field, ends })
-}
-
-fn attribute_ends(text: &[u8]) -> Ends
-    ensures { λ r. ⌜ r ≡ attributeEnds (now (text .entry)) ⌝ }
-{
     let from = End {
         place: fields::range_end_in(text, 7, 13),
         detail: fields::detail_in(text, 30, 35),
@@ -150,18 +148,173 @@ fn attribute_ends(text: &[u8]) -> Ends
         place: fields::range_end_in(text, 15, 21),
         detail: fields::detail_in(text, 37, 42),
     };
-    Ends { from, to }
+    RangeLine {
+        part: attribute_part(code),
+        name: code,
+        field: columns::number_in(text, 23, 28),
+        ends: Ends { from, to },
+    }
+}
+
+fn attribute_part(code: u32) -> Part
+    ensures { λ r. ⌜ r ≡ attributePart code ⌝ }
+{
+    if code == VE { Part::Days } else { Part::Extra }
 }
 
 // ---- schedule lines
 
+// Nearly all lines of FPLAN are of this kind. One that reaches column 59, and is no longer than a file, is tested column by column: with the
+// length known, each test is a few loads at fixed places. Where a test fails, the table of columns says which column is broken.
 fn call_told(text: &[u8]) -> Told
-    ensures { λ r. ⌜ r ≡ formed (fits callColumns (now (text .entry))) (Calls (callIn (now (text .entry)))) ⌝ }
+    ensures { λ r. ⌜ r ≡ formed (formOf callColumns (now (text .entry))) (Calls (callIn (now (text .entry)))) ⌝ }
 {
-    let Form::Fits = forms::call_form(text) else {
-        return Told::Broken;
-    };
-    Told::Calls(call_in(text))
+    if text.len() < 59 {
+        return tabled_call(text);
+    }
+    if timetable::MOST_FILE_BYTES < text.len() {
+        return tabled_call(text);
+    }
+    usual_call(text)
+}
+
+// By the table of columns.
+fn tabled_call(text: &[u8]) -> Told
+    ensures { λ r. ⌜ r ≡ formed (formOf callColumns (now (text .entry))) (Calls (callIn (now (text .entry)))) ⌝ }
+{
+    match forms::line_form(LineKind::Schedule, text) {
+        Form::Fits => Told::Calls(call_in(text)),
+        Form::Broken(column) => Told::Broken(column),
+    }
+}
+
+fn usual_call(text: &[u8]) -> Told
+    requires { ⌜ length (now text) ≤ mostFileBytes ⌝ }
+    ensures { λ r. ⌜ r ≡ formed (formOf callColumns (now (text .entry))) (Calls (callIn (now (text .entry)))) ⌝ }
+{
+    let arrival = time_at(text, 30, 35);
+    let departure = time_at(text, 37, 42);
+    if head_fits(text, arrival, departure, tail_fits(text)) {
+        return Told::Calls(call_of(columns::number_in(text, 1, 7), arrival, departure));
+    }
+    tabled_call(text)
+}
+
+// Columns 1 to 42, where the two times were read, and then the rest.
+fn head_fits(text: &[u8], arrival: Time, departure: Time, rest: bool) -> bool
+    ensures { λ r. ⌜ r ≡ headFits (now (text .entry)) arrival departure rest ⌝ }
+{
+    if columns::every_in(text, 1, 7, Class::Digit) {
+        if blank_at(text, 8) {
+            if is_time(arrival) {
+                if blank_at(text, 36) {
+                    if is_time(departure) {
+                        return rest;
+                    }
+                }
+            }
+        }
+    }
+    false
+}
+
+// Columns 43 to 59.
+fn tail_fits(text: &[u8]) -> bool
+    ensures { λ r. ⌜ r ≡ tailFits (now (text .entry)) ⌝ }
+{
+    if blank_at(text, 43) {
+        if blank_or(text, 44, 48, Class::Digit) {
+            if blank_at(text, 49) {
+                if blank_or(text, 50, 55, Class::Filled) {
+                    return end_fits(text);
+                }
+            }
+        }
+    }
+    false
+}
+
+// Columns 56 to 59.
+fn end_fits(text: &[u8]) -> bool
+    ensures { λ r. ⌜ r ≡ endFits (now (text .entry)) ⌝ }
+{
+    if blank_at(text, 56) {
+        if blank_or(text, 57, 57, Class::Byte(b'X')) {
+            if blank_at(text, 58) {
+                return columns::every_in(text, 59, 59, Class::Byte(b'%'));
+            }
+        }
+    }
+    false
+}
+
+fn blank_at(text: &[u8], c: usize) -> bool
+    ensures { λ r. ⌜ r ≡ isBlank (column c (now (text .entry))) ⌝ }
+{
+    columns::column_at(text, c) == b' '
+}
+
+// Whether columns a to b are blank, or every one is of the class.
+fn blank_or(text: &[u8], a: usize, b: usize, class: Class) -> bool
+    ensures { λ r. ⌜ r ≡ (blank (columns a b (now (text .entry))) || every (isOf class) (columns a b (now (text .entry)))) ⌝ }
+{
+    if columns::every_in(text, a, b, Class::Byte(b' ')) {
+        return true;
+    }
+    columns::every_in(text, a, b, class)
+}
+
+// The time in the six columns a to b.
+fn time_at(text: &[u8], a: usize, b: usize) -> Time
+    requires { ⌜ 1 ≤ a ⌝ }
+    requires { ⌜ a ≤ 100 ⌝ }
+    requires { ⌜ b ≡ a + 5 ⌝ }
+    ensures { λ r. ⌜ r ≡ time (columns a b (now (text .entry))) ⌝ }
+{
+    if columns::every_in(text, a, b, Class::Byte(b' ')) {
+        return Time::Absent;
+    }
+    let sign = columns::column_at(text, a);
+    if is_sign(sign) {
+        return clock_at(text, a + 1, b, sign == b'-');
+    }
+    Time::NoTime
+}
+
+fn is_sign(b: u8) -> bool
+    ensures { λ r. ⌜ r ≡ (isBlank b || eqb b 45) ⌝ }
+{
+    if b == b' ' {
+        return true;
+    }
+    b == b'-'
+}
+
+// HHHMM in columns a to b as minutes.
+fn clock_at(text: &[u8], a: usize, b: usize, barred: bool) -> Time
+    requires { ⌜ b - (a - 1) ≤ 9 ⌝ }
+    ensures { λ r. ⌜ r ≡ clock barred (columns a b (now (text .entry))) ⌝ }
+{
+    if columns::every_in(text, a, b, Class::Digit) {
+        let n = columns::number_in(text, a, b);
+        if n % 100 <= 59 {
+            return Time::Stated {
+                minutes: n / 100 * 60 + n % 100,
+                barred,
+            };
+        }
+    }
+    Time::NoTime
+}
+
+fn is_time(t: Time) -> bool
+    ensures { λ r. ⌜ r ≡ isTime t ⌝ }
+{
+    match t {
+        Time::Absent => true,
+        Time::Stated { minutes, barred } => true,
+        Time::NoTime => false,
+    }
 }
 
 fn call_in(text: &[u8]) -> Call
@@ -169,8 +322,15 @@ fn call_in(text: &[u8]) -> Call
 {
     let arrival = fields::time_in(text, 30, 35);
     let departure = fields::time_in(text, 37, 42);
+    call_of(columns::number_in(text, 1, 7), arrival, departure)
+}
+
+// The call at a stop, by its times.
+fn call_of(stop: u32, arrival: Time, departure: Time) -> Call
+    ensures { λ r. ⌜ r ≡ callWith stop arrival departure ⌝ }
+{
     Call {
-        stop: columns::number_in(text, 1, 7),
+        stop,
         arrival: minutes_of(arrival),
         departure: minutes_of(departure),
         flags: flags_of(1, arrival) + flags_of(2, departure),

@@ -7,12 +7,12 @@ use Rattle.base.specs.Lists.{every, some-of, countIf, find, upto}
 use Rattle.bitfield.specs.BitField.{bit}
 use Rattle.calendar.specs.Calendar.{yearsBefore, monthsBefore, exists, dayOf}
 use Rattle.timetable.specs.Offences.{_<|>_}
-use Rattle.timetable.specs.Checks.{fieldRuns, stretches}
+use Rattle.timetable.specs.Legs.{fieldRuns, stretches}
 use Rattle.timetable.specs.Load.{onto}
 use Rattle.timetable.specs.Table.{rowsIn, serviceAt, servicesIn, tableOf, recordSound, recordsSound, headSound, isTable}
 use Rattle.timetable.specs.Questions.{interchangeAtStop, firstRefusal, idleLegs, leadingLegs, callsRefusal, rowsOf, journey, walkOf, walked, walkRows}
 use Rattle.timetable.specs.declared.Walked.the-variants.{Listed, NotRunning, Refused}
-use Rattle.timetable.proofs.Trial.{words}
+use Rattle.timetable.specs.Trial.{trialWords as words}
 
 -- the trial week with other operating days: `ranges` (bit field, from, to)
 abbrev withDays : ℕ → List ℕ → List ℕ

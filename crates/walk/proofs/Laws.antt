@@ -1,140 +1,120 @@
--- The walk of a service, of an index and of a date, for `search service`, `search index`, `search walks`. Assumes nothing.
-use mathlib.Core.Path.{_≡_, refl, sym, _∙_}
+-- The walk of an index and of a date, for `search index` and `search walks`. Assumes nothing.
+use mathlib.Core.Path.{_≡_, refl, sym, ap, _∙_}
 use mathlib.Core.List.{List}
 use mathlib.Core.Bool.{true}
-use Prim.Native.Nat.{ℕ, _-_, _*_, _^_, _≤_, _<_}
-use native.Mathlib.Nat.{mul-le-mul}
+use mathlib.Core.Option.{Option, none, some}
+use Prim.Native.Nat.{ℕ, _+_, _*_, _≤_, _<_}
 use native.Mathlib.Omega.{arith}
-use lib.ListN.{length, getD, drop}
-use borrow.Author.Tests.{ne-eqb, le-ltb, lt-ltb}
-use Rattle.base.specs.Lists.{below}
-use Rattle.base.proofs.Laws.{tests}
-use Rattle.timetable.specs.Delivery.{Delivery}
-use Rattle.timetable.specs.Checks.{legCount}
-use Rattle.timetable.specs.Table.{used, callAt, serviceAt, tableOf, isTable, recordSound}
-use Rattle.timetable.specs.Questions.{refused, journeyBy, legRefusal, firstRefusal, datedJourney, journey, walkOf, walkedBy, rowsBy}
+use lib.ListN.{getD, drop, getElem?}
+use lib.Dec.{leb}
+use Rattle.base.proofs.Laws.{tests, apart, by-leb}
+use Rattle.timetable.specs.Delivery.{Service, Delivery}
+use Rattle.timetable.specs.Table.{used, serviceAt, tableOf, isTable, recordSound}
+use Rattle.timetable.specs.Questions.{Journey, refused, idle, datedJourney, journey, walkOf, walkedBy, rowsBy}
 use Rattle.timetable.specs.declared.Walked.{Walked}
-use Rattle.timetable.specs.declared.Walked.the-variants.{Refused}
-use Rattle.timetable.proofs.Rows.{length-rows}
+use Rattle.timetable.specs.declared.Walked.the-variants.{Refused, NotRunning}
 use Rattle.table.specs.Whole.{Whole}
 use Rattle.table.proofs.Says.{record-says}
-use Rattle.table.proofs.Whole.{used-whole, used-word, used-same, whole-says}
+use Rattle.table.proofs.Whole.{used-whole, used-word, used-same}
 use Rattle.look.specs.Look.{servicePlace, datedAsked}
 use Rattle.look.specs.declared.PeriodDay.{PeriodDay}
 use Rattle.look.specs.declared.PeriodDay.the-variants.{On, Refused as Undated}
 use Rattle.look.proofs.Dates.{asDated, by-dated, dated-table, dated-day}
 use Rattle.look.proofs.Services.{service-none, service-is, service-sound}
-use Rattle.run.specs.Run.{noted}
-use Rattle.walk.specs.Walk.{dayWalk, serviceWalk, indexWalk}
-use Rattle.walk.proofs.Along.{same-answer, same-rows, calls-word, legs-fit}
+use Rattle.course.specs.Course.{indexedCourse, courseOf, rowsAlong}
+use Rattle.course.specs.declared.Course.{Course}
+use Rattle.course.specs.declared.Course.the-variants.{Along, NotRunning as Idle, Refused as Barred}
+use Rattle.course.proofs.Laws.{legs-count}
+use Rattle.course.proofs.Rows.{course-journey, along-within}
+use Rattle.walk.specs.Walk.{indexWalk, stretchWalk}
 
--- ---- a service
+-- ---- a journey that is another
 
-module _ (s : List ℕ) (e : recordSound s ≡ true) where
-  pub repeats-word : 4 < length s
-  repeats-word = omega (arith, record-says s e .0 .head)
+module _ (i j : Journey) (e : i ≡ j) where
+  same-answer : (room : ℕ) (r : Walked) → r ≡ walkedBy i room → r ≡ walkedBy j room
+  same-answer room r f = rw (sym e) f
 
-  pub offset-word : 5 < length s
-  offset-word = omega (arith, record-says s e .0 .head)
+  same-rows : (t r : List ℕ) → r ≡ rowsBy i t → r ≡ rowsBy j t
+  same-rows t r f = rw (sym e) f
 
-  module _ (r : ℕ) (h : r ≤ getD s 4 0) where
-    pub delay-low : r * getD s 5 0 ≤ 998001
-    delay-low =
-        let a : r ≤ 999 = omega (arith, record-says s e .1 .repeats) in
-        let m : r * getD s 5 0 ≤ 999 * 999 = mul-le-mul a (record-says s e .1 .offset) in
-        m
+-- ---- an index; c is the course of its service
 
-    pub delay-fits : r * getD s 5 0 < 2 ^ 32
-    delay-fits = omega (arith, delay-low)
+abbrev numberOf : Course → ℕ
+numberOf (Along a n) = 0
+numberOf Idle = 0
+numberOf (Barred number) = number
 
-module _ (d : Delivery) (s : List ℕ) (r k : ℕ) where
-  legs-are : legCount (serviceAt s) ≡ getD s 6 0 - 1
-  unfolding serviceAt
-  legs-are = rw (length-rows callAt 4 (getD s 6 0) (drop 11 s))
+module _ (d : Delivery) (i r k : ℕ) where
+  barred-by : (o : Option Service) (number : ℕ) → getElem? (d .services) i ≡ o → indexedCourse d o r k ≡ Barred number → indexWalk d i r k ≡ refused number
+  unfolding indexWalk
+  barred-by none number q e = rw q (ap refused (ap numberOf e))
+  barred-by (some s) number q e = rw q (course-journey d s r k ∙ ap (rowsAlong d s (r * s .opening .offset)) e)
 
-  repeats-are : serviceAt s .opening .repeats ≡ getD s 4 0
-  unfolding serviceAt
-  repeats-are = refl
+  idle-by : (o : Option Service) → getElem? (d .services) i ≡ o → indexedCourse d o r k ≡ Idle → indexWalk d i r k ≡ idle
+  unfolding indexWalk
+  idle-by none q e = apart (cc)
+  idle-by (some s) q e = rw q (course-journey d s r k ∙ ap (rowsAlong d s (r * s .opening .offset)) e)
 
-  offset-are : serviceAt s .opening .offset ≡ getD s 5 0
-  unfolding serviceAt
-  offset-are = refl
+  module _ (c : Course) (e : c ≡ courseOf d i r k) where
+    module _ (number : ℕ) (g : c ≡ Barred number) where
+      barred : indexWalk d i r k ≡ refused number
+      unfolding courseOf
+      barred = barred-by (getElem? (d .services) i) number refl (sym e ∙ g)
 
-  module _ (h : getD s 4 0 < r) where
-    over-is : serviceWalk d (serviceAt s) r k ≡ refused 25
-    unfolding serviceWalk
-    over-is = rw (repeats-are, lt-ltb (getD s 4 0) r h)
+      pub barred-answer : (room : ℕ) → Refused number 0 ≡ walkedBy (indexWalk d i r k) room
+      barred-answer room = rw barred
 
-    pub over-answer : (room : ℕ) → Refused 25 0 ≡ walkedBy (serviceWalk d (serviceAt s) r k) room
-    over-answer room = rw over-is
+      pub barred-kept : (t : List ℕ) → t ≡ rowsBy (indexWalk d i r k) t
+      barred-kept t = rw barred
 
-    pub over-kept : (t : List ℕ) → t ≡ rowsBy (serviceWalk d (serviceAt s) r k) t
-    over-kept t = rw over-is
+    module _ (g : c ≡ Idle) where
+      idles : indexWalk d i r k ≡ idle
+      unfolding courseOf
+      idles = idle-by (getElem? (d .services) i) refl (sym e ∙ g)
 
-  -- number is what the legs are refused for
-  module _ (h : r ≤ getD s 4 0) (number : ℕ) (f : noted number ≡ firstRefusal (legRefusal d (serviceAt s)) (below (getD s 6 0 - 1))) where
-    service-by : serviceWalk d (serviceAt s) r k ≡ journeyBy (noted number) (dayWalk d (serviceAt s) (r * getD s 5 0) k)
-    unfolding serviceWalk dayWalk
-    service-by = rw (repeats-are, le-ltb (getD s 4 0) r h, legs-are, sym f, offset-are) refl
+      pub idle-answer : (room : ℕ) → NotRunning ≡ walkedBy (indexWalk d i r k) room
+      idle-answer room = rw idles
 
-    module _ (z : number ≡ 0 → ⊥) where
-      legs-is : serviceWalk d (serviceAt s) r k ≡ refused number
-      legs-is = service-by ∙ rw (ne-eqb number 0 z)
+      pub idle-kept : (t : List ℕ) → t ≡ rowsBy (indexWalk d i r k) t
+      idle-kept t = rw idles
 
-      pub legs-answer : (room : ℕ) → Refused number 0 ≡ walkedBy (serviceWalk d (serviceAt s) r k) room
-      legs-answer room = rw legs-is
+module _ (w : List ℕ) (h : Whole w) (i r k a n : ℕ) (c : Course) (e : c ≡ courseOf (tableOf w) i r k) (g : c ≡ Along a n) where
+  -- it is the index of a service
+  pub along-index : i < getD w 6 0
+  unfolding courseOf
+  along-index = by-leb (λ t. i < getD w 6 0) (getD w 6 0) i (λ l. none-there l) (λ l. l)
+    where
+      none-there : getD w 6 0 ≤ i → i < getD w 6 0
+      none-there l = apart (let z : Barred 24 ≡ Along a n = sym (ap (λ (o : Option Service). indexedCourse (tableOf w) o r k) (service-none w h i l)) ∙ (sym e ∙ g) in (cc))
 
-      pub legs-kept : (t : List ℕ) → t ≡ rowsBy (serviceWalk d (serviceAt s) r k) t
-      legs-kept t = rw legs-is
+  module _ (s : List ℕ) (q : s ≡ drop (servicePlace w i) w) where
+    there : getElem? (tableOf w .services) i ≡ some (serviceAt s)
+    there = rw q (service-is w h i along-index)
 
-    module _ (z : number ≡ 0) where
-      day-is : dayWalk d (serviceAt s) (r * getD s 5 0) k ≡ serviceWalk d (serviceAt s) r k
-      day-is = sym (service-by ∙ rw z)
+    course-is : indexedCourse (tableOf w) (some (serviceAt s)) r k ≡ Along a n
+    unfolding courseOf
+    course-is = sym (ap (λ (o : Option Service). indexedCourse (tableOf w) o r k) there) ∙ (sym e ∙ g)
 
-      pub day-answer : (room : ℕ) (x : Walked) → x ≡ walkedBy (dayWalk d (serviceAt s) (r * getD s 5 0) k) room → x ≡ walkedBy (serviceWalk d (serviceAt s) r k) room
-      day-answer room x g = same-answer (dayWalk d (serviceAt s) (r * getD s 5 0) k) (serviceWalk d (serviceAt s) r k) day-is room x g
+    pub along-sound : recordSound s ≡ true
+    along-sound = rw q (service-sound w h i along-index)
 
-      pub day-listed : (t u : List ℕ) → u ≡ rowsBy (dayWalk d (serviceAt s) (r * getD s 5 0) k) t → u ≡ rowsBy (serviceWalk d (serviceAt s) r k) t
-      day-listed t u g = same-rows (dayWalk d (serviceAt s) (r * getD s 5 0) k) (serviceWalk d (serviceAt s) r k) day-is t u g
+    pub along-repeat : r ≤ serviceAt s .opening .repeats
+    along-repeat = along-within a n (tableOf w) (serviceAt s) r k course-is .0
 
-pub ruleset service = (tests, repeats-word, offset-word, calls-word, legs-fit, delay-low, delay-fits, over-answer, over-kept, legs-answer, legs-kept, day-answer, day-listed)
+    pub along-calls : a + n < getD s 6 0
+    along-calls = omega (arith, along-within a n (tableOf w) (serviceAt s) r k course-is .1, legs-count s, record-says s along-sound .0 .calls-low)
 
--- ---- an index
+    along-is : stretchWalk (tableOf w) (serviceAt s) r a n ≡ indexWalk (tableOf w) i r k
+    unfolding indexWalk stretchWalk
+    along-is = sym (rw there (course-journey (tableOf w) (serviceAt s) r k ∙ ap (rowsAlong (tableOf w) (serviceAt s) (r * serviceAt s .opening .offset)) course-is))
 
-module _ (w : List ℕ) (h : Whole w) where
-  pub count-word : 6 < length w
-  count-word = omega (arith, whole-says w h .used-low, whole-says w h .used-high)
+    pub along-answer : (room : ℕ) (x : Walked) → x ≡ walkedBy (stretchWalk (tableOf w) (serviceAt s) r a n) room → x ≡ walkedBy (indexWalk (tableOf w) i r k) room
+    along-answer room x f = same-answer (stretchWalk (tableOf w) (serviceAt s) r a n) (indexWalk (tableOf w) i r k) along-is room x f
 
-  pub day-low : (k : ℕ) → k < getD w 2 0 → k < 380
-  day-low k l = omega (arith, whole-says w h .days-high)
+    pub along-listed : (t u : List ℕ) → u ≡ rowsBy (stretchWalk (tableOf w) (serviceAt s) r a n) t → u ≡ rowsBy (indexWalk (tableOf w) i r k) t
+    along-listed t u f = same-rows (stretchWalk (tableOf w) (serviceAt s) r a n) (indexWalk (tableOf w) i r k) along-is t u f
 
-  module _ (i r k : ℕ) where
-    module _ (b : getD w 6 0 ≤ i) where
-      index-is-none : indexWalk (tableOf w) i r k ≡ refused 24
-      unfolding indexWalk
-      index-is-none = rw (service-none w h i b)
-
-      pub none-answer : (room : ℕ) → Refused 24 0 ≡ walkedBy (indexWalk (tableOf w) i r k) room
-      none-answer room = rw index-is-none
-
-      pub none-kept : (t : List ℕ) → t ≡ rowsBy (indexWalk (tableOf w) i r k) t
-      none-kept t = rw index-is-none
-
-    module _ (b : i < getD w 6 0) (s : List ℕ) (q : s ≡ drop (servicePlace w i) w) where
-      index-is : serviceWalk (tableOf w) (serviceAt s) r k ≡ indexWalk (tableOf w) i r k
-      unfolding indexWalk serviceWalk
-      index-is = rw (service-is w h i b, q) refl
-
-      pub index-answer : (room : ℕ) (x : Walked) → x ≡ walkedBy (serviceWalk (tableOf w) (serviceAt s) r k) room → x ≡ walkedBy (indexWalk (tableOf w) i r k) room
-      index-answer room x g = same-answer (serviceWalk (tableOf w) (serviceAt s) r k) (indexWalk (tableOf w) i r k) index-is room x g
-
-      pub index-listed : (t u : List ℕ) → u ≡ rowsBy (serviceWalk (tableOf w) (serviceAt s) r k) t → u ≡ rowsBy (indexWalk (tableOf w) i r k) t
-      index-listed t u g = same-rows (serviceWalk (tableOf w) (serviceAt s) r k) (indexWalk (tableOf w) i r k) index-is t u g
-
-pub index-sound : (w : List ℕ) → Whole w → (i : ℕ) → i < getD w 6 0 → (s : List ℕ) → s ≡ drop (servicePlace w i) w → recordSound s ≡ true
-index-sound w h i b s q = rw q (service-sound w h i b)
-
-pub ruleset index = (tests, count-word, day-low, none-answer, none-kept, index-answer, index-listed, index-sound)
+pub ruleset index = (tests, barred-answer, barred-kept, idle-answer, idle-kept, along-index, along-sound, along-repeat, along-calls, along-answer, along-listed)
 
 -- ---- a date; x is the day that it is
 

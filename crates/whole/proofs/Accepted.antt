@@ -16,13 +16,16 @@ use Rattle.calendar.specs.Calendar.{lastDay}
 use Rattle.lines.specs.Lines.{linesOf}
 use Rattle.timetable.specs.Delivery.{Files, Service, Delivery}
 use Rattle.timetable.specs.Files.{hasStop, held-in, interchangeOf, interchangesFirst}
-use Rattle.timetable.specs.Load.{delivered, offence, headerSize, serviceHead, serviceSize, serviceWords, firstService, sections, tableWords, onto, loadedBy, loaded, writtenBy, written}
-use Rattle.timetable.specs.Table.{word, tableOf, recordSound, recordsSound, headSound, isTable}
+use Rattle.timetable.specs.Load.{Where, delivered, offence, onto, loadedBy, loaded, writtenBy, written}
+use Rattle.timetable.specs.Layout.{headerSize, serviceHead, firstService, mostPeriodDays, mostCalls, mostCategories, mostDays, mostExtras}
+use Rattle.timetable.specs.Table.{serviceSize, serviceWords, sections, tableWords}
+use Rattle.timetable.specs.Table.{recordWords, calls#, categories#, days#, extras#, usedWords, firstDay, periodDays, bitFields#, stops#, interchanges#, services#, servicesPlace}
+use Rattle.timetable.specs.Table.{tableOf, recordSound, recordsSound, headSound, isTable}
 use Rattle.timetable.specs.Questions.{dateOf, dayBy, dayAsked, minutesFor, interchangeAtStop, interchangeAsked, journey, walkOf}
 use Rattle.timetable.specs.declared.InterchangeAnswer.the-variants.{Minutes, Refused as InterchangeRefused}
 use Rattle.timetable.specs.declared.Loaded.{Loaded}
 use Rattle.timetable.specs.declared.Loaded.the-variants.{Accepted, Refused}
-use Rattle.timetable.proofs.Offences.{then-none, when-none}
+use Rattle.timetable.proofs.Offences.{then-none, given-none}
 use Rattle.timetable.proofs.Records.{twelve, service-length, service-back}
 use Rattle.whole.proofs.Back.{words-length, used-back, to-services, sections-length, fields-twelve, table-back}
 use Rattle.whole.proofs.Clear.{Clear, clear}
@@ -31,7 +34,7 @@ use Rattle.whole.proofs.Right.{Right, services-right}
 
 -- ---- the services are the records of a table
 
-head-words : (s : Service) (r : List ℕ) → (word (serviceWords s ++ r) 0 ≡ serviceSize s) × (word (serviceWords s ++ r) 6 ≡ length (s .calls)) × (word (serviceWords s ++ r) 7 ≡ length (s .categories)) × (word (serviceWords s ++ r) 8 ≡ length (s .days)) × (word (serviceWords s ++ r) 9 ≡ length (s .extras))
+head-words : (s : Service) (r : List ℕ) → (recordWords (serviceWords s ++ r) ≡ serviceSize s) × (calls# (serviceWords s ++ r) ≡ length (s .calls)) × (categories# (serviceWords s ++ r) ≡ length (s .categories)) × (days# (serviceWords s ++ r) ≡ length (s .days)) × (extras# (serviceWords s ++ r) ≡ length (s .extras))
 unfolding serviceWords
 head-words s r = (refl, refl, refl, refl, refl)
 
@@ -50,10 +53,10 @@ record-sound d s h r =
       service-back s r,
       le-leb serviceHead (serviceSize s + length r) (omega arith),
       le-leb 2 (length (s .calls)) (h .two),
-      le-leb (length (s .calls)) 200 (h .most-calls),
-      le-leb (length (s .categories)) 50 (h .most-categories),
-      le-leb (length (s .days)) 50 (h .most-days),
-      le-leb (length (s .extras)) 100 (h .most-extras),
+      le-leb (length (s .calls)) mostCalls (h .most-calls),
+      le-leb (length (s .categories)) mostCategories (h .most-categories),
+      le-leb (length (s .days)) mostDays (h .most-days),
+      le-leb (length (s .extras)) mostExtras (h .most-extras),
       eq-eqb (serviceSize s) (serviceSize s) refl,
       le-leb (serviceSize s) (serviceSize s + length r) (omega arith),
       h .sound,
@@ -75,7 +78,7 @@ pub record Sound (d : Delivery) : Type 0 where
   pub interchanges : 1 ≤ length (d .interchanges)
   pub services : All (Right d) (d .services)
 
-header-words : (d : Delivery) (r : List ℕ) → (word (tableWords d ++ r) 0 ≡ headerSize + length (sections d)) × (word (tableWords d ++ r) 1 ≡ d .period .start) × (word (tableWords d ++ r) 2 ≡ d .period .days) × (word (tableWords d ++ r) 3 ≡ length (d .fields)) × (word (tableWords d ++ r) 4 ≡ length (d .stops)) × (word (tableWords d ++ r) 5 ≡ length (d .interchanges)) × (word (tableWords d ++ r) 6 ≡ length (d .services)) × (word (tableWords d ++ r) 7 ≡ firstService (length (d .fields)) (length (d .stops)) (length (d .interchanges)))
+header-words : (d : Delivery) (r : List ℕ) → (usedWords (tableWords d ++ r) ≡ headerSize + length (sections d)) × (firstDay (tableWords d ++ r) ≡ d .period .start) × (periodDays (tableWords d ++ r) ≡ d .period .days) × (bitFields# (tableWords d ++ r) ≡ length (d .fields)) × (stops# (tableWords d ++ r) ≡ length (d .stops)) × (interchanges# (tableWords d ++ r) ≡ length (d .interchanges)) × (services# (tableWords d ++ r) ≡ length (d .services)) × (servicesPlace (tableWords d ++ r) ≡ firstService (length (d .fields)) (length (d .stops)) (length (d .interchanges)))
 unfolding tableWords
 header-words d r = (refl, refl, refl, refl, refl, refl, refl, refl)
 
@@ -104,7 +107,7 @@ sound-table d h rest =
       le-leb headerSize u (omega arith),
       le-leb u (u + length rest) (omega arith),
       le-leb 1 (d .period .days) (p .one),
-      le-leb (d .period .days) 380 (p .most),
+      le-leb (d .period .days) mostPeriodDays (p .most),
       le-leb (d .period .start + d .period .days) (lastDay + 1) (p .last),
       le-leb 1 (length (d .interchanges)) (h .interchanges),
       eq-eqb at at refl,
@@ -121,7 +124,7 @@ unfolding delivered interchangesFirst
 clear-sound f h = record {
   twelves = fields-twelve (linesOf (f .bitfeld));
   period = period-sound (linesOf (f .eckdaten)) (h .period);
-  interchanges = some-record (length (held-in interchangeOf (linesOf (f .umsteigb)))) (when-none _ 2 _ (then-none _ _ (h .interchanges) .1));
+  interchanges = some-record (length (held-in interchangeOf (linesOf (f .umsteigb)))) (given-none _ 2 _ (then-none _ _ (h .interchanges) .1));
   services = services-right f h;
 }
 
@@ -131,11 +134,11 @@ words-table f e rest = sound-table (delivered f) (clear-sound f (clear f e)) res
 
 -- ---- acceptance
 
-pub accepted-none : (o : Option (ℕ × ℕ × ℕ)) (needed room u : ℕ) → loadedBy o needed room ≡ Accepted u → (o ≡ none) × (needed ≤ room) × (u ≡ needed)
+pub accepted-none : (o : Option Where) (needed room u : ℕ) → loadedBy o needed room ≡ Accepted u → (o ≡ none) × (needed ≤ room) × (u ≡ needed)
 accepted-none (some x) needed room u e = apart (cc)
 accepted-none none needed room u e = go (ltb room needed) refl e
   where
-    go : (t : Bool) → ltb room needed ≡ t → cond t (Refused 20 0 0 needed) (Accepted needed) ≡ Accepted u → (_≡_ {A = Option (ℕ × ℕ × ℕ)} none none) × (needed ≤ room) × (u ≡ needed)
+    go : (t : Bool) → ltb room needed ≡ t → cond t (Refused 20 0 0 needed) (Accepted needed) ≡ Accepted u → (_≡_ {A = Option Where} none none) × (needed ≤ room) × (u ≡ needed)
     go true q e = apart (cc)
     go false q e = (refl, ltb-false room needed q, let z : needed ≡ u = cc in sym z)
 

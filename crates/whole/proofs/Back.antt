@@ -12,12 +12,16 @@ use Rattle.columns.specs.Columns.{columns, number}
 use Rattle.bitfield.specs.BitField.{bitsIn}
 use Rattle.bitfield.proofs.Hex.{length-words}
 use Rattle.lines.specs.Lines.{Line, linesOf, skipped}
-use Rattle.forms.specs.Form.{fits}
+use Rattle.forms.specs.Form.{formOf}
+use Rattle.forms.specs.declared.Form.{Form}
+use Rattle.forms.specs.declared.Form.the-variants.{Fits, Broken}
 use Rattle.forms.specs.Columns.{bitFieldColumns}
 use Rattle.timetable.specs.Delivery.{Files, Delivery}
-use Rattle.timetable.specs.Files.{skip, broken, held, listed, held-in, bitFieldOf}
-use Rattle.timetable.specs.Load.{delivered, bitFieldWords, stopWords, interchangeWords, headerSize, bitFieldSize, stopSize, interchangeSize, serviceWords, firstService, sections, tableWords}
-use Rattle.timetable.specs.Table.{word, rowsIn, bitFieldAt, stopAt, interchangeAt, servicesIn, used, tableOf}
+use Rattle.timetable.specs.Files.{skip, listed, held-in, heldBy, bitFieldOf}
+use Rattle.timetable.specs.Load.{delivered}
+use Rattle.timetable.specs.Table.{bitFieldWords, stopWords, interchangeWords, serviceWords, sections, tableWords, usedWords}
+use Rattle.timetable.specs.Layout.{headerSize, bitFieldSize, stopSize, interchangeSize, firstService}
+use Rattle.timetable.specs.Table.{rowsIn, bitFieldAt, stopAt, interchangeAt, servicesIn, used, tableOf}
 use Rattle.whole.proofs.Lists.{all-append}
 use Rattle.timetable.proofs.Records.{past, twelve, fields-back, fields-length, stops-back, stops-length, interchanges-back, interchanges-length, services-back}
 
@@ -27,7 +31,7 @@ pub words-length : (d : Delivery) → length (tableWords d) ≡ headerSize + len
 unfolding tableWords
 words-length d = omega arith
 
-count-word : (d : Delivery) (rest : List ℕ) → word (tableWords d ++ rest) 0 ≡ headerSize + length (sections d)
+count-word : (d : Delivery) (rest : List ℕ) → usedWords (tableWords d ++ rest) ≡ headerSize + length (sections d)
 unfolding tableWords
 count-word d rest = refl
 
@@ -81,12 +85,12 @@ module _ (d : Delivery) (h : All twelve (d .fields)) where
 -- a bit field has twelve words, whatever its line
 line-twelve : (l : Line) → All twelve (listed (bitFieldOf l))
 unfolding bitsIn
-line-twelve l = go (skipped (l .text)) (fits bitFieldColumns (l .text))
+line-twelve l = go (skipped (l .text)) (formOf bitFieldColumns (l .text))
   where
-    go : (s t : Bool) → All twelve (listed (cond s skip (cond t (held (record { number = number (columns 1 6 (l .text)); words = bitsIn (l .text) })) broken)))
+    go : (s : Bool) (t : Form) → All twelve (listed (cond s skip (heldBy t (record { number = number (columns 1 6 (l .text)); words = bitsIn (l .text) }))))
     go true t = nil
-    go false true = cons (length-words 12 (columns 8 103 (l .text))) nil
-    go false false = nil
+    go false Fits = cons (length-words 12 (columns 8 103 (l .text))) nil
+    go false (Broken c) = nil
 
 pub fields-twelve : (ls : List Line) → All twelve (held-in bitFieldOf ls)
 unfolding held-in

@@ -9,29 +9,34 @@ use lib.ListN.{length, drop}
 use lib.Dec.{ltb, leb, eqb}
 use borrow.Author.Tests.{le-leb, lt-ltb, le-ltb, ltb-true, leb-false, eqb-true, eqb-false}
 use Rattle.base.specs.Lists.{All, below}
-use Rattle.base.proofs.Laws.{apart, clash}
+use Rattle.base.proofs.Laws.{apart, clash, by-ltb}
 use Rattle.calendar.specs.Calendar.{dayOf}
 use Rattle.calendar.specs.declared.Date.{Date}
 use Rattle.calendar.specs.declared.Date.the-variants.{Day}
 use Rattle.timetable.specs.Delivery.{Files, Period, DayRange, Service, Delivery}
-use Rattle.timetable.specs.Checks.{covers, operated, fieldRuns, stretches, legCount, operatedLegs}
-use Rattle.timetable.specs.Load.{delivered, offence, tableWords, onto, loaded, written}
+use Rattle.timetable.specs.Legs.{covers, operated, fieldRuns, stretches, legCount, operatedLegs}
+use Rattle.timetable.specs.Load.{delivered, offence, onto, loaded, written}
+use Rattle.timetable.specs.Table.{tableWords}
 use Rattle.timetable.specs.Table.{tableOf, isTable}
-use Rattle.timetable.specs.Questions.{dated, datedBy, legRefusal, firstRefusal, idleLegs, leadingLegs, stretchOf, stretchCalls, callsRefusal, rowsOf, rowSize, Journey, refused, idle, rows, journeyBy, stretchJourney, onDay, serviceJourney, indexed, datedJourney, journey, walkOf, walkedBy, walked, rowsBy, walkRows}
+use Rattle.timetable.specs.Questions.{dated, datedBy, legRefusal, firstRefusal, idleLegs, leadingLegs, stretchOf, stretchCalls, callsRefusal, rowsOf, Journey, refused, idle, rows, journeyBy, stretchJourney, onDay, serviceJourney, indexed, datedJourney, journey, walkOf, walkedBy, walked, rowsBy, walkRows}
+use Rattle.timetable.specs.Layout.{rowSize}
 use Rattle.timetable.specs.declared.Loaded.{Loaded}
 use Rattle.timetable.specs.declared.Loaded.the-variants.{Accepted}
 use Rattle.timetable.specs.declared.Walked.{Walked}
 use Rattle.timetable.specs.declared.Walked.the-variants.{Listed, Refused}
-use Rattle.whole.specs.Promise.{RunsNowhere, Outcome, not-running, runs, Demand3, Asked, Walk, Short}
+use Rattle.whole.specs.Rows.{RunsNowhere}
+use Rattle.whole.specs.Promise.{Outcome, not-running, runs, Demand3, Asked, OwnRun, Walk, short, Short}
 use Rattle.whole.proofs.Lists.{all-elem, only-says}
 use Rattle.whole.proofs.Clear.{Clear, clear}
 use Rattle.whole.proofs.Back.{table-back}
-use Rattle.whole.proofs.Accepted.{words-table, no-offence, table-is, table-holds, walk-held}
+use Rattle.whole.proofs.Accepted.{clear-sound, words-table, no-offence, table-is, table-holds, walk-held}
 use Rattle.whole.proofs.Right.{Right, services-right, from-text}
-use Rattle.whole.proofs.Once.{fields-run, stops-own, interchanges-at}
-use Rattle.whole.proofs.Stretch.{still, one-stretch, legs-at}
+use Rattle.whole.proofs.Once.{interchanges-own}
+use Rattle.whole.proofs.Text.{own-text}
+use Rattle.whole.proofs.Stretch.{one-stretch}
 use Rattle.whole.proofs.Resolved.{legs-resolved, stretch-resolved}
-use Rattle.whole.proofs.Rows.{inside, stretched}
+use Rattle.whole.proofs.Rows.{Interchanges, inside, stretched}
+use Rattle.whole.proofs.Any.{runs-nowhere}
 
 -- ---- a day of a service
 
@@ -41,7 +46,7 @@ goes-on P false none j x p q h = h
 goes-on P false (some o) j x p q h = apart (cc)
 goes-on P true o j x p q h = clash (sym p)
 
-module _ (d : Delivery) (s : Service) (h : Right d s) (r k : ℕ) where
+module _ (d : Delivery) (s : Service) (h : Right d s) (known : Interchanges d) (r k : ℕ) where
   day-outcome : k < d .period .days → Outcome d s r k (onDay d s (r * s .opening .offset) (operatedLegs (d .fields) s k))
   day-outcome l = go (eqb (stretches false bs) 0) refl
     where
@@ -54,11 +59,8 @@ module _ (d : Delivery) (s : Service) (h : Right d s) (r k : ℕ) where
       n : ℕ
       n = leadingLegs (drop a bs)
 
-      nowhere : stretches false bs ≡ 0 → RunsNowhere d s k
-      nowhere e j m = sym (legs-at (operated (d .fields) (s .days) k) (legCount s) j m) ∙ still bs e j
-
       go : (t : Bool) → eqb (stretches false bs) 0 ≡ t → Outcome d s r k (cond t idle (cond (leb 2 (stretches false bs)) (refused 35) (stretchJourney d s (r * s .opening .offset) (stretchOf bs))))
-      go true q = not-running (nowhere (eqb-true (stretches false bs) 0 q))
+      go true q = not-running (runs-nowhere d s k (eqb-true (stretches false bs) 0 q))
       go false q =
           let w = h .whole k l in
           let b = leb-false 2 (stretches false bs) w in
@@ -66,8 +68,8 @@ module _ (d : Delivery) (s : Service) (h : Right d s) (r k : ℕ) where
           let one = one-stretch bs (omega (arith, z)) in
           goes-on (Outcome d s r k) (leb 2 (stretches false bs)) (callsRefusal d s a n 0 0 (stretchCalls s (stretchOf bs))) (rows (rowsOf d s a n (r * s .opening .offset) 0 (stretchCalls s (stretchOf bs)))) (refused 35)
           w
-          (stretch-resolved d s h a n (inside d s h r k a n one))
-          (runs (stretched d s h r k a n one))
+          (stretch-resolved d s h a n (inside d s r k a n one))
+          (runs (stretched d s r k a n one h known))
 
   service-outcome : r ≤ s .opening .repeats → k < d .period .days → Outcome d s r k (serviceJourney d s r k)
   service-outcome l m =
@@ -88,8 +90,8 @@ module _ {d : Delivery} {s : Service} {r k : ℕ} where
   is-idle : {j : Journey} → Outcome d s r k j → RunsNowhere d s k → j ≡ idle
   is-idle (not-running x) n = refl
   is-idle (runs x) n =
-      let l = x .some-leg in let i = x .inside in
-      clash (sym (n (x .start) (omega arith)) ∙ x .operates (x .start) (omega arith) (omega arith))
+      let u = x .unbroken in let l = u .some-leg in let i = u .inside in
+      clash (sym (n (x .start) (omega arith)) ∙ u .operates (x .start) (omega arith) (omega arith))
 
 -- ---- the walk of a delivery
 
@@ -115,19 +117,20 @@ walk-demand f c w is holds i r d m y day s a =
     let h = all-elem (Right (delivered f)) (delivered f .services) i s (services-right f c) (a .service) in
     let k = day - delivered f .period .start in
     let from = a .from in let until = a .until in
-    let o : Outcome (delivered f) s r k (walkOf w i r d m y) = subst (Outcome (delivered f) s r k) (sym (walk-held w (delivered f) is holds i r d m y ∙ journey-is f i r d m y day s a)) (service-outcome (delivered f) s h r k (a .repeat) (omega arith)) in
+    let known : Interchanges (delivered f) = record { own = interchanges-own f c; some-record = clear-sound f c .interchanges } in
+    let o : Outcome (delivered f) s r k (walkOf w i r d m y) = subst (Outcome (delivered f) s r k) (sym (walk-held w (delivered f) is holds i r d m y ∙ journey-is f i r d m y day s a)) (service-outcome (delivered f) s h known r k (a .repeat) (omega arith)) in
     record {
       outcome = o;
       never-refused = not-refused o;
       idle-only = says-idle o;
       idle-always = is-idle o;
-      one-range = h .days;
-      fields-known = h .fields;
-      leg-days = leg-day (delivered f) s h k;
-      field-days = fields-run f c k;
-      own-stop = stops-own f c;
-      own-interchange = interchanges-at f c;
-      text = from-text f c i s (a .service);
+      own = record {
+        delivery = own-text f c;
+        service = from-text f c i s (a .service);
+        one-range = h .days;
+        fields-known = h .fields;
+        leg-days = leg-day (delivered f) s h k;
+      };
     }
 
 -- Demand 3: the walk of an accepted delivery's table.
@@ -142,21 +145,20 @@ pub demand3-copied : (f : Files) → offence f ≡ none → (rest : List ℕ)
     → Demand3 f i s r (day - delivered f .period .start) (walkOf (tableWords (delivered f) ++ rest) i r d m y)
 demand3-copied f e rest = walk-demand f (clear f e) (tableWords (delivered f) ++ rest) (words-table f e rest) (table-back f rest)
 
--- ---- with enough room
+-- ---- its answer and the rows, with any room
 
-roomy : (P : Walked → List ℕ → Type 0) (t : Bool) (a b : Walked) (x y : List ℕ) → t ≡ false → P b y → P (cond t a b) (cond t x y)
-roomy P false a b x y e h = h
-roomy P true a b x y e h = clash (sym e)
+by-room : (P : Walked → List ℕ → Type 0) (room needed : ℕ) {a b : Walked} {x y : List ℕ} → (room < needed → P a x) → (needed ≤ room → P b y) → P (cond (ltb room needed) a b) (cond (ltb room needed) x y)
+by-room P room needed {a} {b} {x} {y} f g = by-ltb (λ t. P (cond t a b) (cond t x y)) room needed f g
 
 module _ {d : Delivery} {s : Service} {r k : ℕ} where
-  walk-by : {j : Journey} → Outcome d s r k j → (lent : List ℕ) → rowSize * length (s .calls) ≤ length lent → Walk d s r k lent (walkedBy j (length lent)) (rowsBy j lent)
-  walk-by (not-running x) lent h = not-running x
-  walk-by (runs {ws} x) lent h =
-      let z = x .size in let i = x .inside in let l = x .some-leg in
+  walk-by : {j : Journey} → Outcome d s r k j → (lent : List ℕ) → Walk d s r k lent (walkedBy j (length lent)) (rowsBy j lent)
+  walk-by (not-running x) lent = not-running x
+  walk-by (runs {ws} x) lent =
+      let z = x .size in
       let n : x .legs + 1 ≡ length ws / rowSize = omega arith in
-      roomy (Walk d s r k lent) (ltb (length lent) (length ws)) (Refused 29 (length ws)) (Listed (length ws / rowSize)) lent (onto ws lent)
-      (le-ltb (length lent) (length ws) (omega arith))
-      (subst (λ (v : ℕ). Walk d s r k lent (Listed v) (onto ws lent)) n (runs x))
+      by-room (Walk d s r k lent) (length lent) (length ws)
+      (λ l. subst (λ (v : ℕ). Walk d s r k lent (Refused 29 v) lent) (sym z) (short x (omega arith)))
+      (λ l. subst (λ (v : ℕ). Walk d s r k lent (Listed v) (onto ws lent)) n (runs x (omega arith)))
 
   refusal-by : {j : Journey} → Outcome d s r k j → (room number needed : ℕ) → walkedBy j room ≡ Refused number needed → Short s j room number needed
   refusal-by (not-running x) room number needed e = apart (cc)
@@ -167,28 +169,35 @@ module _ {d : Delivery} {s : Service} {r k : ℕ} where
           let p : _≡_ {A = ℕ} 29 number = cc in
           let v : _≡_ {A = ℕ} (length ws) needed = cc in
           let w = ltb-true room (length ws) q in
-          let z = x .size in let i = x .inside in let l = x .some-leg in
+          let z = x .size in let i = x .unbroken .inside in let l = x .unbroken .some-leg in
           record { only = sym p; lacking = omega arith; enough = rw (le-ltb needed (length ws) (omega arith), v); most = omega arith }
       go false q e = apart (cc)
 
--- Demand 3, for the answer and the rows: seven words for each of the service's calls are room enough.
+-- Demand 3, for the answer and the rows, whatever room is lent.
 pub demand3-rows : (f : Files) (t : List ℕ) (u : ℕ) → loaded f (length t) ≡ Accepted u
     → (i r d m y day : ℕ) (s : Service) → Asked f i r d m y s day
-    → (lent : List ℕ) → rowSize * length (s .calls) ≤ length lent
+    → (lent : List ℕ)
     → Walk (delivered f) s r (day - delivered f .period .start) lent (walked (written f t) i r d m y (length lent)) (walkRows (written f t) i r d m y lent)
-demand3-rows f t u e i r d m y day s a lent h = walk-by (demand3 f t u e i r d m y day s a .outcome) lent h
+demand3-rows f t u e i r d m y day s a lent = walk-by (demand3 f t u e i r d m y day s a .outcome) lent
 
 -- Of code that keeps its promises: load answers a and leaves the words w, and walk of these answers b and leaves the rows v.
 pub demand3-promised : (f : Files) (t : List ℕ) {a : Loaded} {w : List ℕ} → a ≡ loaded f (length t) → w ≡ written f t → (u : ℕ) → a ≡ Accepted u
     → (i r d m y day : ℕ) (s : Service) → Asked f i r d m y s day
-    → (lent : List ℕ) → rowSize * length (s .calls) ≤ length lent
+    → (lent : List ℕ)
     → {b : Walked} {v : List ℕ} → b ≡ walked w i r d m y (length lent) → v ≡ walkRows w i r d m y lent
-    → Walk (delivered f) s r (day - delivered f .period .start) lent b v
-demand3-promised f t p q u e i r d m y day s a lent h x z =
-    rw (x, z, q) (demand3-rows f t u (sym p ∙ e) i r d m y day s a lent h)
+    → OwnRun f i s (day - delivered f .period .start) × Walk (delivered f) s r (day - delivered f .period .start) lent b v
+demand3-promised f t p q u e i r d m y day s a lent x z =
+    rw (x, z, q) (demand3 f t u (sym p ∙ e) i r d m y day s a .own, demand3-rows f t u (sym p ∙ e) i r d m y day s a lent)
 
--- With less room: the only refusal is 29, and it names words that are enough.
+-- The only refusal is 29, and it names words that are enough.
 pub only-29 : (f : Files) (t : List ℕ) (u : ℕ) → loaded f (length t) ≡ Accepted u
     → (i r d m y day : ℕ) (s : Service) → Asked f i r d m y s day
     → (room number needed : ℕ) → walked (written f t) i r d m y room ≡ Refused number needed → Short s (walkOf (written f t) i r d m y) room number needed
 only-29 f t u e i r d m y day s a room number needed w = refusal-by (demand3 f t u e i r d m y day s a .outcome) room number needed w
+
+-- With room for every call of the service it is not refused.
+pub room-enough : {d : Delivery} {s : Service} {r k : ℕ} {lent : List ℕ} {a : Walked} {v : List ℕ} → Walk d s r k lent a v → rowSize * length (s .calls) ≤ length lent
+    → (number needed : ℕ) → a ≡ Refused number needed → ⊥
+room-enough (not-running x) h number needed e = apart (cc)
+room-enough (short x l) h number needed e = let i = x .unbroken .inside in let n = x .unbroken .some-leg in omega arith
+room-enough (runs x l) h number needed e = apart (cc)

@@ -1,6 +1,7 @@
 pub mod Lists
 pub mod Back
 pub mod Ends
+pub mod Parts
 pub mod Sound
 pub mod Clear
 pub mod Period
@@ -8,10 +9,12 @@ pub mod Lines
 pub mod Right
 pub mod Accepted
 pub mod Once
+pub mod Text
 pub mod Stretch
 pub mod Times
 pub mod Resolved
 pub mod Rows
+pub mod Any
 pub mod Demand3
 pub mod Slack
 pub mod Numbers

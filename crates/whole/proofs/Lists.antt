@@ -61,10 +61,10 @@ module _ {X : Type 0} (ok : X → Type 0) where
   all-elem (y ∷ xs) zero x (cons p q) e = let z : y ≡ x = cc in subst ok z p
   all-elem (y ∷ xs) (suc i) x (cons p q) e = all-elem xs i x q e
 
-  pub all-gathered : {Y : Type 0} (g : Y → List X) → ((y : Y) → All ok (g y)) → (ys : List Y) → All ok (gathered g ys)
+  pub all-gathered : {Y : Type 0} {of : Y → Type 0} (g : Y → List X) → ((y : Y) → of y → All ok (g y)) → {ys : List Y} → All of ys → All ok (gathered g ys)
   unfolding gathered
-  all-gathered g h [] = nil
-  all-gathered g h (y ∷ ys) = all-append (h y) (all-gathered g h ys)
+  all-gathered g h nil = nil
+  all-gathered g h (cons {x = y} p q) = all-append (h y p) (all-gathered g h q)
 
 pub all-to : {X : Type 0} (P Q : X → Type 0) → ((x : X) → P x → Q x) → (xs : List X) → All P xs → All Q xs
 all-to P Q f [] h = nil

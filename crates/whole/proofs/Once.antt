@@ -4,21 +4,21 @@ use mathlib.Core.Path.{_≡_, refl, sym, ap, _∙_, subst}
 use mathlib.Core.List.{List, [], _∷_, _++_, append-nil}
 use mathlib.Core.Bool.{Bool, true, false, cond, _||_}
 use mathlib.Core.Option.{Option, none, some}
-use Prim.Native.Nat.{ℕ, _%_}
-use native.Mathlib.Omega.{arith}
+use Prim.Native.Nat.{ℕ}
 use lib.Dec.{eqb}
 use borrow.Author.Tests.{eq-eqb}
 use Rattle.base.specs.Lists.{All, nil, cons, some-of, find}
 use Rattle.base.proofs.Laws.{apart, clash}
-use Rattle.bitfield.specs.BitField.{framed, runsOn}
+use Rattle.bitfield.specs.BitField.{runsOn}
 use Rattle.lines.specs.Lines.{Line, linesOf}
 use Rattle.timetable.specs.Delivery.{Files, BitField, StopRecord, Interchange}
 use Rattle.timetable.specs.Offences.{first}
-use Rattle.timetable.specs.Files.{Held, skip, broken, held, listed, held-in, hasField, bitFieldOf, bitFieldOffence, bitFieldsFirst, hasStop, stopOf, stopOffence, stopsFirst, hasInterchange, interchangeOf, recordOffence, interchangeOffence, interchangesFirst}
-use Rattle.timetable.specs.Checks.{fieldRuns}
+use Rattle.timetable.specs.Files.{Held, skip, broken, held, listed, held-in, heldOffence, bitFieldOf, bitFieldOffence, bitFieldsFirst, stopOf, stopOffence, stopsFirst, hasInterchange, interchangeOf, interchangeOffence, interchangesFirst}
+use Rattle.timetable.specs.Legs.{fieldRuns}
 use Rattle.timetable.specs.Load.{delivered}
 use Rattle.timetable.specs.Questions.{interchangeBy, interchangeAtStop}
-use Rattle.timetable.proofs.Offences.{then-none}
+use Rattle.timetable.specs.declared.Offence.{Offence}
+use Rattle.timetable.proofs.Offences.{then-none, given-none}
 use Rattle.whole.proofs.Lists.{all-append, all-to}
 use Rattle.whole.proofs.Clear.{first-keeps, held-more, Clear}
 
@@ -45,7 +45,7 @@ module _ {X : Type 0} (p : X → Bool) where
       go false e more = more e
 
 -- what holds of all that a line without offence holds, holds of all that the lines hold
-all-held : {X : Type 0} (ok : X → Type 0) (hold : Line → Held X) (off : List Line → Line → ℕ) → ((before : List Line) (l : Line) → off before l ≡ 0 → All ok (listed (hold l)))
+all-held : {X : Type 0} (ok : X → Type 0) (hold : Line → Held X) (off : List Line → Line → Option Offence) → ((before : List Line) (l : Line) → off before l ≡ none → All ok (listed (hold l)))
     → (ls : List Line) → first off [] ls ≡ none → All ok (held-in hold ls)
 unfolding held-in
 all-held ok hold off one ls e =
@@ -74,10 +74,10 @@ module _ {X : Type 0} (number : X → ℕ) where
 
   own-listed : (xs : List X) (h : Held X) → All (Own xs) xs → All (λ (x : X). Unseen xs (number x)) (listed h) → All (Own (xs ++ listed h)) (xs ++ listed h)
   own-listed xs skip a u = rw append-nil a
-  own-listed xs broken a u = rw append-nil a
+  own-listed xs (broken c) a u = rw append-nil a
   own-listed xs (held x) a (cons e t) = own-more xs x a e
 
-  own-held : (hold : Line → Held X) (off : List Line → Line → ℕ) → ((before : List Line) (l : Line) → off before l ≡ 0 → All (λ (x : X). Unseen (held-in hold before) (number x)) (listed (hold l)))
+  own-held : (hold : Line → Held X) (off : List Line → Line → Option Offence) → ((before : List Line) (l : Line) → off before l ≡ none → All (λ (x : X). Unseen (held-in hold before) (number x)) (listed (hold l)))
       → (ls : List Line) → first off [] ls ≡ none → All (Own (held-in hold ls)) (held-in hold ls)
   unfolding held-in
   own-held hold off one ls e =
@@ -87,21 +87,16 @@ module _ {X : Type 0} (number : X → ℕ) where
 
 -- ---- 2 BITFELD
 
-not-7-6 : (s t u : Bool) → _≡_ {A = ℕ} (cond s 7 (cond t 6 (cond u 0 8))) 0 → (s ≡ false) × (t ≡ false)
-not-7-6 true t u e = absurd (omega arith)
-not-7-6 false true u e = absurd (omega arith)
-not-7-6 false false u e = (refl, refl)
+module _ (n line : ℕ) (earlier : List BitField) where
+  field-unseen : (h : Held BitField) → heldOffence (bitFieldOffence n earlier line) line h ≡ none → All (λ (b : BitField). Unseen (λ (y : BitField). y .number) earlier (b .number)) (listed h)
+  field-unseen skip e = nil
+  field-unseen (broken c) e = nil
+  field-unseen (held f) e = cons {x = f} (given-none _ 6 line (then-none _ _ (then-none _ _ e .1) .0)) nil
 
-module _ (n : ℕ) where
-  field-unseen : (earlier : List BitField) (h : Held BitField) → bitFieldOffence n earlier h ≡ 0 → All (λ (b : BitField). Unseen (λ (y : BitField). y .number) earlier (b .number)) (listed h)
-  field-unseen earlier skip e = nil
-  field-unseen earlier broken e = nil
-  field-unseen earlier (held f) e = cons {x = f} (not-7-6 (eqb (f .number) 0) (hasField (f .number) earlier) (framed n (f .words)) e .1) nil
-
-  field-not-0 : (earlier : List BitField) (h : Held BitField) → bitFieldOffence n earlier h ≡ 0 → All (λ (b : BitField). eqb (b .number) 0 ≡ false) (listed h)
-  field-not-0 earlier skip e = nil
-  field-not-0 earlier broken e = nil
-  field-not-0 earlier (held f) e = cons {x = f} (not-7-6 (eqb (f .number) 0) (hasField (f .number) earlier) (framed n (f .words)) e .0) nil
+  field-not-0 : (h : Held BitField) → heldOffence (bitFieldOffence n earlier line) line h ≡ none → All (λ (b : BitField). eqb (b .number) 0 ≡ false) (listed h)
+  field-not-0 skip e = nil
+  field-not-0 (broken c) e = nil
+  field-not-0 (held f) e = cons {x = f} (given-none _ 7 line (then-none _ _ e .0)) nil
 
 field-runs : (all : List BitField) (k : ℕ) {xs : List BitField} → All (Own (λ (y : BitField). y .number) all) xs → All (λ (b : BitField). eqb (b .number) 0 ≡ false) xs
     → All (λ (b : BitField). fieldRuns all (b .number) k ≡ runsOn (b .words) k) xs
@@ -114,45 +109,36 @@ pub fields-run : (f : Files) → Clear f → (k : ℕ) → All (λ (b : BitField
 unfolding delivered bitFieldsFirst
 fields-run f h k =
     field-runs (delivered f .fields) k
-    (own-held (λ (y : BitField). y .number) bitFieldOf _ (λ before l o. field-unseen _ (held-in bitFieldOf before) (bitFieldOf l) o) (linesOf (f .bitfeld)) (h .fields))
-    (all-held _ bitFieldOf _ (λ before l o. field-not-0 _ (held-in bitFieldOf before) (bitFieldOf l) o) (linesOf (f .bitfeld)) (h .fields))
+    (own-held (λ (y : BitField). y .number) bitFieldOf _ (λ before l o. field-unseen _ (l .no) (held-in bitFieldOf before) (bitFieldOf l) o) (linesOf (f .bitfeld)) (h .fields))
+    (all-held _ bitFieldOf _ (λ before l o. field-not-0 _ (l .no) (held-in bitFieldOf before) (bitFieldOf l) o) (linesOf (f .bitfeld)) (h .fields))
 
 -- ---- 3 BAHNHOF
 
-not-6 : (s t : Bool) → _≡_ {A = ℕ} (cond s 7 (cond t 6 0)) 0 → t ≡ false
-not-6 true t e = absurd (omega arith)
-not-6 false true e = absurd (omega arith)
-not-6 false false e = refl
-
-stop-unseen : (earlier : List StopRecord) (h : Held StopRecord) → stopOffence earlier h ≡ 0 → All (λ (s : StopRecord). Unseen (λ (y : StopRecord). y .number) earlier (s .number)) (listed h)
-stop-unseen earlier skip e = nil
-stop-unseen earlier broken e = nil
-stop-unseen earlier (held s) e = cons {x = s} (not-6 (eqb (s .number) 9999999 || eqb (s .number % 100000) 0) (hasStop (s .number) earlier) e) nil
+stop-unseen : (line : ℕ) (earlier : List StopRecord) (h : Held StopRecord) → heldOffence (stopOffence earlier line) line h ≡ none → All (λ (s : StopRecord). Unseen (λ (y : StopRecord). y .number) earlier (s .number)) (listed h)
+stop-unseen line earlier skip e = nil
+stop-unseen line earlier (broken c) e = nil
+stop-unseen line earlier (held s) e = cons {x = s} (given-none _ 6 line (then-none _ _ e .1)) nil
 
 pub stops-own : (f : Files) → Clear f → All (Own (λ (y : StopRecord). y .number) (delivered f .stops)) (delivered f .stops)
 unfolding delivered stopsFirst
-stops-own f h = own-held (λ (y : StopRecord). y .number) stopOf _ (λ before l o. stop-unseen (held-in stopOf before) (stopOf l) o) (linesOf (f .bahnhof)) (h .stops)
+stops-own f h = own-held (λ (y : StopRecord). y .number) stopOf _ (λ before l o. stop-unseen (l .no) (held-in stopOf before) (stopOf l) o) (linesOf (f .bahnhof)) (h .stops)
 
 -- ---- 4 UMSTEIGB
 
-not-6-9 : (s t : Bool) → _≡_ {A = ℕ} (cond s 6 (cond t 0 9)) 0 → s ≡ false
-not-6-9 true t e = absurd (omega arith)
-not-6-9 false t e = refl
-
-module _ (stops : List StopRecord) where
-  record-unseen : (earlier : List Interchange) (c : Interchange) → recordOffence stops earlier c ≡ 0 → Unseen (λ (y : Interchange). y .number) earlier (c .number)
+module _ (stops : List StopRecord) (line : ℕ) where
+  record-unseen : (earlier : List Interchange) (c : Interchange) → interchangeOffence stops earlier line c ≡ none → Unseen (λ (y : Interchange). y .number) earlier (c .number)
   unfolding some-of
   record-unseen [] c e = refl
-  record-unseen (x ∷ earlier) c e = not-6-9 (hasInterchange (c .number) (x ∷ earlier)) (hasStop (c .number) stops) e
+  record-unseen (x ∷ earlier) c e = given-none (hasInterchange (c .number) (x ∷ earlier)) 6 line (then-none _ _ e .0)
 
-  interchange-unseen : (earlier : List Interchange) (h : Held Interchange) → interchangeOffence stops earlier h ≡ 0 → All (λ (c : Interchange). Unseen (λ (y : Interchange). y .number) earlier (c .number)) (listed h)
+  interchange-unseen : (earlier : List Interchange) (h : Held Interchange) → heldOffence (interchangeOffence stops earlier line) line h ≡ none → All (λ (c : Interchange). Unseen (λ (y : Interchange). y .number) earlier (c .number)) (listed h)
   interchange-unseen earlier skip e = nil
-  interchange-unseen earlier broken e = nil
+  interchange-unseen earlier (broken c) e = nil
   interchange-unseen earlier (held c) e = cons {x = c} (record-unseen earlier c e) nil
 
-interchanges-own : (f : Files) → Clear f → All (Own (λ (y : Interchange). y .number) (delivered f .interchanges)) (delivered f .interchanges)
+pub interchanges-own : (f : Files) → Clear f → All (Own (λ (y : Interchange). y .number) (delivered f .interchanges)) (delivered f .interchanges)
 unfolding delivered interchangesFirst
-interchanges-own f h = own-held (λ (y : Interchange). y .number) interchangeOf _ (λ before l o. interchange-unseen _ (held-in interchangeOf before) (interchangeOf l) o) (linesOf (f .umsteigb)) (then-none _ _ (h .interchanges) .0)
+interchanges-own f h = own-held (λ (y : Interchange). y .number) interchangeOf _ (λ before l o. interchange-unseen _ (l .no) (held-in interchangeOf before) (interchangeOf l) o) (linesOf (f .umsteigb)) (then-none _ _ (h .interchanges) .0)
 
 -- the record at a stop that has one is that very line's
 pub interchanges-at : (f : Files) → Clear f → All (λ (x : Interchange). interchangeAtStop (delivered f) (x .number) ≡ x) (delivered f .interchanges)

@@ -15,7 +15,8 @@ use Rattle.timetable.specs.Delivery.{CategoryRange, DayRange, Service, Delivery
 use Rattle.timetable.specs.Offences.{_<|>_}
 use Rattle.timetable.specs.Files.{hasStop}
 use Rattle.timetable.specs.Ranges.{hasArrival, hasDeparture}
-use Rattle.timetable.specs.Checks.{fieldKnown, timesStated, timesRise, lastStated, covers, covering, legCount}
+use Rattle.timetable.specs.Legs.{fieldKnown, covers, covering, legCount}
+use Rattle.timetable.specs.Checks.{timesStated, timesRise, lastStated}
 use Rattle.timetable.specs.Questions.{refuse, legRefusal, firstRefusal, timesNeeded, neededLast, callRefusal, callsRefusal}
 use Rattle.timetable.specs.declared.Call.{Call}
 use Rattle.whole.proofs.Lists.{or-second, all-head, all-tail, all-to, all-drop, every-all}

@@ -1,28 +1,33 @@
 -- A service of a delivery without an offence: what 9, 10 and 13 to 19 leave true of it, in the words of the paper, and that it is its lines' own.
 -- Assumes nothing.
-use mathlib.Core.Path.{_≡_, refl, ap, _∙_, subst}
-use mathlib.Core.List.{List, [], _∷_, _++_, map, map-append}
-use mathlib.Core.Bool.{Bool, true, false, cond, _&&_}
+use mathlib.Core.Path.{_≡_, refl, subst}
+use mathlib.Core.List.{List, [], _∷_, map}
+use mathlib.Core.Bool.{true, false}
 use mathlib.Core.Option.{none, some}
 use Prim.Native.Nat.{ℕ, zero, suc, _+_, _<_, _≤_}
 use native.Mathlib.Omega.{arith}
 use lib.ListN.{length, getElem?}
 use lib.Dec.{leb, eqb}
-use borrow.Author.Tests.{ltb-false, eqb-true}
-use Rattle.base.specs.Lists.{All, nil, cons, gathered}
+use borrow.Author.Tests.{ltb-false, eqb-true, not-false}
+use Rattle.base.specs.Lists.{All, nil, cons}
 use Rattle.base.proofs.Laws.{apart}
 use Rattle.base.proofs.Loops.{and-true}
 use Rattle.lines.specs.Lines.{Line, linesOf}
+use Rattle.timetable.specs.Layout.{mostCalls, mostCategories, mostDays, mostExtras}
 use Rattle.timetable.specs.Delivery.{Files, Legs, CategoryRange, DayRange, Service, Delivery}
-use Rattle.timetable.specs.Plan.{toldIn, tolds, asCall, callsOf}
+use Rattle.timetable.specs.Plan.{asCall, callsOf, saidOn}
 use Rattle.timetable.specs.Service.{blocks, serviceOf}
-use Rattle.timetable.specs.Checks.{timesStated, timesRise, lastStated, callLines, timesFirst, covering, eachOnce, stretches, legCount, operatedLegs}
+use Rattle.timetable.specs.Checks.{timesStated, timesRise, lastStated, timesFirst, eachOnce}
+use Rattle.timetable.specs.Legs.{covering, stretches, legCount, operatedLegs}
 use Rattle.timetable.specs.Load.{delivered}
-use Rattle.timetable.specs.Table.{serviceSound}
+use Rattle.timetable.specs.Table.{callSound, serviceSound}
 use Rattle.timetable.specs.declared.Call.{Call}
-use Rattle.whole.specs.Promise.{FromText}
+use Rattle.timetable.specs.declared.Part.the-variants.{Category, Days, Extra}
+use Rattle.timetable.proofs.Lines.{said-on}
+use Rattle.timetable.proofs.Offences.{then-none, given-none}
+use Rattle.whole.specs.Text.{FromText}
 use Rattle.whole.proofs.Lists.{every-below, none-below}
-use Rattle.whole.proofs.Sound.{service-sound}
+use Rattle.whole.proofs.Sound.{calls-sound, service-sound}
 use Rattle.whole.proofs.Clear.{Fair, Clear}
 use Rattle.whole.proofs.Lines.{limits, StopKnown, FieldKnown, lines-read, stops-known, fields-known, nothing-dropped}
 
@@ -32,42 +37,24 @@ unfoldable pub Timely : ℕ → ℕ → ℕ → List Call → Type 0
 Timely n i before [] = Unit {0}
 Timely n i before (c ∷ cs) = (timesStated n i c ≡ true) × (timesRise before c ≡ true) × Timely n (i + 1) (lastStated before c) cs
 
-abbrev callOf : ℕ × Call → Call
-callOf c = c .1
-
-timely : (n i before : ℕ) (cs : List (ℕ × Call)) → timesFirst n i before cs ≡ none → Timely n i before (map callOf cs)
+timely : (n i before : ℕ) (cs : List (ℕ × Call)) → timesFirst n i before cs ≡ none → Timely n i before (map (λ (c : ℕ × Call). c .1) cs)
 unfolding timesFirst Timely
 timely n i before [] e = tt
-timely n i before (c ∷ cs) e = go (timesStated n i (c .1) && timesRise before (c .1)) refl e (timely n (i + 1) (lastStated before (c .1)) cs)
-  where
-    go : (t : Bool) → timesStated n i (c .1) && timesRise before (c .1) ≡ t → cond t (timesFirst n (i + 1) (lastStated before (c .1)) cs) (some (15, c .0)) ≡ none
-        → (timesFirst n (i + 1) (lastStated before (c .1)) cs ≡ none → Timely n (i + 1) (lastStated before (c .1)) (map callOf cs))
-        → Timely n i before (map callOf (c ∷ cs))
-    go true q e more = let a = and-true (timesStated n i (c .1)) (timesRise before (c .1)) q in (a .0, a .1, more e)
-    go false q e more = apart (cc)
-
-with-line : (n : ℕ) (cs : List Call) → map callOf (map (λ (c : Call). (n, c)) cs) ≡ cs
-with-line n [] = refl
-with-line n (c ∷ cs) = ap (λ (r : List Call). c ∷ r) (with-line n cs)
-
--- the calls with their lines' numbers are the calls
-call-lines : (ls : List Line) → map callOf (callLines ls) ≡ callsOf ls
-unfolding callLines gathered tolds
-call-lines [] = refl
-call-lines (l ∷ ls) =
-    map-append callOf (map (λ (c : Call). (l .no, c)) (asCall (toldIn (l .text)))) (callLines ls)
-    ∙ (ap (λ (r : List Call). r ++ map callOf (callLines ls)) (with-line (l .no) (asCall (toldIn (l .text))))
-    ∙ ap (λ (r : List Call). asCall (toldIn (l .text)) ++ r) (call-lines ls))
+timely n i before (c ∷ cs) e =
+    let o = then-none _ _ e in
+    let a = and-true (timesStated n i (c .1)) (timesRise before (c .1)) (not-false _ (given-none _ 15 (c .0) (o .0))) in
+    (a .0, a .1, timely n (i + 1) (lastStated before (c .1)) cs (o .1))
 
 -- ---- a service without an offence
 
 pub record Right (d : Delivery) (s : Service) : Type 0 where
   pub sound : serviceSound s ≡ true
+  pub calls : All (λ (c : Call). callSound c ≡ true) (s .calls)
   pub two : 2 ≤ length (s .calls)
-  pub most-calls : length (s .calls) ≤ 200
-  pub most-categories : length (s .categories) ≤ 50
-  pub most-days : length (s .days) ≤ 50
-  pub most-extras : length (s .extras) ≤ 100
+  pub most-calls : length (s .calls) ≤ mostCalls
+  pub most-categories : length (s .categories) ≤ mostCategories
+  pub most-days : length (s .days) ≤ mostDays
+  pub most-extras : length (s .extras) ≤ mostExtras
   pub stops : All (StopKnown d) (s .calls)
   pub fields : All (λ (r : DayRange). FieldKnown d (r .field)) (s .days)
   pub times : Timely (length (s .calls)) 0 0 (s .calls)
@@ -85,14 +72,15 @@ right d ls h =
     let n = nothing-dropped d ls h in
     record {
       sound = service-sound ls;
+      calls = calls-sound ls;
       two = ltb-false (length (callsOf ls)) 2 (h .two);
       most-calls = m .calls;
-      most-categories = omega (arith, n .categories, m .categories);
-      most-days = omega (arith, n .days, m .days);
-      most-extras = omega (arith, n .extras, m .extras);
+      most-categories = omega (arith, n .categories, m .ranges Category);
+      most-days = omega (arith, n .days, m .ranges Days);
+      most-extras = omega (arith, n .extras, m .ranges Extra);
       stops = stops-known d ls h;
       fields = fields-known d ls h;
-      times = rw (call-lines ls) at (timely (length (callsOf ls)) 0 0 (callLines ls) (h .times));
+      times = subst (Timely (length (callsOf ls)) 0 0) (said-on asCall ls) (timely (length (callsOf ls)) 0 0 (saidOn asCall ls) (h .times));
       categories = λ k l. once-at (λ (r : CategoryRange). r .legs) (legCount (serviceOf ls)) (serviceOf ls .categories) k (h .categories) l;
       days = λ k l. once-at (λ (r : DayRange). r .legs) (legCount (serviceOf ls)) (serviceOf ls .days) k (h .days) l;
       whole = λ k l. none-below (λ (k : ℕ). leb 2 (stretches false (operatedLegs (d .fields) (serviceOf ls) k))) (d .period .days) k (h .whole) l;

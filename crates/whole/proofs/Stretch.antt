@@ -6,7 +6,7 @@ use Prim.Native.Nat.{ℕ, zero, suc, _+_, _<_, _≤_}
 use native.Mathlib.Omega.{arith}
 use lib.ListN.{length, getD, drop}
 use Rattle.base.specs.Lists.{upto, below}
-use Rattle.timetable.specs.Checks.{stretches}
+use Rattle.timetable.specs.Legs.{stretches}
 use Rattle.timetable.specs.Questions.{idleLegs, leadingLegs}
 
 pub still : (bs : List Bool) → stretches false bs ≡ 0 → (j : ℕ) → getD bs j false ≡ false

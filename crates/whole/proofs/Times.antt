@@ -14,7 +14,7 @@ use Rattle.base.proofs.Loops.{and-true}
 use Rattle.timetable.specs.Ranges.{hasArrival, hasDeparture}
 use Rattle.timetable.specs.Checks.{timesStated, timesRise, lastStated}
 use Rattle.timetable.specs.declared.Call.{Call}
-use Rattle.whole.specs.Promise.{noCall}
+use Rattle.whole.specs.Rows.{noCall}
 use Rattle.whole.proofs.Lists.{or-other}
 use Rattle.whole.proofs.Right.{Timely}
 

@@ -3,7 +3,7 @@ use Prim.Native.Nat.{_+_, _*_, _≤_}
 use native.Mathlib.Omega.{arith}
 use lib.ListN.{length, drop}
 use Rattle.base.specs.Lists.{countIf}
-use Rattle.timetable.specs.Checks.{covers}
+use Rattle.timetable.specs.Legs.{covers}
 use Rattle.cover.specs.Cover.{rangesIn}
 use Rattle.cover.proofs.Ranges.{ranges}
 use Rattle.cover.proofs.covering.Statement.{statement}

@@ -1,48 +1,24 @@
-use Rattle.load.proofs.Files.{lengths}
+use Rattle.base.proofs.Laws.{tests}
 use Rattle.load.proofs.too_long.Statement.{statement}
 use Rattle.load.proofs.too_long.Tie as tie
 
-long-at-requires : tie.Need-long-at-requires
-long-at-requires c κs = search lengths
-
-long-at-requires-2 : tie.Need-long-at-requires-2
-long-at-requires-2 c κs = search lengths
-
-long-at-requires-3 : tie.Need-long-at-requires-3
-long-at-requires-3 c κs = search lengths
-
-long-at-requires-4 : tie.Need-long-at-requires-4
-long-at-requires-4 c κs = search lengths
-
-long-at-requires-5 : tie.Need-long-at-requires-5
-long-at-requires-5 c κs = search lengths
-
-earlier-requires : tie.Need-earlier-requires
-earlier-requires c κs = search lengths
-
-earlier-requires-2 : tie.Need-earlier-requires-2
-earlier-requires-2 c κs = search lengths
-
-earlier-requires-3 : tie.Need-earlier-requires-3
-earlier-requires-3 c κs = search lengths
-
-earlier-requires-4 : tie.Need-earlier-requires-4
-earlier-requires-4 c κs = search lengths
-
 returns : tie.Need-returns
-returns c = search lengths
+returns c = search tests
+
+returns-2 : tie.Need-returns-2
+returns-2 c = search tests
+
+returns-3 : tie.Need-returns-3
+returns-3 c = search tests
+
+returns-4 : tie.Need-returns-4
+returns-4 c = search tests
+
+returns-5 : tie.Need-returns-5
+returns-5 c = search tests
+
+returns-6 : tie.Need-returns-6
+returns-6 c = search tests
 
 pub too-long-spec : {M : Type 1} → statement M
-too-long-spec =
-    tie.close
-    (tie.spec
-    long-at-requires
-    long-at-requires-2
-    long-at-requires-3
-    long-at-requires-4
-    long-at-requires-5
-    earlier-requires
-    earlier-requires-2
-    earlier-requires-3
-    earlier-requires-4
-    returns)
+too-long-spec = tie.close (tie.spec returns returns-2 returns-3 returns-4 returns-5 returns-6)

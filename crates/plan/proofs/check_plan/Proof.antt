@@ -1,4 +1,4 @@
-use Rattle.plan.proofs.Laws.{planning}
+use Rattle.plan.proofs.Checking.{planning}
 use Rattle.plan.proofs.check_plan.Statement.{statement}
 use Rattle.plan.proofs.check_plan.Tie as tie
 
@@ -10,6 +10,12 @@ enum-known-head c = search planning
 
 enum-known-head-2 : tie.Need-enum-known-head-2
 enum-known-head-2 c = search planning
+
+slice-aggregate-check-services : tie.Need-slice-aggregate-check-services
+slice-aggregate-check-services c = search planning
+
+slice-aggregate-check-services-2 : tie.Need-slice-aggregate-check-services-2
+slice-aggregate-check-services-2 c = search planning
 
 check-services-requires : tie.Need-check-services-requires
 check-services-requires c κs = search planning
@@ -27,6 +33,8 @@ check-plan-spec =
     head-end-requires
     enum-known-head
     enum-known-head-2
+    slice-aggregate-check-services
+    slice-aggregate-check-services-2
     check-services-requires
     returns
     returns-2)

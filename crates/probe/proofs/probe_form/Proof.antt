@@ -2,8 +2,11 @@ use Rattle.base.proofs.Laws.{tests}
 use Rattle.probe.proofs.probe_form.Statement.{statement}
 use Rattle.probe.proofs.probe_form.Tie as tie
 
-form-of-kind-requires : tie.Need-form-of-kind-requires
-form-of-kind-requires c κs = search tests
+kind-by-requires : tie.Need-kind-by-requires
+kind-by-requires c κs = search tests
+
+line-form-requires : tie.Need-line-form-requires
+line-form-requires c κs = search tests
 
 flat-form-requires : tie.Need-flat-form-requires
 flat-form-requires c κs = search tests
@@ -12,4 +15,5 @@ returns : tie.Need-returns
 returns c = cc
 
 pub probe-form-spec : {M : Type 1} → statement M
-probe-form-spec = tie.close (tie.spec form-of-kind-requires flat-form-requires returns)
+probe-form-spec =
+    tie.close (tie.spec kind-by-requires line-form-requires flat-form-requires returns)

@@ -2,13 +2,14 @@
 use mathlib.Core.Path.{_≡_}
 use Prim.Native.Nat.{_*_, _-_}
 use Rattle.timetable.specs.Ranges.{places}
-use Rattle.route.specs.Route.{callsIn, meets}
+use Rattle.draft.specs.Draft.{draftCall, callsIn}
+use Rattle.route.specs.Route.{meets}
 use Rattle.route.proofs.Laws.{placesFrom, firsts}
 use Rattle.route.proofs.first_place.Statement.{statement}
 use Rattle.route.proofs.first_place.Tie as tie
 
 abbrev Inv-loop : tie.InvT-loop
-Inv-loop w c s i₀ at₀ i at = (at ≡ i .0 * 4) × (placesFrom (meets s) w c (i .0) at ≡ places (meets s) 0 (callsIn c w))
+Inv-loop w c s i₀ at₀ i at = (at ≡ draftCall * i .0) × (placesFrom (meets s) w c (i .0) at ≡ places (meets s) 0 (callsIn c w))
 
 abbrev μ-loop : tie.MeasureT-loop
 μ-loop w c s i₀ at₀ i at = c - i .0

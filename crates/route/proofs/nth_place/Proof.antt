@@ -3,13 +3,13 @@ use mathlib.Core.Path.{_≡_}
 use Prim.Native.Nat.{_*_, _-_}
 use lib.ListN.{getElem?}
 use Rattle.timetable.specs.Ranges.{places, callsAt}
-use Rattle.route.specs.Route.{callsIn}
+use Rattle.draft.specs.Draft.{draftCall, callsIn}
 use Rattle.route.proofs.Laws.{placesFrom, nths}
 use Rattle.route.proofs.nth_place.Statement.{statement}
 use Rattle.route.proofs.nth_place.Tie as tie
 
 abbrev Inv-loop : tie.InvT-loop
-Inv-loop w c n before₀ index₀ at₀ before index at = (at ≡ index .0 * 4) × (getElem? (placesFrom (callsAt n) w c (index .0) at) (before .0) ≡ getElem? (places (callsAt n) 0 (callsIn c w)) (before₀ .0))
+Inv-loop w c n before₀ index₀ at₀ before index at = (at ≡ draftCall * index .0) × (getElem? (placesFrom (callsAt n) w c (index .0) at) (before .0) ≡ getElem? (places (callsAt n) 0 (callsIn c w)) (before₀ .0))
 
 abbrev μ-loop : tie.MeasureT-loop
 μ-loop w c n before₀ index₀ at₀ before index at = c - index .0
@@ -17,11 +17,8 @@ abbrev μ-loop : tie.MeasureT-loop
 loop-holds : tie.Need-loop-holds Inv-loop μ-loop
 loop-holds c = search nths
 
-mul-t10 : tie.Need-mul-t10 Inv-loop μ-loop
-mul-t10 c = search nths
-
-shared-slice-read-t12 : tie.Need-shared-slice-read-t12 Inv-loop μ-loop
-shared-slice-read-t12 c = search nths
+call-at-requires : tie.Need-call-at-requires Inv-loop μ-loop
+call-at-requires c κs = search nths
 
 appearances-requires : tie.Need-appearances-requires Inv-loop μ-loop
 appearances-requires c κs = search nths
@@ -51,8 +48,7 @@ nth-place-spec =
     Inv-loop
     μ-loop
     loop-holds
-    mul-t10
-    shared-slice-read-t12
+    call-at-requires
     appearances-requires
     returns
     add-at

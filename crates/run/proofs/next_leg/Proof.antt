@@ -3,7 +3,7 @@ use mathlib.Core.Bool.{Bool, true, false, cond, not, Bool·beq}
 use mathlib.Core.List.{map}
 use Prim.Native.Nat.{ℕ, _+_, _-_, _<_}
 use Rattle.base.specs.Lists.{upto}
-use Rattle.timetable.specs.Checks.{operated}
+use Rattle.timetable.specs.Legs.{operated}
 use Rattle.timetable.specs.Table.{serviceAt, tableOf}
 use Rattle.run.specs.Run.{gap}
 use Rattle.run.proofs.Legs.{gap-again, gap-out, legs}

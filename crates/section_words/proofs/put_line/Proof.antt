@@ -8,14 +8,14 @@ number-on-requires c κs = search line-puts
 enum-told : tie.Need-enum-told
 enum-told c = search line-puts
 
-enum-told-2 : tie.Need-enum-told-2
-enum-told-2 c = search line-puts
-
 enum-known-n : tie.Need-enum-known-n
 enum-known-n c = search line-puts
 
-enum-told-3 : tie.Need-enum-told-3
-enum-told-3 c = search line-puts
+enum-known-n-2 : tie.Need-enum-known-n-2
+enum-known-n-2 c = search line-puts
+
+enum-told-2 : tie.Need-enum-told-2
+enum-told-2 c = search line-puts
 
 bits-in-requires : tie.Need-bits-in-requires
 bits-in-requires c κs = search line-puts
@@ -23,14 +23,14 @@ bits-in-requires c κs = search line-puts
 put-bit-field-requires : tie.Need-put-bit-field-requires
 put-bit-field-requires c κs = search line-puts
 
-enum-told-4 : tie.Need-enum-told-4
-enum-told-4 c = search line-puts
+enum-told-3 : tie.Need-enum-told-3
+enum-told-3 c = search line-puts
 
 put-stop-requires : tie.Need-put-stop-requires
 put-stop-requires c κs = search line-puts
 
-enum-told-5 : tie.Need-enum-told-5
-enum-told-5 c = search line-puts
+enum-told-4 : tie.Need-enum-told-4
+enum-told-4 c = search line-puts
 
 put-interchange-requires : tie.Need-put-interchange-requires
 put-interchange-requires c κs = search line-puts
@@ -65,14 +65,14 @@ put-line-spec =
     (tie.spec
     number-on-requires
     enum-told
-    enum-told-2
     enum-known-n
-    enum-told-3
+    enum-known-n-2
+    enum-told-2
     bits-in-requires
     put-bit-field-requires
-    enum-told-4
+    enum-told-3
     put-stop-requires
-    enum-told-5
+    enum-told-4
     put-interchange-requires
     returns
     returns-2

@@ -20,8 +20,8 @@ enum-known-n c = search asked
 enum-told : tie.Need-enum-told
 enum-told c = search asked
 
-enum-told-2 : tie.Need-enum-told-2
-enum-told-2 c = search asked
+enum-known-n-2 : tie.Need-enum-known-n-2
+enum-known-n-2 c = search asked
 
 returns-2 : tie.Need-returns-2
 returns-2 c = search asked
@@ -42,7 +42,7 @@ holds-number-spec =
     number-on-requires
     enum-known-n
     enum-told
-    enum-told-2
+    enum-known-n-2
     returns-2
     returns-3
     returns-4)

@@ -8,8 +8,11 @@ skips-requires c κs = search numbering
 returns : tie.Need-returns
 returns c = search numbering
 
-section-form-requires : tie.Need-section-form-requires
-section-form-requires c κs = search numbering
+line-kind-requires : tie.Need-line-kind-requires
+line-kind-requires c κs = search numbering
+
+line-form-requires : tie.Need-line-form-requires
+line-form-requires c κs = search numbering
 
 enum-told : tie.Need-enum-told
 enum-told c = search numbering
@@ -35,7 +38,8 @@ number-on-spec =
     (tie.spec
     skips-requires
     returns
-    section-form-requires
+    line-kind-requires
+    line-form-requires
     enum-told
     number-end-requires
     number-in-requires

@@ -1,32 +1,48 @@
-use Rattle.service.proofs.Order.{served}
+use Rattle.service.proofs.Drafts.{serving}
 use Rattle.service.proofs.check_service.Statement.{statement}
 use Rattle.service.proofs.check_service.Tie as tie
 
-own-checks-requires : tie.Need-own-checks-requires
-own-checks-requires c κs = search served
+read-checked-requires : tie.Need-read-checked-requires
+read-checked-requires c κs = search serving
 
-enum-known-own : tie.Need-enum-known-own
-enum-known-own c = search served
+enum-known-read : tie.Need-enum-known-read
+enum-known-read c = search serving
 
-enum-known-own-2 : tie.Need-enum-known-own-2
-enum-known-own-2 c = search served
+enum-known-read-2 : tie.Need-enum-known-read-2
+enum-known-read-2 c = search serving
 
-route-checks-requires : tie.Need-route-checks-requires
-route-checks-requires c κs = search served
+draft-checks-requires : tie.Need-draft-checks-requires
+draft-checks-requires c κs = search serving
+
+same-length : tie.Need-same-length
+same-length c = search serving
+
+same-length-2 : tie.Need-same-length-2
+same-length-2 c = search serving
 
 returns : tie.Need-returns
-returns c = search served
+returns c = search serving
+
+same-length-3 : tie.Need-same-length-3
+same-length-3 c = search serving
+
+same-length-4 : tie.Need-same-length-4
+same-length-4 c = search serving
 
 returns-2 : tie.Need-returns-2
-returns-2 c = search served
+returns-2 c = search serving
 
 pub check-service-spec : {M : Type 1} → statement M
 check-service-spec =
     tie.close
     (tie.spec
-    own-checks-requires
-    enum-known-own
-    enum-known-own-2
-    route-checks-requires
+    read-checked-requires
+    enum-known-read
+    enum-known-read-2
+    draft-checks-requires
+    same-length
+    same-length-2
     returns
+    same-length-3
+    same-length-4
     returns-2)

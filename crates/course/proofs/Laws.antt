@@ -1,0 +1,140 @@
+-- The course along a stretch, on a day, of a service and of an index, for `search course`. Assumes nothing.
+use mathlib.Core.Path.{_≡_, refl, sym, ap, _∙_}
+use mathlib.Core.List.{List, map}
+use mathlib.Core.Bool.{Bool, true, false}
+use Prim.Native.Nat.{ℕ, _+_, _-_, _*_, _^_, _≤_, _<_}
+use native.Mathlib.Omega.{arith}
+use lib.ListN.{length, getD, take, drop}
+use lib.Seq.{drop-drop}
+use borrow.Author.Tests.{ne-eqb, le-leb, le-ltb, lt-ltb}
+use Rattle.base.specs.Lists.{upto, below}
+use Rattle.base.proofs.Laws.{tests}
+use Rattle.timetable.specs.Layout.{mostPeriodDays, serviceHead, callSize}
+use Rattle.timetable.specs.Delivery.{Delivery}
+use Rattle.timetable.specs.Legs.{operated, stretches, legCount, operatedLegs}
+use Rattle.timetable.specs.Table.{calls#, rowsIn, callAt, serviceAt, tableOf, recordSound}
+use Rattle.timetable.specs.Questions.{legRefusal, firstRefusal, callsRefusal}
+use Rattle.timetable.proofs.Rows.{length-rows, rows-take, rows-drop}
+use Rattle.table.specs.Whole.{Whole}
+use Rattle.table.proofs.Says.{record-says}
+use Rattle.table.proofs.Whole.{whole-says}
+use Rattle.look.specs.Look.{servicePlace}
+use Rattle.look.proofs.Services.{service-none, service-is, service-sound}
+use Rattle.run.specs.Run.{noted, gap}
+use Rattle.rows.specs.Rows.{callsFrom}
+use Rattle.course.specs.Course.{courseBy, stretchCourse, dayCourse, serviceCourse, courseOf}
+use Rattle.course.specs.declared.Course.{Course}
+use Rattle.course.specs.declared.Course.the-variants.{Along, NotRunning, Refused}
+use Rattle.course.proofs.Stretch.{start-is, none-on, legs-are, end-after, end-within, two-run, one-runs}
+
+-- ---- along a stretch; `number` is what its calls are refused for
+
+pub stretch-calls : (s : List ℕ) (a n : ℕ) → a + n < getD s 6 0 → take (n + 1) (drop a (serviceAt s .calls)) ≡ callsFrom s a (n + 1)
+unfolding serviceAt callsFrom
+stretch-calls s a n b =
+    ap (take (n + 1)) (rows-drop callAt callSize (getD s 6 0) a (drop serviceHead s))
+    ∙ rows-take callAt callSize (n + 1) (getD s 6 0 - a) (drop (callSize * a) (drop serviceHead s)) (omega arith)
+    ∙ ap (rowsIn callAt callSize (n + 1)) (drop-drop (callSize * a) serviceHead s)
+
+module _ (d : Delivery) (s : List ℕ) (a n number : ℕ) (b : a + n < getD s 6 0) (e : noted number ≡ callsRefusal d (serviceAt s) a n 0 0 (callsFrom s a (n + 1))) where
+  stretch-by : stretchCourse d (serviceAt s) a n ≡ courseBy (noted number) (Along a n)
+  unfolding stretchCourse
+  stretch-by = rw (stretch-calls s a n b, sym e)
+
+  pub stretch-no : (number ≡ 0 → ⊥) → Refused number ≡ stretchCourse d (serviceAt s) a n
+  stretch-no z = sym (stretch-by ∙ rw (ne-eqb number 0 z))
+
+  pub stretch-yes : number ≡ 0 → Along a n ≡ stretchCourse d (serviceAt s) a n
+  stretch-yes z = sym (stretch-by ∙ rw z)
+
+-- ---- on a day; a, b and c are where the first stretch begins and ends, and where another begins
+
+module _ (s : List ℕ) (e : recordSound s ≡ true) where
+  pub repeats-word : 4 < length s
+  repeats-word = omega (arith, record-says s e .0 .head)
+
+  pub calls-word : 6 < length s
+  calls-word = omega (arith, record-says s e .0 .head)
+
+  pub legs-fit : 1 ≤ getD s 6 0
+  legs-fit = omega (arith, record-says s e .0 .calls-low)
+
+pub legs-count : (s : List ℕ) → legCount (serviceAt s) ≡ getD s 6 0 - 1
+unfolding serviceAt
+legs-count s = rw (length-rows callAt callSize (getD s 6 0) (drop serviceHead s))
+
+module _ (d : Delivery) (s : List ℕ) (k a : ℕ) (p : a ≡ 0 + gap true (map (operated (d .fields) (serviceAt s .days) k) (upto (getD s 6 0 - 1 - 0) 0))) where
+  abbrev runs : ℕ → Bool
+  runs = operated (d .fields) (serviceAt s .days) k
+
+  legs : operatedLegs (d .fields) (serviceAt s) k ≡ map (operated (d .fields) (serviceAt s .days) k) (below (getD s 6 0 - 1))
+  legs = rw (legs-count s)
+
+  pub day-idle : getD s 6 0 - 1 ≤ a → NotRunning ≡ dayCourse d (serviceAt s) k
+  unfolding dayCourse
+  day-idle h = rw (legs, none-on runs (getD s 6 0 - 1) a p h)
+
+  module _ (h : a < getD s 6 0 - 1) (b : ℕ) (q : b ≡ a + gap false (map (operated (d .fields) (serviceAt s .days) k) (upto (getD s 6 0 - 1 - a) a))) where
+    pub day-order : a ≤ b
+    day-order = end-after runs (getD s 6 0 - 1) a p h b q
+
+    pub day-within : a + (b - a) < getD s 6 0
+    day-within = omega (arith, day-order, end-within runs (getD s 6 0 - 1) a p h b q)
+
+    module _ (c : ℕ) (r : c ≡ b + gap true (map (operated (d .fields) (serviceAt s .days) k) (upto (getD s 6 0 - 1 - b) b))) where
+      pub day-two : c < getD s 6 0 - 1 → Refused 35 ≡ dayCourse d (serviceAt s) k
+      unfolding dayCourse
+      day-two g =
+          let two : 2 ≤ stretches false (map (operated (d .fields) (serviceAt s .days) k) (below (getD s 6 0 - 1))) = two-run runs (getD s 6 0 - 1) a p h b q c r g in
+          rw (legs, ne-eqb (stretches false (map (operated (d .fields) (serviceAt s .days) k) (below (getD s 6 0 - 1)))) 0 (λ z. absurd (omega arith)), le-leb 2 (stretches false (map (operated (d .fields) (serviceAt s .days) k) (below (getD s 6 0 - 1)))) two)
+
+      pub day-one : getD s 6 0 - 1 ≤ c → (x : Course) → x ≡ stretchCourse d (serviceAt s) a (b - a) → x ≡ dayCourse d (serviceAt s) k
+      unfolding dayCourse
+      day-one g x f = f ∙ sym (rw (legs, one-runs runs (getD s 6 0 - 1) a p h b q c r g, legs-are runs (getD s 6 0 - 1) a p h b q, start-is runs (getD s 6 0 - 1) a p))
+
+-- ---- of a service; `number` is what its legs are refused for
+
+module _ (d : Delivery) (s : List ℕ) (r k : ℕ) where
+  repeats-are : serviceAt s .opening .repeats ≡ getD s 4 0
+  unfolding serviceAt
+  repeats-are = refl
+
+  pub over : getD s 4 0 < r → Refused 25 ≡ serviceCourse d (serviceAt s) r k
+  unfolding serviceCourse
+  over h = rw (repeats-are, lt-ltb (getD s 4 0) r h)
+
+  module _ (h : r ≤ getD s 4 0) (number : ℕ) (f : noted number ≡ firstRefusal (legRefusal d (serviceAt s)) (below (getD s 6 0 - 1))) where
+    service-by : serviceCourse d (serviceAt s) r k ≡ courseBy (noted number) (dayCourse d (serviceAt s) k)
+    unfolding serviceCourse
+    service-by = rw (repeats-are, le-ltb (getD s 4 0) r h, legs-count s, sym f)
+
+    pub legs-no : (number ≡ 0 → ⊥) → Refused number ≡ serviceCourse d (serviceAt s) r k
+    legs-no z = sym (service-by ∙ rw (ne-eqb number 0 z))
+
+    pub legs-yes : number ≡ 0 → (x : Course) → x ≡ dayCourse d (serviceAt s) k → x ≡ serviceCourse d (serviceAt s) r k
+    legs-yes z x g = g ∙ sym (service-by ∙ rw z)
+
+-- ---- of an index
+
+module _ (w : List ℕ) (h : Whole w) where
+  pub count-word : 6 < length w
+  count-word = omega (arith, whole-says w h .used-low, whole-says w h .used-high)
+
+  pub day-low : (k : ℕ) → k < getD w 2 0 → k < mostPeriodDays
+  day-low k l = omega (arith, whole-says w h .days-high)
+
+  module _ (i r k : ℕ) where
+    pub index-no : getD w 6 0 ≤ i → Refused 24 ≡ courseOf (tableOf w) i r k
+    unfolding courseOf
+    index-no b = rw (service-none w h i b)
+
+    pub index-yes : i < getD w 6 0 → (s : List ℕ) → s ≡ drop (servicePlace w i) w → (x : Course) → x ≡ serviceCourse (tableOf w) (serviceAt s) r k → x ≡ courseOf (tableOf w) i r k
+    unfolding courseOf
+    index-yes b s q x g = g ∙ sym (rw (service-is w h i b, q) refl)
+
+pub index-sound : (w : List ℕ) → Whole w → (i : ℕ) → i < getD w 6 0 → (s : List ℕ) → s ≡ drop (servicePlace w i) w → recordSound s ≡ true
+index-sound w h i b s q = rw q (service-sound w h i b)
+
+pub ruleset course = (tests, stretch-no, stretch-yes, repeats-word, calls-word, legs-fit, day-idle, day-order, day-within, day-two, day-one, over, legs-no, legs-yes)
+
+pub ruleset index = (tests, count-word, day-low, index-no, index-yes, index-sound)

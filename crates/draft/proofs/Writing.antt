@@ -1,0 +1,329 @@
+-- What a line says, written behind a draft. Assumes nothing.
+use mathlib.Core.Path.{_≡_, refl, sym, ap, _∙_}
+use mathlib.Core.List.{List, [], _∷_, _++_, append-nil}
+use mathlib.Core.Logic.{⊎-elim}
+use denote.Enum.Declared.{tagOf}
+use types.Run.{OneOf}
+use Prim.Native.Nat.{ℕ, _+_, _*_, _^_, _≤_, _<_}
+use native.Mathlib.Nat.{mul-comm, add-assoc}
+use native.Mathlib.Omega.{arith}
+use lib.ListN.{length, getD, take, drop, set}
+use lib.Seq.{getD-take}
+use Rattle.base.proofs.Laws.{tests}
+use Rattle.words.specs.Words.{write}
+use Rattle.words.proofs.Laws.{length-write, write-write, write-one, drop-write, take-before}
+use Rattle.fields.specs.declared.RouteIndex.{RouteIndex}
+use Rattle.fields.specs.declared.StopNumber.{StopNumber}
+use Rattle.fields.specs.declared.Appearance.{Appearance}
+use Rattle.fields.specs.declared.RangeEnd.{RangeEnd}
+use Rattle.fields.specs.declared.RangeEnd.the-variants.{Outer, Index, Stop, NoEnd}
+use Rattle.fields.specs.declared.Detail.{Detail}
+use Rattle.fields.specs.declared.Detail.the-variants.{Plain, Nth, Timed, NoDetail}
+use Rattle.timetable.specs.Layout.{mostCalls}
+use Rattle.timetable.specs.Plan.{asCall, asRange, partNumber}
+use Rattle.timetable.specs.Table.{rowsIn}
+use Rattle.timetable.proofs.Rows.{rows-last, rows-within}
+use Rattle.timetable.specs.declared.Call.{Call}
+use Rattle.timetable.specs.declared.End.{End}
+use Rattle.timetable.specs.declared.Part.{Part}
+use Rattle.timetable.specs.declared.Part.the-variants.{Category, Days, Extra}
+use Rattle.timetable.specs.declared.RangeLine.{RangeLine}
+use Rattle.timetable.specs.declared.Told.{Told}
+use Rattle.timetable.specs.declared.Told.the-variants.{Skip, Other, Broken, Opens, Ranges, Calls}
+use Rattle.timetable.proofs.Told.{the-type}
+use Rattle.draft.specs.Draft.{draftCall, draftRange, callsLent, rangesLent, mostRanges, callDraft, placeTag, placeValue, detailTag, detailValue, endDraft, rangeDraft, callBack, placeBack, detailBack, partBack, endBack, rangeBack, callsOn, rangesOn, onLine, countCalls, countPart, countRanges, counted, ranges#, Within}
+use Rattle.draft.specs.declared.Counts.{Counts}
+use Rattle.draft.specs.declared.Code.{Code}
+
+-- ---- a call and a range written are read back
+
+pub call-back : (x : ℕ × Call) (r : List ℕ) → callBack (callDraft x ++ r) ≡ x
+call-back x r = refl
+
+place-back : (e : RangeEnd) → placeBack (placeTag e) (placeValue e) ≡ e
+place-back Outer = refl
+place-back (Index k) = refl
+place-back (Stop n) = refl
+place-back NoEnd = refl
+
+detail-back : (d : Detail) → detailBack (detailTag d) (detailValue d) ≡ d
+detail-back Plain = refl
+detail-back (Nth k) = refl
+detail-back (Timed m) = refl
+detail-back NoDetail = refl
+
+part-back : (p : Part) → partBack (partNumber p) ≡ p
+part-back Category = refl
+part-back Days = refl
+part-back Extra = refl
+
+pub range-back : (x : ℕ × RangeLine) (r : List ℕ) → rangeBack (rangeDraft x ++ r) ≡ x
+range-back x r =
+    rw (
+      part-back (x .1 .part),
+      place-back (x .1 .ends .from .place),
+      detail-back (x .1 .ends .from .detail),
+      place-back (x .1 .ends .to .place),
+      detail-back (x .1 .ends .to .detail),
+    ) refl
+
+-- each is read from its own words
+word-own : (w : List ℕ) (k i : ℕ) → i < k → getD (take k w) i 0 ≡ getD w i 0
+word-own w k i h = getD-take k w i 0 h
+
+call-own : (w : List ℕ) (k : ℕ) → draftCall ≤ k → callBack (take k w) ≡ callBack w
+call-own w k h = rw (word-own w k 0 (omega arith), word-own w k 1 (omega arith), word-own w k 2 (omega arith), word-own w k 3 (omega arith), word-own w k 4 (omega arith)) refl
+
+range-own : (w : List ℕ) (k : ℕ) → draftRange ≤ k → rangeBack (take k w) ≡ rangeBack w
+range-own w k h =
+    rw (
+      word-own w k 0 (omega arith),
+      word-own w k 1 (omega arith),
+      word-own w k 2 (omega arith),
+      word-own w k 3 (omega arith),
+      word-own w k 4 (omega arith),
+      word-own w k 5 (omega arith),
+      word-own w k 6 (omega arith),
+      word-own w k 7 (omega arith),
+      word-own w k 8 (omega arith),
+      word-own w k 9 (omega arith),
+      word-own w k 10 (omega arith),
+      word-own w k 11 (omega arith),
+    ) refl
+
+-- ---- a row written behind n rows is one more
+
+module _ {X : Type 0} (f : List ℕ → X) (d : X → List ℕ) (size : ℕ)
+    (own : (w : List ℕ) (k : ℕ) → size ≤ k → f (take k w) ≡ f w) (back : (x : X) (r : List ℕ) → f (d x ++ r) ≡ x) where
+  row-more : (n : ℕ) (w : List ℕ) (x : X) → size * n ≤ length w → rowsIn f size (n + 1) (write w (size * n) (d x)) ≡ rowsIn f size n w ++ (x ∷ [])
+  row-more n w x h =
+      let e : n * size ≡ size * n = mul-comm n size in
+      let w′ : List ℕ = write w (size * n) (d x) in
+      let same : rowsIn f size n w′ ≡ rowsIn f size n w
+      = sym (rows-within f size own n (size * n) w′ (omega (arith, e)))
+      ∙ (ap (rowsIn f size n) (take-before w (size * n) (d x) h (size * n) (omega arith))
+      ∙ rows-within f size own n (size * n) w (omega (arith, e))) in
+      let last : f (drop (n * size) w′) ≡ x = rw e (ap f (drop-write w (size * n) (d x) h) ∙ back x (drop (size * n + length (d x)) w)) in
+      rows-last f size n w′ ∙ rw (same, last) refl
+
+calls-more : (n : ℕ) (w : List ℕ) (x : ℕ × Call) → draftCall * n ≤ length w → callsOn (n + 1) (write w (draftCall * n) (callDraft x)) ≡ callsOn n w ++ (x ∷ [])
+calls-more = row-more callBack callDraft draftCall call-own call-back
+
+ranges-more : (n : ℕ) (w : List ℕ) (x : ℕ × RangeLine) → draftRange * n ≤ length w → rangesOn (n + 1) (write w (draftRange * n) (rangeDraft x)) ≡ rangesOn n w ++ (x ∷ [])
+ranges-more = row-more rangeBack rangeDraft draftRange range-own range-back
+
+-- ---- counts
+
+calls-kept : (k : Counts) (rs : List RangeLine) → countRanges k rs .calls ≡ k .calls
+calls-kept k [] = refl
+calls-kept k (r ∷ rs) = go (r .part)
+  where
+    go : (p : Part) → countPart k p .calls ≡ k .calls
+    go Category = refl
+    go Days = refl
+    go Extra = refl
+
+ranges-kept : (k : Counts) (cs : List Call) → ranges# (countCalls k cs) ≡ ranges# k
+ranges-kept k [] = refl
+ranges-kept k (c ∷ cs) = refl
+
+part-counts : (k : Counts) (p : Part) → ranges# (countPart k p) ≡ ranges# k + 1
+part-counts k Category = omega arith
+part-counts k Days = omega arith
+part-counts k Extra = omega arith
+
+-- ---- the needs of the codes, of `put_call`, `put_range` and `put_end`, for `search written`
+
+abbrev placeCode : RangeEnd → Code
+placeCode e = record { tag = placeTag e; value = placeValue e }
+
+abbrev detailCode : Detail → Code
+detailCode d = record { tag = detailTag d; value = detailValue d }
+
+module _ (e : RangeEnd) where
+  pub code-outer : e ≡ Outer → record { tag = 0; value = 0 } ≡ placeCode e
+  code-outer q = rw q refl
+
+  pub code-index : (k : RouteIndex) → e ≡ Index k → record { tag = 1; value = k .0 } ≡ placeCode e
+  code-index k q = rw q refl
+
+  pub code-stop : (n : StopNumber) → e ≡ Stop n → record { tag = 2; value = n .0 } ≡ placeCode e
+  code-stop n q = rw q refl
+
+  pub code-no-end : e ≡ NoEnd → record { tag = 3; value = 0 } ≡ placeCode e
+  code-no-end q = rw q refl
+
+module _ (d : Detail) where
+  pub code-plain : d ≡ Plain → record { tag = 0; value = 0 } ≡ detailCode d
+  code-plain q = rw q refl
+
+  pub code-nth : (k : Appearance) → d ≡ Nth k → record { tag = 1; value = k .0 } ≡ detailCode d
+  code-nth k q = rw q refl
+
+  pub code-timed : (m : ℕ) → d ≡ Timed m → record { tag = 2; value = m } ≡ detailCode d
+  code-timed m q = rw q refl
+
+  pub code-no-detail : d ≡ NoDetail → record { tag = 3; value = 0 } ≡ detailCode d
+  code-no-detail q = rw q refl
+
+pub ruleset codes = (tests, code-outer, code-index, code-stop, code-no-end, code-plain, code-nth, code-timed, code-no-detail)
+
+pub codes-put : (t t′ : List ℕ) (at : ℕ) (e : End) (p d : Code)
+    → p ≡ record { tag = placeTag (e .place); value = placeValue (e .place) } → d ≡ record { tag = detailTag (e .detail); value = detailValue (e .detail) }
+    → t′ ≡ write t at (p .tag ∷ p .value ∷ d .tag ∷ d .value ∷ []) → t′ ≡ write t at (endDraft e)
+codes-put t t′ at e p d a b v = rw (a, b) at v
+
+pub call-put : (t t′ : List ℕ) (at line : ℕ) (c : Call) → at + draftCall ≤ length t
+    → t′ ≡ write t at (c .stop ∷ c .arrival ∷ c .departure ∷ c .flags ∷ []) → set t′ (at + 4) line ≡ write t at (callDraft (line, c))
+call-put t t′ at line c h e =
+    let four : List ℕ = c .stop ∷ c .arrival ∷ c .departure ∷ c .flags ∷ [] in
+    let l : length t′ ≡ length t = ap length e ∙ length-write t at four (omega arith) in
+    write-one t′ (at + 4) line (omega (arith, l)) ∙ rw e (write-write t at four (line ∷ []) (omega arith))
+
+pub range-put : (t a b c : List ℕ) (at line p : ℕ) (r : RangeLine) → at + draftRange ≤ length t
+    → p ≡ partNumber (r .part)
+    → a ≡ write t at (line ∷ p ∷ r .name ∷ r .field ∷ []) → b ≡ write a (at + 4) (endDraft (r .ends .from)) → c ≡ write b (at + 8) (endDraft (r .ends .to))
+    → c ≡ write t at (rangeDraft (line, r))
+range-put t a b c at line p r h q x y z =
+    let four : List ℕ = line ∷ p ∷ r .name ∷ r .field ∷ [] in
+    let from : List ℕ = endDraft (r .ends .from) in
+    let two : b ≡ write t at (four ++ from) = y ∙ rw x (write-write t at four from (omega arith)) in
+    let three : c ≡ write t at ((four ++ from) ++ endDraft (r .ends .to)) = z ∙ rw two (write-write t at (four ++ from) (endDraft (r .ends .to)) (omega arith)) in
+    rw q at three
+
+pub ruleset written = (tests, codes-put, call-put, range-put)
+
+-- ---- the needs of `draft_call`, `draft_range` and `count_part`, for `search drafted`
+
+no-call : (t : Told) → OneOf (0 ∷ 1 ∷ 2 ∷ 3 ∷ 4 ∷ []) (tagOf the-type t) → asCall t ≡ []
+no-call Skip e = refl
+no-call Other e = refl
+no-call (Broken c) e = refl
+no-call (Opens o) e = refl
+no-call (Ranges r) e = refl
+no-call (Calls c) e = absurd (⊎-elim (λ w. omega arith) (⊎-elim (λ w. omega arith) (⊎-elim (λ w. omega arith) (⊎-elim (λ w. omega arith) (λ w. omega arith)))) e)
+
+no-range : (t : Told) → OneOf (0 ∷ 1 ∷ 2 ∷ 3 ∷ 5 ∷ []) (tagOf the-type t) → asRange t ≡ []
+no-range Skip e = refl
+no-range Other e = refl
+no-range (Broken c) e = refl
+no-range (Opens o) e = refl
+no-range (Ranges r) e = absurd (⊎-elim (λ w. omega arith) (⊎-elim (λ w. omega arith) (⊎-elim (λ w. omega arith) (⊎-elim (λ w. omega arith) (λ w. omega arith)))) e)
+no-range (Calls c) e = refl
+
+module _ (t : Told) (k : Counts) where
+  pub call-passed : OneOf (0 ∷ 1 ∷ 2 ∷ 3 ∷ 4 ∷ []) (tagOf the-type t) → k ≡ countCalls k (asCall t)
+  call-passed e = rw (no-call t e) refl
+
+  pub range-passed : OneOf (0 ∷ 1 ∷ 2 ∷ 3 ∷ 5 ∷ []) (tagOf the-type t) → k ≡ countRanges k (asRange t)
+  range-passed e = rw (no-range t e) refl
+
+  pub call-passed-on : (line : ℕ) (w : List ℕ) → OneOf (0 ∷ 1 ∷ 2 ∷ 3 ∷ 4 ∷ []) (tagOf the-type t) → callsOn (k .calls) w ≡ callsOn (k .calls) w ++ onLine line (asCall t)
+  unfolding onLine
+  call-passed-on line w e = rw (no-call t e, append-nil) refl
+
+  pub range-passed-on : (line : ℕ) (w : List ℕ) → OneOf (0 ∷ 1 ∷ 2 ∷ 3 ∷ 5 ∷ []) (tagOf the-type t) → rangesOn (ranges# k) w ≡ rangesOn (ranges# k) w ++ onLine line (asRange t)
+  unfolding onLine
+  range-passed-on line w e = rw (no-range t e, append-nil) refl
+
+  module _ (c : Call) (e : t ≡ Calls c) where
+    pub call-room : (n : ℕ) → Within (countCalls k (asCall t)) → callsLent ≤ n → draftCall * k .calls + draftCall ≤ n
+    call-room n w h = let v : Within (countCalls k (asCall (Calls c))) = rw e at w in omega (arith, v .calls)
+
+    pub call-fits : Within (countCalls k (asCall t)) → k .calls + 1 < 2 ^ 32
+    call-fits w = let v : Within (countCalls k (asCall (Calls c))) = rw e at w in omega (arith, v .calls)
+
+    pub call-counted : record { calls = k .calls + 1; categories = k .categories; days = k .days; extras = k .extras } ≡ countCalls k (asCall t)
+    call-counted = rw e refl
+
+    pub call-drafted : (line : ℕ) (w w′ : List ℕ) → Within (countCalls k (asCall t)) → callsLent ≤ length w → w′ ≡ write w (draftCall * k .calls) (callDraft (line, c))
+        → callsOn (k .calls + 1) w′ ≡ callsOn (k .calls) w ++ onLine line (asCall t)
+    unfolding onLine
+    call-drafted line w w′ h l v = rw (v, e) (calls-more (k .calls) w (line, c) (omega (arith, call-room (length w) h l)))
+
+  module _ (r : RangeLine) (e : t ≡ Ranges r) where
+    range-within : Within (countRanges k (asRange t)) → Within (countPart k (r .part))
+    range-within w = rw e at w
+
+    within-part : (p : Part) → Within (countPart k p) → ranges# k + 1 ≤ mostRanges
+    within-part Category w = omega (arith, w .categories, w .days, w .extras)
+    within-part Days w = omega (arith, w .categories, w .days, w .extras)
+    within-part Extra w = omega (arith, w .categories, w .days, w .extras)
+
+    pub range-room : (c n : ℕ) → c ≡ ranges# k → Within (countRanges k (asRange t)) → rangesLent ≤ n → draftRange * c + draftRange ≤ n
+    range-room c n e w h = omega (arith, e, within-part (r .part) (range-within w))
+
+    pub range-fits : Within (countRanges k (asRange t)) → ranges# k ≤ mostRanges
+    range-fits w = omega (arith, within-part (r .part) (range-within w))
+
+    pub part-requires : Within (countRanges k (asRange t)) → Within (countPart k (r .part))
+    part-requires = range-within
+
+    module _ (k′ : Counts) (d : k′ ≡ countPart k (r .part)) where
+      pub range-counted : k′ ≡ countRanges k (asRange t)
+      range-counted = d ∙ rw e refl
+
+      pub range-drafted : (line c : ℕ) (w w′ : List ℕ) → c ≡ ranges# k → Within (countRanges k (asRange t)) → rangesLent ≤ length w → w′ ≡ write w (draftRange * c) (rangeDraft (line, r))
+          → rangesOn (ranges# k′) w′ ≡ rangesOn (ranges# k) w ++ onLine line (asRange t)
+      unfolding onLine
+      range-drafted line c w w′ n h l v = rw (d, part-counts k (r .part), v, n, e) (ranges-more (ranges# k) w (line, r) (omega (arith, range-room (ranges# k) (length w) refl h l)))
+
+pub category-fits : (k : Counts) (p : Part) → p ≡ Category → Within (countPart k p) → k .categories + 1 < 2 ^ 32
+category-fits k p e w = let v : Within (countPart k Category) = rw e at w in omega (arith, v .categories)
+
+pub days-fit : (k : Counts) (p : Part) → p ≡ Days → Within (countPart k p) → k .days + 1 < 2 ^ 32
+days-fit k p e w = let v : Within (countPart k Days) = rw e at w in omega (arith, v .days)
+
+pub extra-fits : (k : Counts) (p : Part) → p ≡ Extra → Within (countPart k p) → k .extras + 1 < 2 ^ 32
+extra-fits k p e w = let v : Within (countPart k Extra) = rw e at w in omega (arith, v .extras)
+
+module _ (k : Counts) (p : Part) where
+  pub category-counted : p ≡ Category → record { calls = k .calls; categories = k .categories + 1; days = k .days; extras = k .extras } ≡ countPart k p
+  category-counted e = rw e refl
+
+  pub days-counted : p ≡ Days → record { calls = k .calls; categories = k .categories; days = k .days + 1; extras = k .extras } ≡ countPart k p
+  days-counted e = rw e refl
+
+  pub extra-counted : p ≡ Extra → record { calls = k .calls; categories = k .categories; days = k .days; extras = k .extras + 1 } ≡ countPart k p
+  extra-counted e = rw e refl
+
+pub ruleset parts = (tests, category-fits, days-fit, extra-fits, category-counted, days-counted, extra-counted)
+
+pub ruleset call-drafts = (tests, call-passed, call-passed-on, call-room, call-fits, call-counted, call-drafted)
+
+pub ruleset range-drafts = (tests, range-passed, range-passed-on, range-room, range-fits, part-requires, range-counted, range-drafted)
+
+-- ---- the needs of `draft_line`, for `search lines-drafted`: k′ counts the call, and r the range too
+
+within-call : (k : Counts) (t : Told) → Within (counted k t) → Within (countCalls k (asCall t))
+within-call k Skip w = w
+within-call k Other w = w
+within-call k (Broken c) w = w
+within-call k (Opens o) w = w
+within-call k (Ranges r) w = go (r .part) w
+  where
+    go : (p : Part) → Within (countPart k p) → Within k
+    go Category v = record { calls = v .calls; categories = omega (arith, v .categories); days = v .days; extras = v .extras }
+    go Days v = record { calls = v .calls; categories = v .categories; days = omega (arith, v .days); extras = v .extras }
+    go Extra v = record { calls = v .calls; categories = v .categories; days = v .days; extras = omega (arith, v .extras) }
+within-call k (Calls c) w = w
+
+module _ (k : Counts) (t : Told) where
+  pub call-within : Within (counted k t) → Within (countCalls k (asCall t))
+  call-within w = within-call k t w
+
+  module _ (k′ : Counts) (d : k′ ≡ countCalls k (asCall t)) where
+    pub ranges-within : Within (counted k t) → Within (countRanges k′ (asRange t))
+    ranges-within w = rw d w
+
+    module _ (r : Counts) (e : r ≡ countRanges k′ (asRange t)) where
+      pub line-counted : r ≡ counted k t
+      line-counted = rw d at e
+
+      pub line-called : (line : ℕ) (w w′ : List ℕ) → callsOn (k′ .calls) w′ ≡ callsOn (k .calls) w ++ onLine line (asCall t) → callsOn (r .calls) w′ ≡ callsOn (k .calls) w ++ onLine line (asCall t)
+      line-called line w w′ v = ap (λ (n : ℕ). callsOn n w′) (ap (λ (c : Counts). c .calls) e ∙ calls-kept k′ (asRange t)) ∙ v
+
+      pub line-ranged : (line : ℕ) (w w′ : List ℕ) → rangesOn (ranges# r) w′ ≡ rangesOn (ranges# k′) w ++ onLine line (asRange t) → rangesOn (ranges# r) w′ ≡ rangesOn (ranges# k) w ++ onLine line (asRange t)
+      line-ranged line w w′ v = v ∙ ap (λ (n : ℕ). rangesOn n w ++ onLine line (asRange t)) (ap ranges# d ∙ ranges-kept k (asCall t))
+
+pub ruleset line-drafts = (tests, call-within, ranges-within, line-counted, line-called, line-ranged)

@@ -1,0 +1,40 @@
+use Rattle.draft.proofs.Writing.{call-drafts}
+use Rattle.draft.proofs.draft_call.Statement.{statement}
+use Rattle.draft.proofs.draft_call.Tie as tie
+
+enum-known-said : tie.Need-enum-known-said
+enum-known-said c = search call-drafts
+
+returns : tie.Need-returns
+returns c = search call-drafts
+
+cast-put-call : tie.Need-cast-put-call
+cast-put-call c = search call-drafts
+
+mul-put-call : tie.Need-mul-put-call
+mul-put-call c = search call-drafts
+
+put-call-requires : tie.Need-put-call-requires
+put-call-requires c κs = search call-drafts
+
+add-k : tie.Need-add-k
+add-k c = search call-drafts
+
+same-length : tie.Need-same-length
+same-length c = search call-drafts
+
+returns-2 : tie.Need-returns-2
+returns-2 c = search call-drafts
+
+pub draft-call-spec : {M : Type 1} → statement M
+draft-call-spec =
+    tie.close
+    (tie.spec
+    enum-known-said
+    returns
+    cast-put-call
+    mul-put-call
+    put-call-requires
+    add-k
+    same-length
+    returns-2)

@@ -1,0 +1,336 @@
+// The draft of a service: what its lines say, in words of its own, so that each line is read once. Calls stand with the numbers of their lines,
+// ranges in line order with their ends as they are written; `calls` and `ranges` are lent for it, and hold the drafts from their front on.
+// The draft holds stop numbers, whatever the table's calls hold.
+use fields::Appearance;
+use fields::Detail;
+use fields::RangeEnd;
+use fields::RouteIndex;
+use fields::StopNumber;
+use timetable::Call;
+use timetable::End;
+use timetable::Ends;
+use timetable::Opening;
+use timetable::Part;
+use timetable::RangeLine;
+use timetable::Told;
+ghost use mathlib.Core.Path.{_≡_};
+ghost use mathlib.Core.List.{_++_};
+ghost use Prim.Native.Nat.{_+_, _≤_};
+ghost use lib.ListN.{length, drop};
+ghost use Rattle.timetable.specs.Plan.{asCall, asRange, partNumber};
+ghost use Rattle.words.specs.Words.{write};
+ghost use Rattle.draft.specs.Draft.{draftCall, draftRange, mostRanges, callsLent, rangesLent, callDraft, placeTag, placeValue, detailTag, detailValue, endDraft, rangeDraft};
+ghost use Rattle.draft.specs.Draft.{callBack, placeBack, detailBack, partBack, endBack, lineBack, rangeBack, callsOn, rangesOn, onLine, noCounts, countCalls, countPart, countRanges, counted, ranges#, Within};
+
+// The words of a call in the draft: stop, arrival, departure, flags, and its line's number.
+pub const DRAFT_CALL_WORDS: usize = 5;
+
+// The words of a range: its line's number, its part, its name, its bit field, and four words for each of its ends.
+pub const DRAFT_RANGE_WORDS: usize = 12;
+
+// As many ranges as a service may have.
+pub const MOST_RANGES: usize = timetable::MOST_CATEGORIES as usize
+    + timetable::MOST_DAYS as usize
+    + timetable::MOST_EXTRAS as usize;
+
+// The words lent for the calls and the ranges of one service.
+pub const CALLS_LENT: usize = DRAFT_CALL_WORDS * timetable::MOST_CALLS as usize;
+
+pub const RANGES_LENT: usize = DRAFT_RANGE_WORDS * MOST_RANGES;
+
+// How many calls, and ranges of each kind.
+pub struct Counts {
+    pub calls: u32,
+    pub categories: u32,
+    pub days: u32,
+    pub extras: u32,
+}
+
+// A service as drafted: what its *Z line says and that line's number, how many calls and ranges it has, and where the next service begins:
+// the place and the number of its *Z line, or of the file's end.
+pub struct Drafted {
+    pub opening: Opening,
+    pub line: u32,
+    pub counts: Counts,
+    pub end: usize,
+    pub no: u32,
+}
+
+// An end's place or detail in two words: which it is, and its number.
+struct Code {
+    pub tag: u32,
+    pub value: u32,
+}
+
+// ---- written
+
+// No line is drafted.
+pub fn no_counts() -> Counts
+    ensures { λ r. ⌜ r ≡ noCounts ⌝ }
+{
+    Counts {
+        calls: 0,
+        categories: 0,
+        days: 0,
+        extras: 0,
+    }
+}
+
+// How many ranges of all kinds.
+pub fn range_count(counts: Counts) -> u32
+    requires { ⌜ ranges# counts ≤ mostRanges ⌝ }
+    ensures { λ r. ⌜ r ≡ ranges# counts ⌝ }
+{
+    counts.categories + counts.days + counts.extras
+}
+
+// Drafts what a line says behind what is drafted; how much is drafted then.
+pub fn draft_line(
+    said: Told,
+    line: u32,
+    counts: Counts,
+    calls: &mut [u32],
+    ranges: &mut [u32],
+) -> Counts
+    requires { ⌜ Within (counted counts said) ⌝ }
+    requires { ⌜ (callsLent ≤ length (now calls)) × (rangesLent ≤ length (now ranges)) ⌝ }
+    ensures { λ r. ⌜ r ≡ counted counts said ⌝ }
+    ensures { λ r. ⌜ callsOn (r .calls) (now (calls .exit)) ≡ callsOn (counts .calls) (now (calls .entry)) ++ onLine line (asCall said) ⌝ }
+    ensures { λ r. ⌜ rangesOn (ranges# r) (now (ranges .exit)) ≡ rangesOn (ranges# counts) (now (ranges .entry)) ++ onLine line (asRange said) ⌝ }
+{
+    let k = draft_call(said, line, counts, calls);
+    draft_range(said, line, k, ranges)
+}
+
+// "Only schedule lines are taken as calls; every other kind is passed over when the route is gathered."
+fn draft_call(said: Told, line: u32, counts: Counts, calls: &mut [u32]) -> Counts
+    requires { ⌜ Within (countCalls counts (asCall said)) ⌝ }
+    requires { ⌜ callsLent ≤ length (now calls) ⌝ }
+    ensures { λ r. ⌜ r ≡ countCalls counts (asCall said) ⌝ }
+    ensures { λ r. ⌜ callsOn (r .calls) (now (calls .exit)) ≡ callsOn (counts .calls) (now (calls .entry)) ++ onLine line (asCall said) ⌝ }
+{
+    let Told::Calls(call) = said else {
+        return counts;
+    };
+    put_call(calls, DRAFT_CALL_WORDS * counts.calls as usize, line, call);
+    let mut k = counts;
+    k.calls += 1;
+    k
+}
+
+fn draft_range(said: Told, line: u32, counts: Counts, ranges: &mut [u32]) -> Counts
+    requires { ⌜ Within (countRanges counts (asRange said)) ⌝ }
+    requires { ⌜ rangesLent ≤ length (now ranges) ⌝ }
+    ensures { λ r. ⌜ r ≡ countRanges counts (asRange said) ⌝ }
+    ensures { λ r. ⌜ rangesOn (ranges# r) (now (ranges .exit)) ≡ rangesOn (ranges# counts) (now (ranges .entry)) ++ onLine line (asRange said) ⌝ }
+{
+    let Told::Ranges(range) = said else {
+        return counts;
+    };
+    put_range(
+        ranges,
+        DRAFT_RANGE_WORDS * range_count(counts) as usize,
+        line,
+        range,
+    );
+    let part = range.part;
+    count_part(counts, part)
+}
+
+fn count_part(counts: Counts, part: Part) -> Counts
+    requires { ⌜ Within (countPart counts part) ⌝ }
+    ensures { λ r. ⌜ r ≡ countPart counts part ⌝ }
+{
+    let mut k = counts;
+    match part {
+        Part::Category => {
+            k.categories += 1;
+            k
+        }
+        Part::Days => {
+            k.days += 1;
+            k
+        }
+        Part::Extra => {
+            k.extras += 1;
+            k
+        }
+    }
+}
+
+fn put_call(calls: &mut [u32], at: usize, line: u32, call: Call)
+    requires { ⌜ at + draftCall ≤ length (now calls) ⌝ }
+    ensures { λ _. ⌜ now (calls .exit) ≡ write (now (calls .entry)) at (callDraft (line, call)) ⌝ }
+{
+    words::put4(
+        calls,
+        at,
+        call.stop,
+        call.arrival,
+        call.departure,
+        call.flags,
+    );
+    calls[at + 4] = line;
+}
+
+fn put_range(ranges: &mut [u32], at: usize, line: u32, range: RangeLine)
+    requires { ⌜ at + draftRange ≤ length (now ranges) ⌝ }
+    ensures { λ _. ⌜ now (ranges .exit) ≡ write (now (ranges .entry)) at (rangeDraft (line, range)) ⌝ }
+{
+    let part = range.part;
+    let ends = range.ends;
+    let from = ends.from;
+    let to = ends.to;
+    let number = part_number(part);
+    words::put4(ranges, at, line, number, range.name, range.field);
+    put_end(ranges, at + 4, from);
+    put_end(ranges, at + 8, to);
+}
+
+fn put_end(ranges: &mut [u32], at: usize, end: End)
+    requires { ⌜ at + 4 ≤ length (now ranges) ⌝ }
+    ensures { λ _. ⌜ now (ranges .exit) ≡ write (now (ranges .entry)) at (endDraft end) ⌝ }
+{
+    let place = end.place;
+    let detail = end.detail;
+    let p = place_code(place);
+    let d = detail_code(detail);
+    words::put4(ranges, at, p.tag, p.value, d.tag, d.value);
+}
+
+fn place_code(place: RangeEnd) -> Code
+    ensures { λ r. ⌜ r ≡ record { tag = placeTag place; value = placeValue place } ⌝ }
+{
+    match place {
+        RangeEnd::Outer => Code { tag: 0, value: 0 },
+        RangeEnd::Index(index) => Code {
+            tag: 1,
+            value: index.0,
+        },
+        RangeEnd::Stop(number) => Code {
+            tag: 2,
+            value: number.0,
+        },
+        RangeEnd::NoEnd => Code { tag: 3, value: 0 },
+    }
+}
+
+fn detail_code(detail: Detail) -> Code
+    ensures { λ r. ⌜ r ≡ record { tag = detailTag detail; value = detailValue detail } ⌝ }
+{
+    match detail {
+        Detail::Plain => Code { tag: 0, value: 0 },
+        Detail::Nth(appearance) => Code {
+            tag: 1,
+            value: appearance.0,
+        },
+        Detail::Timed(minutes) => Code {
+            tag: 2,
+            value: minutes,
+        },
+        Detail::NoDetail => Code { tag: 3, value: 0 },
+    }
+}
+
+// The number that stands for a part, in the table's order.
+pub fn part_number(part: Part) -> u32
+    ensures { λ r. ⌜ r ≡ partNumber part ⌝ }
+{
+    match part {
+        Part::Category => 0,
+        Part::Days => 1,
+        Part::Extra => 2,
+    }
+}
+
+// ---- read back
+
+// The call whose words start at a place.
+pub fn call_at(calls: &[u32], at: usize) -> Call
+    requires { ⌜ at + draftCall ≤ length (now calls) ⌝ }
+    ensures { λ r. ⌜ r ≡ callBack (drop at (now (calls .entry))) .1 ⌝ }
+{
+    Call {
+        stop: calls[at],
+        arrival: calls[at + 1],
+        departure: calls[at + 2],
+        flags: calls[at + 3],
+    }
+}
+
+// The number of its line.
+pub fn call_line(calls: &[u32], at: usize) -> u32
+    requires { ⌜ at + draftCall ≤ length (now calls) ⌝ }
+    ensures { λ r. ⌜ r ≡ callBack (drop at (now (calls .entry))) .0 ⌝ }
+{
+    calls[at + 4]
+}
+
+// The range whose words start at a place.
+pub fn range_at(ranges: &[u32], at: usize) -> RangeLine
+    requires { ⌜ at + draftRange ≤ length (now ranges) ⌝ }
+    ensures { λ r. ⌜ r ≡ lineBack (drop at (now (ranges .entry))) ⌝ }
+{
+    let part = part_of(ranges[at + 1]);
+    let name = ranges[at + 2];
+    let field = ranges[at + 3];
+    let from = end_at(ranges, at + 4);
+    let to = end_at(ranges, at + 8);
+    let ends = Ends { from, to };
+    RangeLine {
+        part,
+        name,
+        field,
+        ends,
+    }
+}
+
+// The number of its line.
+pub fn range_line(ranges: &[u32], at: usize) -> u32
+    requires { ⌜ at + draftRange ≤ length (now ranges) ⌝ }
+    ensures { λ r. ⌜ r ≡ rangeBack (drop at (now (ranges .entry))) .0 ⌝ }
+{
+    ranges[at]
+}
+
+// The end whose words start at a place.
+fn end_at(ranges: &[u32], at: usize) -> End
+    requires { ⌜ at + 4 ≤ length (now ranges) ⌝ }
+    ensures { λ r. ⌜ r ≡ endBack 0 (drop at (now (ranges .entry))) ⌝ }
+{
+    let place = place_of(ranges[at], ranges[at + 1]);
+    let detail = detail_of(ranges[at + 2], ranges[at + 3]);
+    End { place, detail }
+}
+
+fn place_of(tag: u32, value: u32) -> RangeEnd
+    ensures { λ r. ⌜ r ≡ placeBack tag value ⌝ }
+{
+    match tag {
+        0 => RangeEnd::Outer,
+        1 => RangeEnd::Index(RouteIndex(value)),
+        2 => RangeEnd::Stop(StopNumber(value)),
+        _ => RangeEnd::NoEnd,
+    }
+}
+
+fn detail_of(tag: u32, value: u32) -> Detail
+    ensures { λ r. ⌜ r ≡ detailBack tag value ⌝ }
+{
+    match tag {
+        0 => Detail::Plain,
+        1 => Detail::Nth(Appearance(value)),
+        2 => Detail::Timed(value),
+        _ => Detail::NoDetail,
+    }
+}
+
+fn part_of(number: u32) -> Part
+    ensures { λ r. ⌜ r ≡ partBack number ⌝ }
+{
+    match number {
+        0 => Part::Category,
+        1 => Part::Days,
+        _ => Part::Extra,
+    }
+}

@@ -1,0 +1,40 @@
+-- Demand 3 at the boundary, in the numbers that a caller holds: what `estelunya_walk` answers and leaves in the rows, of the table that
+-- `estelunya_load` left where its number was 0. Proved in proofs/Exported.antt: `demand3-exported`, and of any words `decoded`. Assumes nothing.
+use mathlib.Core.Path.{_≡_}
+use mathlib.Core.List.{List}
+use Prim.Native.Nat.{ℕ, _+_, _*_, _<_, _≤_}
+use lib.ListN.{length}
+use Rattle.timetable.specs.Layout.{rowSize}
+use Rattle.timetable.specs.Delivery.{Files, Service, Delivery}
+use Rattle.timetable.specs.Load.{delivered, onto}
+use Rattle.timetable.specs.declared.Walked.{Walked}
+use Rattle.timetable.specs.declared.Walked.the-variants.{Listed, NotRunning, Refused}
+use Rattle.whole.specs.Rows.{RunsNowhere, Stretched}
+use Rattle.whole.specs.Promise.{OwnRun}
+use Rattle.estelunya.specs.declared.WalkResult.{WalkResult}
+
+-- the answer as numbers, and the rows afterwards, from the rows as lent: "not running", or 29 exactly if fewer words are lent than one row for each call
+-- of the stretch takes, or that stretch
+pub data Answered (d : Delivery) (s : Service) (r k : ℕ) (lent : List ℕ) : WalkResult → List ℕ → Type 0 where
+  not-running : RunsNowhere d s k → Answered d s r k lent (record { number = 0; rows = 0; needed = 0 }) lent
+  short : {ws : List ℕ} (x : Stretched d s r k ws) → length lent < rowSize * (x .legs + 1)
+      → Answered d s r k lent (record { number = 29; rows = 0; needed = rowSize * (x .legs + 1) }) lent
+  runs : {ws : List ℕ} (x : Stretched d s r k ws) → rowSize * (x .legs + 1) ≤ length lent
+      → Answered d s r k lent (record { number = 0; rows = x .legs + 1; needed = 0 }) (onto ws lent)
+
+-- of run r of the i-th service, on day k of the period
+pub record Walks (f : Files) (i : ℕ) (s : Service) (r k : ℕ) (lent : List ℕ) (x : WalkResult) (v : List ℕ) : Type 0 where
+  pub answered : Answered (delivered f) s r k lent x v
+  -- "The days, calls and categories are those of that same delivery's text": service, days, stops and interchange records
+  pub own : OwnRun f i s k
+  -- "It never meets a number it cannot resolve": with room for every call of the service it is not refused
+  pub never-refused : rowSize * length (s .calls) ≤ length lent → x .number ≡ 0
+  -- "'does not run' is said exactly when its text says so": by 0 rows
+  pub idle-only : x .number ≡ 0 → x .rows ≡ 0 → RunsNowhere (delivered f) s k
+  pub idle-always : RunsNowhere (delivered f) s k → (x .number ≡ 0) × (x .rows ≡ 0)
+
+-- of any words, table or not: what an answer a is, told from its numbers
+pub record Decoded (a : Walked) (x : WalkResult) : Type 0 where
+  pub idle : x .number ≡ 0 → x .rows ≡ 0 → a ≡ NotRunning
+  pub listing : x .number ≡ 0 → 1 ≤ x .rows → (a ≡ Listed (x .rows)) × (2 ≤ x .rows)
+  pub refusal : 1 ≤ x .number → a ≡ Refused (x .number) (x .needed)

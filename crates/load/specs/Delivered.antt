@@ -1,0 +1,47 @@
+-- What the checks of a delivery answer: the header of its table, or its first offence. Assumes nothing.
+use Prim.Native.Nat.{ℕ, _+_}
+use mathlib.Core.Bool.{cond}
+use mathlib.Core.Option.{Option, none, some}
+use lib.ListN.{length}
+use lib.Dec.{ltb}
+use Rattle.timetable.specs.Layout.{headerSize, mostFileBytes, firstService}
+use Rattle.timetable.specs.Delivery.{Delivery}
+use Rattle.timetable.specs.Offences.{offenceAt}
+use Rattle.timetable.specs.Table.{sections}
+use Rattle.timetable.specs.Load.{Where}
+use Rattle.timetable.specs.declared.Checked.{Checked}
+use Rattle.timetable.specs.declared.Checked.the-variants.{Holds as HoldsBoth, Refused as RefusedBy}
+use Rattle.table_words.specs.declared.Header.{Header}
+use Rattle.load.specs.declared.Delivered.{Delivered}
+use Rattle.load.specs.declared.Delivered.the-variants.{Holds, Refused}
+
+-- the first of five files that is too long, by their sizes; 0 where none is
+abbrev pub longIn : ℕ → ℕ → ℕ → ℕ → ℕ → ℕ
+longIn e b s u p =
+    cond (ltb mostFileBytes e) 1 (cond (ltb mostFileBytes b) 2 (cond (ltb mostFileBytes s) 3 (cond (ltb mostFileBytes u) 4 (cond (ltb mostFileBytes p) 5 0))))
+
+-- the header, from what was counted: so many records, and w words of services
+abbrev pub headerBy : ℕ → ℕ → ℕ → ℕ → ℕ → ℕ → ℕ → Header
+headerBy start days b s u v w = record { words = firstService b s u + w; start = start; days = days; fields = b; stops = s; interchanges = u; services = v; first = firstService b s u }
+
+-- the header of a delivery's table
+abbrev pub headerOf : Delivery → Header
+headerOf d = record {
+  words = headerSize + length (sections d);
+  start = d .period .start;
+  days = d .period .days;
+  fields = length (d .fields);
+  stops = length (d .stops);
+  interchanges = length (d .interchanges);
+  services = length (d .services);
+  first = firstService (length (d .fields)) (length (d .stops)) (length (d .interchanges));
+}
+
+-- the offence of a file that does not hold
+abbrev pub refusedIn : ℕ → Checked → Delivered
+refusedIn file (RefusedBy o) = Refused file o
+refusedIn file (HoldsBoth a b) = Refused file (offenceAt 0 0)
+
+abbrev pub deliveredBy : Option Where → Header → Delivered
+deliveredBy none h = Holds h
+deliveredBy (some w) h = Refused (w .file) (w .offence)

@@ -1,0 +1,167 @@
+-- Services written one after the other: what is left to write at a place, and what was to be written, end alike. Assumes nothing.
+use mathlib.Core.Path.{_≡_, refl, sym, ap, _∙_}
+use mathlib.Core.List.{List, [], _∷_, _++_}
+use mathlib.Core.Bool.{true}
+use mathlib.Core.Option.{Option, none, some}
+use Prim.Native.Nat.{ℕ, _+_, _-_, _*_, _^_, _≤_, _<_}
+use native.Mathlib.Omega.{arith}
+use lib.ListN.{length, length-append}
+use Rattle.base.specs.Lists.{every, gathered}
+use Rattle.base.proofs.Laws.{tests, apart, len-trans}
+use Rattle.base.proofs.Loops.{and-true}
+use Rattle.lines.specs.Lines.{Line, linesOf, linesAt, cutAt}
+use Rattle.words.specs.Words.{write}
+use Rattle.words.proofs.Laws.{write-none, write-write}
+use Rattle.timetable.specs.Layout.{mostFileBytes}
+use Rattle.timetable.specs.Delivery.{Service}
+use Rattle.timetable.specs.Service.{blocks, serviceOf}
+use Rattle.timetable.specs.Checks.{headFirst}
+use Rattle.timetable.specs.Table.{serviceWords}
+use Rattle.timetable.specs.declared.Offence.{Offence}
+use Rattle.timetable.specs.declared.Opening.{Opening}
+use Rattle.draft.specs.Draft.{draftCall, draftRange, mostRanges, callsLent, rangesLent, countsOf, ranges#, Within}
+use Rattle.draft.specs.declared.Drafted.{Drafted}
+use Rattle.draft.proofs.Drafts.{draft-service, ranges-within}
+use Rattle.reading.specs.Reading.{serviceAt, Boundary, ServiceRead, HeadClear, HeadAs}
+use Rattle.reading.specs.declared.Head.{Head}
+use Rattle.reading.specs.declared.Head.the-variants.{Clear, Stray}
+use Rattle.reading.proofs.Heads.{after, service-here, services-none}
+use Rattle.service_words.specs.Parts.{serviceIn, sizesOf}
+use Rattle.service_words.specs.declared.Sizes.{Sizes}
+use Rattle.service.specs.Answers.{ServiceTaken}
+use Rattle.plan.specs.Services.{blockWords, within, withinLimits}
+use Rattle.plan.proofs.Within.{within-says}
+use Rattle.plan.proofs.Sizes.{words-fit}
+
+-- ---- services, the first and the others
+
+words-cons : (b : List Line) (bs : List (List Line)) → blockWords (b ∷ bs) ≡ serviceWords (serviceOf b) ++ blockWords bs
+unfolding blockWords gathered
+words-cons b bs = refl
+
+within-cons : (b : List Line) (bs : List (List Line)) → withinLimits (b ∷ bs) ≡ true → (within (countsOf b) ≡ true) × (withinLimits bs ≡ true)
+unfolding withinLimits every
+within-cons b bs e = and-true _ _ e
+
+module _ (f : List ℕ) (at n : ℕ) (b : Boundary f at n) (h : at < length f) where
+  pub here-within : withinLimits (blocks (linesAt f at n)) ≡ true → Within (countsOf (serviceAt f at n))
+  here-within w = within-says (countsOf (serviceAt f at n)) (within-cons (serviceAt f at n) (blocks (after f (cutAt f at n))) (rw (service-here f at n b h) at w) .0)
+
+  here-words : length (serviceWords (serviceOf (serviceAt f at n))) ≤ length (blockWords (blocks (linesAt f at n)))
+  here-words =
+      omega (
+        arith,
+        ap length (ap blockWords (service-here f at n b h) ∙ words-cons (serviceAt f at n) (blocks (after f (cutAt f at n)))),
+        length-append (serviceWords (serviceOf (serviceAt f at n))) (blockWords (blocks (after f (cutAt f at n)))),
+      )
+
+  -- `to` is the place to write at; all services end at place q
+  pub here-room : (to q l : ℕ) → to + length (blockWords (blocks (linesAt f at n))) ≡ q → q ≤ l → to + length (serviceWords (serviceOf (serviceAt f at n))) ≤ l
+  here-room to q l v r = omega (arith, v, r, here-words)
+
+-- ---- the need of `put_service`, for `search held`: the draft that was read holds the service; m is how many ranges it has
+
+module _ (f : List ℕ) (at n : ℕ) (d : Drafted) (calls ranges : List ℕ) (s : ServiceRead f at n d calls ranges) where
+  pub calls-room : draftCall * d .counts .calls ≤ length calls
+  calls-room = omega (arith, s .draft .within .calls, s .draft .calls-lent)
+
+  pub ranges-count : ranges# (d .counts) ≤ mostRanges
+  ranges-count = ranges-within (d .counts) (s .draft .within)
+
+  module _ (m : ℕ) (e : m ≡ ranges# (d .counts)) where
+    pub ranges-room : draftRange * m ≤ length ranges
+    ranges-room = omega (arith, e, ranges-count, s .draft .ranges-lent)
+
+    abbrev held : Service
+    held = serviceIn (d .opening) (d .line) (d .counts .calls) calls m ranges
+
+    service-is : held ≡ serviceOf (serviceAt f at n)
+    service-is =
+        let ls : List Line = serviceAt f at n in
+        ap (λ (k : ℕ). serviceIn (d .opening) (d .line) (d .counts .calls) calls k ranges) e
+        ∙ (ap (λ (o : Opening). serviceIn o (d .line) (d .counts .calls) calls (ranges# (d .counts)) ranges) (sym (s .opening))
+        ∙ (ap (λ (l : ℕ). serviceIn (serviceOf ls .opening) l (d .counts .calls) calls (ranges# (d .counts)) ranges) (s .line ∙ sym (s .own-line))
+        ∙ draft-service ls (d .counts) calls ranges (s .draft)))
+
+    pub held-room : (to l : ℕ) → to + length (serviceWords (serviceOf (serviceAt f at n))) ≤ l → to + length (serviceWords held) ≤ l
+    held-room to l h = rw service-is h
+
+    pub held-fits : Boundary f at n → at < length f → length (serviceWords held) ≤ 4294967295
+    held-fits b h = rw service-is (omega (arith, words-fit f at n (b .short), here-words f at n b h))
+
+    pub held-taken : (z : Sizes) → z ≡ sizesOf held → ServiceTaken f at n (z .words) (d .end) (d .no)
+    held-taken z i = record { size = rw (i, service-is) refl; services = s .services; past = s .past; next = s .next }
+
+    pub held-written : (t t′ : List ℕ) (to : ℕ) → t′ ≡ write t to (serviceWords held) → t′ ≡ write t to (serviceWords (serviceOf (serviceAt f at n)))
+    held-written t t′ to x = rw service-is at x
+
+pub ruleset holding = (tests, calls-room, ranges-count, ranges-room, held-room, held-fits, held-taken, held-written)
+
+-- ---- a walk from service to service: the service that begins at place `at` takes w words
+
+module _ (f : List ℕ) (at n w end m : ℕ) (s : ServiceTaken f at n w end m) where
+  abbrev own : List ℕ
+  own = serviceWords (serviceOf (serviceAt f at n))
+
+  abbrev rest : List ℕ
+  rest = blockWords (blocks (linesAt f end m))
+
+  words-step : blockWords (blocks (linesAt f at n)) ≡ own ++ rest
+  words-step = ap blockWords (s .services) ∙ words-cons (serviceAt f at n) (blocks (linesAt f end m))
+
+  pub next-boundary : Boundary f end m
+  next-boundary = s .next
+
+  pub next-less : at < length f → length f - end < length f - at
+  next-less h = omega (arith, s .past)
+
+  pub next-within : withinLimits (blocks (linesAt f at n)) ≡ true → withinLimits (blocks (linesAt f end m)) ≡ true
+  next-within v = within-cons (serviceAt f at n) (blocks (linesAt f end m)) (rw (s .services) at v) .1
+
+  -- `to` words stand before it, q in all
+  module _ (to q : ℕ) (count : to + length (blockWords (blocks (linesAt f at n))) ≡ q) where
+    pub next-count : to + w + length rest ≡ q
+    next-count = omega (arith, count, s .size, ap length words-step, length-append own rest)
+
+    pub place-fits : (l : ℕ) → q ≤ l → l < 2 ^ 64 → to + w < 2 ^ 64
+    place-fits l room h = omega (arith, next-count, room)
+
+    pub next-written : (t t′ ws : List ℕ) → q ≤ length t → t′ ≡ write t to own → write t to (blockWords (blocks (linesAt f at n))) ≡ ws → write t′ (to + w) rest ≡ ws
+    next-written t t′ ws room x v =
+        let fits : to + length own ≤ length t = omega (arith, next-count, s .size, room) in
+        rw (x, s .size) (write-write t to own rest fits ∙ (sym (ap (write t to) words-step) ∙ v))
+
+pub all-written : (f t w : List ℕ) (at n to : ℕ) → length f ≤ at → write t to (blockWords (blocks (linesAt f at n))) ≡ w → t ≡ w
+unfolding blockWords gathered
+all-written f t w at n to h v = sym (write-none t to) ∙ (rw (services-none f at n h) at v)
+
+pub ruleset putting = (tests, here-within, here-room, next-boundary, next-less, next-within, next-count, place-fits, next-written, all-written, len-trans)
+
+-- ---- where the services begin, for `search beginning`
+
+module _ (f : List ℕ) (h : Head) (at n : ℕ) (e : h ≡ Clear at n) (d : HeadAs f h) where
+  head-clear : HeadClear f at n
+  head-clear = rw e at d
+
+  pub head-next : Boundary f at n
+  head-next = head-clear .next
+
+  pub head-within : withinLimits (blocks (linesOf f)) ≡ true → withinLimits (blocks (linesAt f at n)) ≡ true
+  head-within v = rw (head-clear .services) at v
+
+  pub head-room : (t : List ℕ) (q : ℕ) → q + length (blockWords (blocks (linesOf f))) ≤ length t → q + length (blockWords (blocks (linesAt f at n))) ≤ length t
+  head-room t q v = rw (head-clear .services) at v
+
+  pub head-written : (t t′ : List ℕ) (q : ℕ) → t′ ≡ write t q (blockWords (blocks (linesAt f at n))) → t′ ≡ write t q (blockWords (blocks (linesOf f)))
+  head-written t t′ q v = rw (head-clear .services) v
+
+some-none : {X : Type 0} (o : Offence) → some o ≡ none → X
+some-none o e = apart (cc)
+
+-- nothing stands before them
+pub no-stray : (f : List ℕ) (h : Head) (o : Offence) (t w : List ℕ) → h ≡ Stray o → HeadAs f h → headFirst (linesOf f) ≡ none → t ≡ w
+no-stray f h o t w e d v =
+    let x : headFirst (linesOf f) ≡ some o = rw e at d in
+    some-none o (sym x ∙ v)
+
+pub ruleset beginning = (tests, head-next, head-within, head-room, head-written, no-stray)

@@ -1,0 +1,28 @@
+-- The services of FPLAN: their words, and that none has more calls or ranges than it may. Assumes nothing.
+use Prim.Native.Nat.{ℕ, _*_}
+use mathlib.Core.List.{List, map}
+use mathlib.Core.Bool.{Bool, _&&_}
+use lib.Dec.{leb}
+use Rattle.base.specs.Lists.{every, gathered}
+use Rattle.lines.specs.Lines.{Line}
+use Rattle.timetable.specs.Layout.{mostFileBytes, mostCalls, mostCategories, mostDays, mostExtras}
+use Rattle.timetable.specs.Service.{serviceOf}
+use Rattle.timetable.specs.Table.{serviceWords}
+use Rattle.draft.specs.Draft.{countsOf}
+use Rattle.draft.specs.declared.Counts.{Counts}
+
+-- the words of services, of which the lines of each are given
+unfoldable pub blockWords : List (List Line) → List ℕ
+blockWords bs = gathered serviceWords (map serviceOf bs)
+
+-- no more words than this stand for a file: fifteen for each of its bytes (`words-fit`)
+abbrev pub mostPlanWords : ℕ
+mostPlanWords = 15 * mostFileBytes
+
+-- "13 in one service over 200 calls, 50 *G, 50 *A VE or 100 other *A": none is over
+abbrev pub within : Counts → Bool
+within k = leb (k .calls) mostCalls && (leb (k .categories) mostCategories && (leb (k .days) mostDays && leb (k .extras) mostExtras))
+
+-- so in every service
+unfoldable pub withinLimits : List (List Line) → Bool
+withinLimits bs = every (λ (b : List Line). within (countsOf b)) bs

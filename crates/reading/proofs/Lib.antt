@@ -1,0 +1,4 @@
+pub mod Heads
+pub mod Passing
+pub mod Own
+pub mod Checking

@@ -1,0 +1,95 @@
+-- One line's own offence, by what is counted before it: the needs of the functions that see one line. Assumes nothing.
+use mathlib.Core.Path.{_≡_, refl, sym, _∙_}
+use mathlib.Core.List.{List}
+use mathlib.Core.Bool.{Bool, true, false}
+use mathlib.Core.Option.{none, some}
+use Prim.Native.Nat.{ℕ, _≤_, _<_}
+use lib.Dec.{leb}
+use borrow.Author.Tests.{le-leb, lt-leb, eq-eqb, ne-eqb}
+use Rattle.base.proofs.Laws.{tests}
+use Rattle.timetable.specs.Layout.{mostCalls, mostCategories, mostDays, mostExtras}
+use Rattle.timetable.specs.Delivery.{BitField, StopRecord}
+use Rattle.timetable.specs.Offences.{offenceAt, _<|>_, verdictBy}
+use Rattle.timetable.specs.Files.{hasField, hasStop}
+use Rattle.timetable.specs.Legs.{fieldKnown}
+use Rattle.timetable.specs.Checks.{most}
+use Rattle.timetable.specs.declared.Call.{Call}
+use Rattle.timetable.specs.declared.Part.{Part}
+use Rattle.timetable.specs.declared.Part.the-variants.{Category, Days, Extra}
+use Rattle.timetable.specs.declared.RangeLine.{RangeLine}
+use Rattle.timetable.specs.declared.Told.{Told}
+use Rattle.timetable.specs.declared.Told.the-variants.{Other, Broken, Opens, Ranges, Calls}
+use Rattle.timetable.specs.declared.Verdict.{Verdict}
+use Rattle.timetable.specs.declared.Verdict.the-variants.{Fine, Offends}
+use Rattle.draft.specs.declared.Counts.{Counts}
+use Rattle.reading.specs.Reading.{countOf, rangeAfter, callAfter, offenceAfter}
+
+-- ---- limits and look-ups, for `search lookups`
+
+module _ (k : Counts) (p : Part) where
+  pub full-categories : p ≡ Category → leb mostCategories (k .categories) ≡ leb (most p) (countOf p k)
+  full-categories e = rw e refl
+
+  pub full-days : p ≡ Days → leb mostDays (k .days) ≡ leb (most p) (countOf p k)
+  full-days e = rw e refl
+
+  pub full-extras : p ≡ Extra → leb mostExtras (k .extras) ≡ leb (most p) (countOf p k)
+  full-extras e = rw e refl
+
+module _ (n : ℕ) (fields : List BitField) where
+  pub field-daily : n ≡ 0 → true ≡ fieldKnown n fields
+  field-daily e = rw (eq-eqb n 0 e) refl
+
+  pub field-listed : (t : Bool) → (n ≡ 0 → ⊥) → t ≡ hasField n fields → t ≡ fieldKnown n fields
+  field-listed t z e = rw (ne-eqb n 0 z) e
+
+pub ruleset lookups = (tests, full-categories, full-days, full-extras, field-daily, field-listed)
+
+-- ---- the offence of a range and of a call, for `search own`: t says that there is no room for one more, s that its bit field or stop is known
+
+module _ (fields : List BitField) (k : Counts) (line : ℕ) (p : Part) (field : ℕ) (t : Bool) (e : t ≡ leb (most p) (countOf p k)) where
+  pub range-over : (v : Verdict) → t ≡ true → v ≡ verdictBy (some (offenceAt 13 line)) → v ≡ verdictBy (rangeAfter fields k line p field)
+  unfolding _<|>_
+  range-over v y o = rw (sym e ∙ y) o
+
+  module _ (n : t ≡ false) (s : Bool) (d : s ≡ fieldKnown field fields) where
+    pub range-fine : s ≡ true → Fine ≡ verdictBy (rangeAfter fields k line p field)
+    unfolding _<|>_
+    range-fine y = rw (sym e ∙ n, sym d ∙ y) refl
+
+    pub range-unknown : (v : Verdict) → s ≡ false → v ≡ verdictBy (some (offenceAt 10 line)) → v ≡ verdictBy (rangeAfter fields k line p field)
+    unfolding _<|>_
+    range-unknown v y o = rw (sym e ∙ n, sym d ∙ y) o
+
+module _ (stops : List StopRecord) (k : Counts) (line stop : ℕ) where
+  pub call-over : (v : Verdict) → mostCalls ≤ k .calls → v ≡ verdictBy (some (offenceAt 13 line)) → v ≡ verdictBy (callAfter stops k line stop)
+  unfolding _<|>_
+  call-over v h o = rw (le-leb mostCalls (k .calls) h) o
+
+  module _ (h : k .calls < mostCalls) (s : Bool) (d : s ≡ hasStop stop stops) where
+    pub call-fine : s ≡ true → Fine ≡ verdictBy (callAfter stops k line stop)
+    unfolding _<|>_
+    call-fine y = rw (lt-leb mostCalls (k .calls) h, sym d ∙ y) refl
+
+    pub call-unknown : (v : Verdict) → s ≡ false → v ≡ verdictBy (some (offenceAt 9 line)) → v ≡ verdictBy (callAfter stops k line stop)
+    unfolding _<|>_
+    call-unknown v y o = rw (lt-leb mostCalls (k .calls) h, sym d ∙ y) o
+
+pub ruleset own = (tests, range-over, range-fine, range-unknown, call-over, call-fine, call-unknown)
+
+-- ---- a line's offence, for `search told`
+
+module _ (fields : List BitField) (stops : List StopRecord) (k : Counts) (line : ℕ) (x : Told) (v : Verdict) where
+  pub after-other : x ≡ Other → v ≡ verdictBy (some (offenceAt 11 line)) → v ≡ verdictBy (offenceAfter fields stops k line x)
+  after-other e o = rw e o
+
+  pub after-range : (r : RangeLine) → x ≡ Ranges r → v ≡ verdictBy (rangeAfter fields k line (r .part) (r .field)) → v ≡ verdictBy (offenceAfter fields stops k line x)
+  after-range r e o = rw e o
+
+  pub after-call : (c : Call) → x ≡ Calls c → v ≡ verdictBy (callAfter stops k line (c .stop)) → v ≡ verdictBy (offenceAfter fields stops k line x)
+  after-call c e o = rw e o
+
+pub after-broken : (fields : List BitField) (stops : List StopRecord) (k : Counts) (line : ℕ) (x : Told) (c : ℕ) → x ≡ Broken c → Offends (record { number = 4; line = line; column = c }) ≡ verdictBy (offenceAfter fields stops k line x)
+after-broken fields stops k line x c e = rw e refl
+
+pub ruleset told = (tests, after-other, after-range, after-call, after-broken)

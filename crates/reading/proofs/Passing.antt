@@ -1,0 +1,226 @@
+-- The lines of a service that were read and drafted, and what is left of it. Assumes nothing.
+use mathlib.Core.Path.{_≡_, refl, ap, sym, _∙_}
+use mathlib.Core.List.{List, [], _∷_, _++_, append-assoc, append-nil}
+use mathlib.Core.Bool.{Bool, true, false, cond}
+use mathlib.Core.Logic.{⊎-elim}
+use denote.Enum.Declared.{tagOf}
+use types.Run.{OneOf}
+use Prim.Native.Nat.{ℕ, _+_, _-_, _≤_, _<_}
+use native.Mathlib.Omega.{arith}
+use lib.ListN.{length, take, drop, length-append}
+use Rattle.base.specs.Lists.{gathered}
+use Rattle.base.proofs.Laws.{clash, tests}
+use Rattle.base.proofs.Lists.{gathered-append}
+use Rattle.lines.specs.Lines.{Line, skipped, cutAt, linesAt}
+use Rattle.lines.specs.declared.Cut.{Cut}
+use Rattle.lines.proofs.Laws.{walk, Cutting, cutting}
+use Rattle.forms.specs.Form.{formOf}
+use Rattle.forms.specs.Columns.{serviceColumns}
+use Rattle.forms.specs.Kinds.{kindOf}
+use Rattle.forms.specs.declared.Form.{Form}
+use Rattle.forms.specs.declared.Form.the-variants.{Fits, Broken as BrokenForm}
+use Rattle.forms.specs.declared.Kind.{Kind}
+use Rattle.forms.specs.declared.Kind.the-variants.{Opening as OpeningKind, Category as CategoryKind, Attribute, Schedule, Other as OtherKind}
+use Rattle.timetable.specs.Plan.{openingIn, formed, toldBy, toldIn, isOpening, opens, tolds, asCall, asRange, asOpening, callsOf, rangesOf, ofPart, partLines}
+use Rattle.timetable.specs.Service.{headLines, blocks, firstLine, firstOpening, serviceOf}
+use Rattle.timetable.specs.declared.Opening.{Opening}
+use Rattle.timetable.specs.declared.Part.{Part}
+use Rattle.timetable.specs.declared.Part.the-variants.{Category, Days, Extra}
+use Rattle.timetable.specs.declared.Told.{Told}
+use Rattle.timetable.specs.declared.Told.the-variants.{Skip, Other, Broken, Opens, Ranges, Calls}
+use Rattle.timetable.proofs.Told.{the-type}
+use Rattle.draft.specs.Draft.{callsLent, rangesLent, callsOn, rangesOn, onLine, countsOf, ranges#, noCounts, counted, Within, DraftOf}
+use Rattle.draft.specs.declared.Counts.{Counts}
+use Rattle.draft.specs.declared.Drafted.{Drafted}
+use Rattle.draft.proofs.Drafts.{within-none, draft-none, draft-more, counts-more}
+use Rattle.reading.specs.Reading.{serviceAt, Boundary, ServiceRead, NextLine, NextAs}
+use Rattle.reading.specs.declared.Next.{Next}
+use Rattle.reading.specs.declared.Next.the-variants.{Line as LineTold, End}
+use Rattle.reading.proofs.Heads.{cutLine, after, opens-first, blocks-open}
+
+-- ---- lines within the limits: so are those at their front
+
+tolds-append : (a b : List Line) → tolds (a ++ b) ≡ tolds a ++ tolds b
+unfolding tolds
+tolds-append [] b = refl
+tolds-append (l ∷ a) b = ap (λ (r : List Told). toldIn (l .text) ∷ r) (tolds-append a b)
+
+said-append : {X : Type 0} (say : Told → List X) (a b : List Line) → gathered say (tolds (a ++ b)) ≡ gathered say (tolds a) ++ gathered say (tolds b)
+said-append say a b = ap (gathered say) (tolds-append a b) ∙ gathered-append say (tolds a) (tolds b)
+
+calls-front : (a b : List Line) → length (callsOf a) ≤ length (callsOf (a ++ b))
+calls-front a b = omega (arith, ap length (said-append asCall a b), length-append (callsOf a) (callsOf b))
+
+part-front : (p : Part) (a b : List Line) → length (partLines p a) ≤ length (partLines p (a ++ b))
+part-front p a b =
+    let e : partLines p (a ++ b) ≡ partLines p a ++ partLines p b
+    = ap (gathered (ofPart p)) (said-append asRange a b) ∙ gathered-append (ofPart p) (rangesOf a) (rangesOf b) in
+    omega (arith, ap length e, length-append (partLines p a) (partLines p b))
+
+within-front : (a b : List Line) → Within (countsOf (a ++ b)) → Within (countsOf a)
+within-front a b w = record {
+  calls = omega (arith, w .calls, calls-front a b);
+  categories = omega (arith, w .categories, part-front Category a b);
+  days = omega (arith, w .days, part-front Days a b);
+  extras = omega (arith, w .extras, part-front Extra a b);
+}
+
+-- ---- the lines ls were read, up to line m at place e: they are drafted; the service's first line is line n at place `at`, and says `opening`
+
+pub record Reads (f : List ℕ) (at n : ℕ) (opening : Opening) (ls : List Line) (e m : ℕ) (k : Counts) (calls ranges : List ℕ) : Type 0 where
+  pub own : serviceAt f at n ≡ ls ++ headLines (linesAt f e m)
+  pub services : blocks (linesAt f at n) ≡ serviceAt f at n ∷ blocks (linesAt f e m)
+  pub draft : DraftOf ls k calls ranges
+  pub own-line : firstLine (serviceAt f at n) .no ≡ n
+  pub opened : serviceOf (serviceAt f at n) .opening ≡ opening
+  pub start : Boundary f at n
+  pub past : at < e
+  pub inside : e ≤ length f
+  pub number : m ≤ e + 1
+
+-- a line that opens a service says no call and no range
+says-no-more : (k : Kind) (text : List ℕ) → isOpening k ≡ true → (asCall (toldBy k text) ≡ []) × (asRange (toldBy k text) ≡ [])
+says-no-more OpeningKind text e = go (formOf serviceColumns text)
+  where
+    go : (f : Form) → (asCall (formed f (Opens (openingIn text))) ≡ []) × (asRange (formed f (Opens (openingIn text))) ≡ [])
+    go Fits = (refl, refl)
+    go (BrokenForm c) = (refl, refl)
+says-no-more CategoryKind text e = clash e
+says-no-more Attribute text e = clash e
+says-no-more Schedule text e = clash e
+says-no-more OtherKind text e = clash e
+
+opening-says : (l : Line) → opens l ≡ true → (asCall (toldIn (l .text)) ≡ []) × (asRange (toldIn (l .text)) ≡ [])
+unfolding opens toldIn
+opening-says l e = go (skipped (l .text)) (toldBy (kindOf (l .text)) (l .text)) (says-no-more (kindOf (l .text)) (l .text) e)
+  where
+    go : (s : Bool) (t : Told) → (asCall t ≡ []) × (asRange t ≡ []) → (asCall (cond s Skip t) ≡ []) × (asRange (cond s Skip t) ≡ [])
+    go true t h = (refl, refl)
+    go false t h = h
+
+draft-opening : (l : Line) (calls ranges : List ℕ) → opens l ≡ true → callsLent ≤ length calls → rangesLent ≤ length ranges → DraftOf (l ∷ []) noCounts calls ranges
+unfolding onLine
+draft-opening l calls ranges o c r =
+    let t : Told = toldIn (l .text) in
+    let s : (asCall t ≡ []) × (asRange t ≡ []) = opening-says l o in
+    draft-more [] noCounts noCounts calls ranges calls ranges l t (draft-none calls ranges c r) refl (rw (s .0, s .1) within-none) (rw (s .0, s .1) refl)
+    (rw (s .0, append-nil) refl) (rw (s .1, append-nil) refl) refl refl
+
+-- ---- the needs of `opening_of`, for `search opening`
+
+pub no-opening : (t : Told) → OneOf (0 ∷ 1 ∷ 2 ∷ 4 ∷ 5 ∷ []) (tagOf the-type t) → record { number = 0; high = 0; low = 0; repeats = 0; offset = 0 } ≡ firstOpening (asOpening t)
+no-opening Skip e = refl
+no-opening Other e = refl
+no-opening (Broken c) e = refl
+no-opening (Opens o) e = absurd (⊎-elim (λ w. omega arith) (⊎-elim (λ w. omega arith) (⊎-elim (λ w. omega arith) (⊎-elim (λ w. omega arith) (λ w. omega arith)))) e)
+no-opening (Ranges r) e = refl
+no-opening (Calls c) e = refl
+
+pub an-opening : (t : Told) (o : Opening) → t ≡ Opens o → o ≡ firstOpening (asOpening t)
+an-opening t o e = rw e refl
+
+pub ruleset opening = (tests, no-opening, an-opening)
+
+-- ---- from line to line
+
+-- at the first line
+pub reads-first : (f : List ℕ) (at n : ℕ) (r : Cut) (said : Told) (opening : Opening) (k : Counts) (calls ranges : List ℕ)
+    → Boundary f at n → at < length f → r ≡ cutAt f at n → said ≡ toldIn (take (r .stop - at) (drop at f)) → opening ≡ firstOpening (asOpening said)
+    → k ≡ noCounts → callsLent ≤ length calls → rangesLent ≤ length ranges
+    → Reads f at n opening (cutLine f at n r ∷ []) (r .next) (r .no) k calls ranges
+unfolding serviceOf
+reads-first f at n r said opening k calls ranges b h e d o z x y =
+    let c : Cutting f at n r = cutting f at n r h e in
+    let l : Line = cutLine f at n r in
+    let q : opens l ≡ true = opens-first l (after f r) (ap headLines (sym (c .step)) ∙ b .opening) in
+    record {
+      own = rw (c .step) refl;
+      services = rw (c .step) (blocks-open l (after f r) q);
+      draft = rw z (draft-opening l calls ranges q x y);
+      own-line = rw (c .step) refl;
+      opened = rw (c .step, o, d) refl;
+      start = b;
+      past = c .past;
+      inside = c .inside;
+      number = omega (arith, b .number, c);
+    }
+
+pub next-is : (f : List ℕ) (e m : ℕ) (r : Next) (said : Told) (next m′ : ℕ) → NextAs f e m r → r ≡ LineTold said next m′ → NextLine f e m said next m′
+next-is f e m r said next m′ a g = rw g at a
+
+module _ (f : List ℕ) (at n : ℕ) (opening : Opening) (ls : List Line) (e m : ℕ) (k : Counts) (calls ranges : List ℕ) (p : Reads f at n opening ls e m k calls ranges) where
+  reads-end : headLines (linesAt f e m) ≡ [] → ServiceRead f at n (record { opening = opening; line = n; counts = k; end = e; no = m }) calls ranges
+  reads-end z =
+      let whole : serviceAt f at n ≡ ls = p .own ∙ rw z (append-nil ls) in
+      record {
+        line = refl;
+        own-line = p .own-line;
+        opening = p .opened;
+        draft = rw whole (p .draft);
+        services = p .services;
+        past = p .past;
+        next = record { short = p .start .short; inside = p .inside; number = p .number; opening = z };
+      }
+
+  module _ (said : Told) (next m′ : ℕ) (x : NextLine f e m said next m′) where
+    -- what is left of the service
+    left : serviceAt f at n ≡ (ls ++ (x .line ∷ [])) ++ headLines (linesAt f next m′)
+    left = p .own ∙ (rw (x .head) refl ∙ sym (append-assoc ls (x .line ∷ []) (headLines (linesAt f next m′))))
+
+    reads-within : Within (countsOf (serviceAt f at n)) → Within (counted k said)
+    reads-within w =
+        let v : Within (countsOf (ls ++ (x .line ∷ []))) = within-front (ls ++ (x .line ∷ [])) (headLines (linesAt f next m′)) (rw left at w) in
+        let u : countsOf (ls ++ (x .line ∷ [])) ≡ counted k said = counts-more ls (x .line) ∙ rw (p .draft .counts, ← (x .told)) refl in
+        rw u at v
+
+    pub reads-more : (k′ : Counts) (calls′ ranges′ : List ℕ) → Within (counted k said) → k′ ≡ counted k said
+        → callsOn (k′ .calls) calls′ ≡ callsOn (k .calls) calls ++ onLine m (asCall said)
+        → rangesOn (ranges# k′) ranges′ ≡ rangesOn (ranges# k) ranges ++ onLine m (asRange said)
+        → length calls′ ≡ length calls → length ranges′ ≡ length ranges
+        → Reads f at n opening (ls ++ (x .line ∷ [])) next m′ k′ calls′ ranges′
+    reads-more k′ calls′ ranges′ w q c s i j = record {
+      own = left;
+      services = p .services ∙ rw (x .others) refl;
+      draft = draft-more ls k k′ calls ranges calls′ ranges′ (x .line) said (p .draft) (x .told) w q (rw (x .own-number) c) (rw (x .own-number) s) i j;
+      own-line = p .own-line;
+      opened = p .opened;
+      start = p .start;
+      past = omega (arith, p .past, x .past);
+      inside = x .inside;
+      number = x .number;
+    }
+
+-- ---- the needs of the loop of `read_again`, for `search passing`; r is what asking for the next line answers
+
+pub record Passed (f : List ℕ) (at n : ℕ) (opening : Opening) (e m : ℕ) (k : Counts) (calls ranges : List ℕ) : Type 0 where
+  pub ls : List Line
+  pub reads : Reads f at n opening ls e m k calls ranges
+
+pub pass-first : (f : List ℕ) (at n : ℕ) (r : Cut) (said : Told) (opening : Opening) (k : Counts) (calls ranges : List ℕ)
+    → Boundary f at n → at < length f → r ≡ cutAt f at n → said ≡ toldIn (take (r .stop - at) (drop at f)) → opening ≡ firstOpening (asOpening said)
+    → k ≡ noCounts → callsLent ≤ length calls → rangesLent ≤ length ranges
+    → Passed f at n opening (r .next) (r .no) k calls ranges
+pass-first f at n r said opening k calls ranges b h e d o z x y = record { ls = cutLine f at n r ∷ []; reads = reads-first f at n r said opening k calls ranges b h e d o z x y }
+
+pub pass-end : (f : List ℕ) (at n : ℕ) (opening : Opening) (ls : List Line) (e m : ℕ) (k : Counts) (calls ranges : List ℕ) (r : Next)
+    → Reads f at n opening ls e m k calls ranges → NextAs f e m r → r ≡ End → ServiceRead f at n (record { opening = opening; line = n; counts = k; end = e; no = m }) calls ranges
+pass-end f at n opening ls e m k calls ranges r p a g = reads-end f at n opening ls e m k calls ranges p (let z : headLines (linesAt f e m) ≡ [] = rw g at a in z)
+
+pub pass-less : (f : List ℕ) (e m : ℕ) (r : Next) (said : Told) (next m′ : ℕ) → NextAs f e m r → r ≡ LineTold said next m′ → length f - next < length f - e
+pass-less f e m r said next m′ a g = let x : NextLine f e m said next m′ = next-is f e m r said next m′ a g in omega (arith, x .past, x .inside)
+
+module _ (f : List ℕ) (at n : ℕ) (opening : Opening) (e m : ℕ) (k : Counts) (calls ranges : List ℕ) (p : Passed f at n opening e m k calls ranges)
+    (r : Next) (a : NextAs f e m r) (said : Told) (next m′ : ℕ) (g : r ≡ LineTold said next m′) where
+  pub pass-within : Within (countsOf (serviceAt f at n)) → Within (counted k said)
+  pass-within w = reads-within f at n opening (p .ls) e m k calls ranges (p .reads) said next m′ (next-is f e m r said next m′ a g) w
+
+  pub pass-more : (k′ : Counts) (calls′ ranges′ : List ℕ) → Within (counted k said) → k′ ≡ counted k said
+      → callsOn (k′ .calls) calls′ ≡ callsOn (k .calls) calls ++ onLine m (asCall said)
+      → rangesOn (ranges# k′) ranges′ ≡ rangesOn (ranges# k) ranges ++ onLine m (asRange said)
+      → length calls′ ≡ length calls → length ranges′ ≡ length ranges
+      → Passed f at n opening next m′ k′ calls′ ranges′
+  pass-more k′ calls′ ranges′ w q c s i j =
+      let x : NextLine f e m said next m′ = next-is f e m r said next m′ a g in
+      record { ls = p .ls ++ (x .line ∷ []); reads = reads-more f at n opening (p .ls) e m k calls ranges (p .reads) said next m′ x k′ calls′ ranges′ w q c s i j }
+
+pub ruleset passing = (tests, walk, pass-first, pass-end, pass-less, pass-within, pass-more)

@@ -1,0 +1,131 @@
+use mathlib.Core.Path.{_≡_}
+use Prim.Native.Nat.{_-_}
+use lib.ListN.{length}
+use Rattle.timetable.specs.Files.{bitFieldsIn, stopsIn}
+use Rattle.reading.proofs.Passing.{pass-less}
+use Rattle.reading.proofs.Checking.{Clean, checking}
+use Rattle.reading.proofs.read_checked.Statement.{statement}
+use Rattle.reading.proofs.read_checked.Tie as tie
+
+abbrev Inv-loop : tie.InvT-loop
+Inv-loop fplan at no' bitfeld bahnhof calls₀ ranges₀ stop counts₀ opening end₀ line₀ calls ranges counts end line =
+    (length calls ≡ length calls₀) × (length ranges ≡ length ranges₀) × Clean (bitFieldsIn bitfeld) (stopsIn bahnhof) fplan at no' opening end line counts calls ranges
+
+abbrev μ-loop : tie.MeasureT-loop
+μ-loop fplan at no' bitfeld bahnhof calls₀ ranges₀ stop counts₀ opening end₀ line₀ calls ranges counts end line =
+    length fplan - end
+
+line-from-requires : tie.Need-line-from-requires Inv-loop μ-loop
+line-from-requires c κs = search checking
+
+sub-told-in : tie.Need-sub-told-in Inv-loop μ-loop
+sub-told-in c = search checking
+
+part-told-in-start : tie.Need-part-told-in-start Inv-loop μ-loop
+part-told-in-start c = search checking
+
+part-told-in-end : tie.Need-part-told-in-end Inv-loop μ-loop
+part-told-in-end c = search checking
+
+told-in-requires : tie.Need-told-in-requires Inv-loop μ-loop
+told-in-requires c κs = search checking
+
+no-counts-requires : tie.Need-no-counts-requires Inv-loop μ-loop
+no-counts-requires c κs = search checking
+
+offence-after-requires : tie.Need-offence-after-requires Inv-loop μ-loop
+offence-after-requires c κs = search checking
+
+enum-known-offence : tie.Need-enum-known-offence Inv-loop μ-loop
+enum-known-offence c = search checking
+
+returns : tie.Need-returns Inv-loop μ-loop
+returns c = search checking
+
+enum-told : tie.Need-enum-told Inv-loop μ-loop
+enum-told c = search checking
+
+opening-of-requires : tie.Need-opening-of-requires Inv-loop μ-loop
+opening-of-requires c κs = search checking
+
+loop-holds : tie.Need-loop-holds Inv-loop μ-loop
+loop-holds c = search checking
+
+next-line-requires : tie.Need-next-line-requires Inv-loop μ-loop
+next-line-requires c κs = search checking
+
+enum-known-said : tie.Need-enum-known-said Inv-loop μ-loop
+enum-known-said c = search checking
+
+enum-told-2 : tie.Need-enum-told-2 Inv-loop μ-loop
+enum-told-2 c = search checking
+
+same-length : tie.Need-same-length Inv-loop μ-loop
+same-length c = search checking
+
+same-length-2 : tie.Need-same-length-2 Inv-loop μ-loop
+same-length-2 c = search checking
+
+returns-2 : tie.Need-returns-2 Inv-loop μ-loop
+returns-2 c = search checking
+
+offence-after-requires-2 : tie.Need-offence-after-requires-2 Inv-loop μ-loop
+offence-after-requires-2 c κs = search checking
+
+enum-known-offence-2 : tie.Need-enum-known-offence-2 Inv-loop μ-loop
+enum-known-offence-2 c = search checking
+
+same-length-3 : tie.Need-same-length-3 Inv-loop μ-loop
+same-length-3 c = search checking
+
+same-length-4 : tie.Need-same-length-4 Inv-loop μ-loop
+same-length-4 c = search checking
+
+returns-3 : tie.Need-returns-3 Inv-loop μ-loop
+returns-3 c = search checking
+
+enum-told-3 : tie.Need-enum-told-3 Inv-loop μ-loop
+enum-told-3 c = search checking
+
+draft-line-requires : tie.Need-draft-line-requires Inv-loop μ-loop
+draft-line-requires c κs = (search checking, (search checking, search checking))
+
+loop-less : tie.Need-loop-less Inv-loop μ-loop
+loop-less c = search pass-less
+
+loop-again : tie.Need-loop-again Inv-loop μ-loop
+loop-again c = (search checking, search checking, search checking)
+
+pub read-checked-spec : {M : Type 1} → statement M
+read-checked-spec =
+    tie.close
+    (tie.spec
+    Inv-loop
+    μ-loop
+    line-from-requires
+    sub-told-in
+    part-told-in-start
+    part-told-in-end
+    told-in-requires
+    no-counts-requires
+    offence-after-requires
+    enum-known-offence
+    returns
+    enum-told
+    opening-of-requires
+    loop-holds
+    next-line-requires
+    enum-known-said
+    enum-told-2
+    same-length
+    same-length-2
+    returns-2
+    offence-after-requires-2
+    enum-known-offence-2
+    same-length-3
+    same-length-4
+    returns-3
+    enum-told-3
+    draft-line-requires
+    loop-less
+    loop-again)

@@ -1,0 +1,242 @@
+// Reads FPLAN service by service: each line of a service is cut and told once, and drafted. A service ends where the next line that opens one
+// starts, or with the file.
+use draft::Counts;
+use draft::Drafted;
+use timetable::Offence;
+use timetable::Opening;
+use timetable::Part;
+use timetable::Told;
+use timetable::Verdict;
+ghost use mathlib.Core.Path.{_≡_};
+ghost use Prim.Native.Nat.{_+_, _≤_, _<_};
+ghost use lib.ListN.{length};
+ghost use lib.Dec.{leb};
+ghost use Rattle.timetable.specs.Layout.{mostFileBytes, mostCalls};
+ghost use Rattle.timetable.specs.Offences.{verdictBy};
+ghost use Rattle.timetable.specs.Files.{bitFieldsIn, stopsIn};
+ghost use Rattle.timetable.specs.Plan.{asOpening};
+ghost use Rattle.timetable.specs.Service.{firstOpening};
+ghost use Rattle.timetable.specs.Legs.{fieldKnown};
+ghost use Rattle.timetable.specs.Checks.{most};
+ghost use Rattle.draft.specs.Draft.{callsLent, rangesLent, countsOf, Within};
+ghost use Rattle.reading.specs.Reading.{serviceAt, Boundary, ServiceRead, ReadAs, HeadAs, NextAs, countOf, rangeAfter, callAfter, offenceAfter};
+
+// A service as it was read and drafted, or the first own offence of its lines.
+pub enum Read {
+    Service(Drafted),
+    Refused(Offence),
+}
+
+// Where the first service begins: the place and the number of its line (the file's end, where there is none); or the first line before it
+// that is not skipped (12).
+pub enum Head {
+    Clear(usize, u32),
+    Stray(Offence),
+}
+
+// The next line of a service: what it says, and the place and the number of the line after it; or that the service has no more.
+enum Next {
+    Line(Told, usize, u32),
+    End,
+}
+
+// The end of the lines before the first service.
+pub fn head_end(f: &[u8]) -> Head
+    requires { ⌜ length (now f) ≤ mostFileBytes ⌝ }
+    ensures { λ r. ⌜ HeadAs (now (f .entry)) r ⌝ }
+{
+    let mut at: usize = 0;
+    let mut no: u32 = 1;
+    while at < f.len() {
+        let cut = reader::line_from(f, at, no);
+        let stop = cut.stop;
+        if told::opens_service(&f[at..stop]) {
+            return Head::Clear(at, no);
+        }
+        if lines::skips(&f[at..stop]) {
+            at = cut.next;
+            no = cut.no;
+        } else {
+            return Head::Stray(timetable::offence_at(12, no));
+        }
+    }
+    Head::Clear(at, no)
+}
+
+// Reads the service that begins at a place, with line `no`, checks each of its lines (11, 4, 13, 9, 10) and drafts it. Bit fields are looked
+// up in BITFELD, stops in BAHNHOF.
+pub fn read_checked(
+    fplan: &[u8],
+    at: usize,
+    no: u32,
+    bitfeld: &[u8],
+    bahnhof: &[u8],
+    calls: &mut [u32],
+    ranges: &mut [u32],
+) -> Read
+    requires { ⌜ Boundary (now fplan) at no × (at < length (now fplan)) ⌝ }
+    requires { ⌜ (callsLent ≤ length (now calls)) × (rangesLent ≤ length (now ranges)) ⌝ }
+    ensures { λ r. ⌜ ReadAs (bitFieldsIn (now (bitfeld .entry))) (stopsIn (now (bahnhof .entry))) (now (fplan .entry)) at no r (now (calls .exit)) (now (ranges .exit)) ⌝ }
+{
+    let cut = reader::line_from(fplan, at, no);
+    let stop = cut.stop;
+    let first = told::told_in(&fplan[at..stop]);
+    let mut counts = draft::no_counts();
+    if let Verdict::Offends(offence) = offence_after(counts, first, no, bitfeld, bahnhof) {
+        return Read::Refused(offence);
+    }
+    let opening = opening_of(first);
+    let mut end = cut.next;
+    let mut line = cut.no;
+    loop {
+        let Next::Line(said, next, after) = next_line(fplan, end, line) else {
+            return Read::Service(Drafted {
+                opening,
+                line: no,
+                counts,
+                end,
+                no: line,
+            });
+        };
+        if let Verdict::Offends(offence) = offence_after(counts, said, line, bitfeld, bahnhof) {
+            return Read::Refused(offence);
+        }
+        counts = draft::draft_line(said, line, counts, calls, ranges);
+        end = next;
+        line = after;
+    }
+}
+
+// Reads the service that begins at a place, with line `no`, and drafts it, where its lines were checked.
+pub fn read_again(
+    fplan: &[u8],
+    at: usize,
+    no: u32,
+    calls: &mut [u32],
+    ranges: &mut [u32],
+) -> Drafted
+    requires { ⌜ Boundary (now fplan) at no × (at < length (now fplan)) ⌝ }
+    requires { ⌜ Within (countsOf (serviceAt (now fplan) at no)) ⌝ }
+    requires { ⌜ (callsLent ≤ length (now calls)) × (rangesLent ≤ length (now ranges)) ⌝ }
+    ensures { λ r. ⌜ ServiceRead (now (fplan .entry)) at no r (now (calls .exit)) (now (ranges .exit)) ⌝ }
+{
+    let cut = reader::line_from(fplan, at, no);
+    let stop = cut.stop;
+    let opening = opening_of(told::told_in(&fplan[at..stop]));
+    let mut counts = draft::no_counts();
+    let mut end = cut.next;
+    let mut line = cut.no;
+    loop {
+        let Next::Line(said, next, after) = next_line(fplan, end, line) else {
+            return Drafted {
+                opening,
+                line: no,
+                counts,
+                end,
+                no: line,
+            };
+        };
+        counts = draft::draft_line(said, line, counts, calls, ranges);
+        end = next;
+        line = after;
+    }
+}
+
+// The line of a service that starts at a place, if the service has one there. An opening line is not told here: its own service tells it.
+fn next_line(fplan: &[u8], at: usize, no: u32) -> Next
+    requires { ⌜ (length (now fplan) ≤ mostFileBytes) × (at ≤ length (now fplan)) × (no ≤ at + 1) ⌝ }
+    ensures { λ r. ⌜ NextAs (now (fplan .entry)) at no r ⌝ }
+{
+    if fplan.len() <= at {
+        return Next::End;
+    }
+    let cut = reader::line_from(fplan, at, no);
+    let stop = cut.stop;
+    if told::opens_service(&fplan[at..stop]) {
+        return Next::End;
+    }
+    Next::Line(told::told_in(&fplan[at..stop]), cut.next, cut.no)
+}
+
+// What an opening line says.
+fn opening_of(said: Told) -> Opening
+    ensures { λ r. ⌜ r ≡ firstOpening (asOpening said) ⌝ }
+{
+    let Told::Opens(opening) = said else {
+        return Opening {
+            number: 0,
+            high: 0,
+            low: 0,
+            repeats: 0,
+            offset: 0,
+        };
+    };
+    opening
+}
+
+// ---- a line's own offence, where so much of its service is counted before it
+
+fn offence_after(counts: Counts, said: Told, line: u32, bitfeld: &[u8], bahnhof: &[u8]) -> Verdict
+    ensures { λ r. ⌜ r ≡ verdictBy (offenceAfter (bitFieldsIn (now (bitfeld .entry))) (stopsIn (now (bahnhof .entry))) counts line said) ⌝ }
+{
+    match said {
+        Told::Skip => Verdict::Fine,
+        Told::Other => timetable::offends(11, line),
+        Told::Broken(column) => Verdict::Offends(Offence {
+            number: 4,
+            line,
+            column,
+        }),
+        Told::Opens(opening) => Verdict::Fine,
+        Told::Ranges(range) => {
+            let part = range.part;
+            range_offence(counts, part, range.field, line, bitfeld)
+        }
+        Told::Calls(call) => call_offence(counts, call.stop, line, bahnhof),
+    }
+}
+
+fn range_offence(counts: Counts, part: Part, field: u32, line: u32, bitfeld: &[u8]) -> Verdict
+    ensures { λ r. ⌜ r ≡ verdictBy (rangeAfter (bitFieldsIn (now (bitfeld .entry))) counts line part field) ⌝ }
+{
+    if full(counts, part) {
+        return timetable::offends(13, line);
+    }
+    if field_known(bitfeld, field) {
+        return Verdict::Fine;
+    }
+    timetable::offends(10, line)
+}
+
+fn call_offence(counts: Counts, stop: u32, line: u32, bahnhof: &[u8]) -> Verdict
+    ensures { λ r. ⌜ r ≡ verdictBy (callAfter (stopsIn (now (bahnhof .entry))) counts line stop) ⌝ }
+{
+    if timetable::MOST_CALLS <= counts.calls {
+        return timetable::offends(13, line);
+    }
+    if sections::known_stop(bahnhof, stop) {
+        return Verdict::Fine;
+    }
+    timetable::offends(9, line)
+}
+
+// Whether a service has as many ranges of a kind as it may have.
+fn full(counts: Counts, part: Part) -> bool
+    ensures { λ r. ⌜ r ≡ leb (most part) (countOf part counts) ⌝ }
+{
+    match part {
+        Part::Category => timetable::MOST_CATEGORIES <= counts.categories,
+        Part::Days => timetable::MOST_DAYS <= counts.days,
+        Part::Extra => timetable::MOST_EXTRAS <= counts.extras,
+    }
+}
+
+// Whether a bit field is daily or in BITFELD.
+fn field_known(bitfeld: &[u8], field: u32) -> bool
+    ensures { λ r. ⌜ r ≡ fieldKnown field (bitFieldsIn (now (bitfeld .entry))) ⌝ }
+{
+    if field == 0 {
+        return true;
+    }
+    sections::known_field(bitfeld, field)
+}

@@ -1,0 +1,102 @@
+-- `sections::check_section` meets its contract: what the lines from the loop's place on answer, after those before it, is what all answer.
+-- Assumes nothing.
+use mathlib.Core.Path.{_≡_}
+use mathlib.Core.List.{[]}
+use Prim.Native.Nat.{_+_, _-_}
+use lib.ListN.{length, take, drop}
+use Rattle.lines.specs.Lines.{linesFrom, linesOf}
+use Rattle.timetable.specs.Offences.{first, checkedBy}
+use Rattle.timetable.specs.Files.{held-in, stopOf}
+use Rattle.sections.specs.Sections.{numbers, lineOffence}
+use Rattle.sections.proofs.Walk.{Walked}
+use Rattle.sections.proofs.Scans.{scanFrom, scans}
+use Rattle.sections.proofs.check_section.Statement.{statement}
+use Rattle.sections.proofs.check_section.Tie as tie
+
+abbrev Inv-loop : tie.InvT-loop
+Inv-loop section f days bahnhof at₀ no₀ count₀ at no' count =
+    Walked f at no' × (count ≡ length (numbers section (linesOf (take at f))))
+    × (scanFrom (lineOffence section days (held-in stopOf (linesOf bahnhof))) section (linesOf (take at f)) count no' (linesFrom no' at (drop at f))
+    ≡ checkedBy (first (lineOffence section days (held-in stopOf (linesOf bahnhof))) [] (linesOf f)) (length (numbers section (linesOf f))) (length (linesOf f) + 1))
+
+abbrev μ-loop : tie.MeasureT-loop
+μ-loop section f days bahnhof at₀ no₀ count₀ at no' count = length f - at
+
+loop-holds : tie.Need-loop-holds Inv-loop μ-loop
+loop-holds c = search scans
+
+line-from-requires : tie.Need-line-from-requires Inv-loop μ-loop
+line-from-requires c κs = search scans
+
+sub-text : tie.Need-sub-text Inv-loop μ-loop
+sub-text c = search scans
+
+part-text-start : tie.Need-part-text-start Inv-loop μ-loop
+part-text-start c = search scans
+
+part-text-end : tie.Need-part-text-end Inv-loop μ-loop
+part-text-end c = search scans
+
+number-on-requires : tie.Need-number-on-requires Inv-loop μ-loop
+number-on-requires c κs = search scans
+
+sub-line-verdict : tie.Need-sub-line-verdict Inv-loop μ-loop
+sub-line-verdict c = search scans
+
+part-line-verdict-start : tie.Need-part-line-verdict-start Inv-loop μ-loop
+part-line-verdict-start c = search scans
+
+part-line-verdict-end : tie.Need-part-line-verdict-end Inv-loop μ-loop
+part-line-verdict-end c = search scans
+
+line-verdict-requires : tie.Need-line-verdict-requires Inv-loop μ-loop
+line-verdict-requires c κs = search scans
+
+enum-known-own : tie.Need-enum-known-own Inv-loop μ-loop
+enum-known-own c = search scans
+
+returns : tie.Need-returns Inv-loop μ-loop
+returns c = search scans
+
+enum-told : tie.Need-enum-told Inv-loop μ-loop
+enum-told c = search scans
+
+records-of-requires : tie.Need-records-of-requires Inv-loop μ-loop
+records-of-requires c κs = search scans
+
+add-count : tie.Need-add-count Inv-loop μ-loop
+add-count c = search scans
+
+loop-less : tie.Need-loop-less Inv-loop μ-loop
+loop-less c = search scans
+
+loop-again : tie.Need-loop-again Inv-loop μ-loop
+loop-again c = search scans
+
+returns-2 : tie.Need-returns-2 Inv-loop μ-loop
+returns-2 c = search scans
+
+pub check-section-spec : {M : Type 1} → statement M
+check-section-spec =
+    tie.close
+    (tie.spec
+    Inv-loop
+    μ-loop
+    loop-holds
+    line-from-requires
+    sub-text
+    part-text-start
+    part-text-end
+    number-on-requires
+    sub-line-verdict
+    part-line-verdict-start
+    part-line-verdict-end
+    line-verdict-requires
+    enum-known-own
+    returns
+    enum-told
+    records-of-requires
+    add-count
+    loop-less
+    loop-again
+    returns-2)

@@ -1,0 +1,64 @@
+use Rattle.sections.proofs.Offences.{line-checks}
+use Rattle.sections.proofs.line_verdict.Statement.{statement}
+use Rattle.sections.proofs.line_verdict.Tie as tie
+
+enum-told : tie.Need-enum-told
+enum-told c = search line-checks
+
+enum-known-n : tie.Need-enum-known-n
+enum-known-n c = search line-checks
+
+enum-known-n-2 : tie.Need-enum-known-n-2
+enum-known-n-2 c = search line-checks
+
+enum-told-2 : tie.Need-enum-told-2
+enum-told-2 c = search line-checks
+
+field-verdict-requires : tie.Need-field-verdict-requires
+field-verdict-requires c κs = search line-checks
+
+enum-told-3 : tie.Need-enum-told-3
+enum-told-3 c = search line-checks
+
+stop-verdict-requires : tie.Need-stop-verdict-requires
+stop-verdict-requires c κs = search line-checks
+
+enum-told-4 : tie.Need-enum-told-4
+enum-told-4 c = search line-checks
+
+interchange-verdict-requires : tie.Need-interchange-verdict-requires
+interchange-verdict-requires c κs = search line-checks
+
+returns : tie.Need-returns
+returns c = search line-checks
+
+returns-2 : tie.Need-returns-2
+returns-2 c = search line-checks
+
+returns-3 : tie.Need-returns-3
+returns-3 c = search line-checks
+
+returns-4 : tie.Need-returns-4
+returns-4 c = search line-checks
+
+returns-5 : tie.Need-returns-5
+returns-5 c = search line-checks
+
+pub line-verdict-spec : {M : Type 1} → statement M
+line-verdict-spec =
+    tie.close
+    (tie.spec
+    enum-told
+    enum-known-n
+    enum-known-n-2
+    enum-told-2
+    field-verdict-requires
+    enum-told-3
+    stop-verdict-requires
+    enum-told-4
+    interchange-verdict-requires
+    returns
+    returns-2
+    returns-3
+    returns-4
+    returns-5)

@@ -1,0 +1,251 @@
+-- A service's words as the code writes them: its calls, the parts after them, its head. Assumes nothing.
+use mathlib.Core.Path.{_≡_, refl, sym, ap, _∙_}
+use mathlib.Core.List.{List, [], _∷_, _++_, append-nil}
+use mathlib.Core.Bool.{Bool, true, false, cond}
+use mathlib.Core.Option.{Option, none, some}
+use Prim.Native.Nat.{ℕ, _+_, _-_, _*_, _/_, _≤_}
+use native.Mathlib.Omega.{arith}
+use lib.ListN.{length, length-append}
+use Rattle.base.specs.Lists.{gathered}
+use Rattle.base.proofs.Laws.{tests}
+use Rattle.base.proofs.Lists.{gathered-append}
+use Rattle.words.specs.Words.{write}
+use Rattle.words.proofs.Laws.{write-write, write-before}
+use Rattle.timetable.specs.Layout.{serviceHead, callSize, categorySize, daySize, extraSize}
+use Rattle.timetable.specs.Delivery.{Legs, CategoryRange, DayRange, ExtraRange, Service}
+use Rattle.timetable.specs.Plan.{isPart, ofPart}
+use Rattle.timetable.specs.Service.{legsOn, withLegs, categoryRange, dayRange, extraRange}
+use Rattle.timetable.specs.Table.{callWords, categoryWords, dayWords, extraWords, headWords, serviceWords}
+use Rattle.timetable.specs.declared.Call.{Call}
+use Rattle.timetable.specs.declared.Opening.{Opening}
+use Rattle.timetable.specs.declared.Part.{Part}
+use Rattle.timetable.specs.declared.Part.the-variants.{Category, Days, Extra}
+use Rattle.timetable.specs.declared.RangeLine.{RangeLine}
+use Rattle.timetable.proofs.Rows.{all-any, any, length-gathered}
+use Rattle.draft.specs.Draft.{callsIn, partIn, draftedService}
+use Rattle.route.proofs.Laws.{length-calls}
+use Rattle.service_words.specs.Parts.{foundWords, partWords, rangeWords, rangeEnds, bodyOf, sizesBy, sizesOf, headBy}
+use Rattle.service_words.specs.declared.RangeEnds.{RangeEnds}
+use Rattle.service_words.specs.declared.Sizes.{Sizes}
+
+-- ---- a part is the part of the service
+
+-- ranges of a kind X, made of a range line and written
+module _ {X : Type 0} (p : Part) (cs : List Call) (made : RangeLine → List X) (words : X → List ℕ) (same : (r : RangeLine) → gathered words (made r) ≡ foundWords p r (legsOn cs r)) where
+  part-of : (rs : List RangeLine) → gathered words (gathered made (partIn p rs)) ≡ partWords p cs rs
+  unfolding gathered
+  part-of [] = refl
+  part-of (r ∷ rs) =
+      ap (gathered words) (gathered-append made (ofPart p r) (partIn p rs))
+      ∙ gathered-append words (gathered made (ofPart p r)) (gathered made (partIn p rs))
+      ∙ ap (λ (vs : List ℕ). gathered words (gathered made (ofPart p r)) ++ vs) (part-of rs)
+      ∙ ap (λ (vs : List ℕ). vs ++ partWords p cs rs) (go (isPart p r))
+    where
+      go : (b : Bool) → gathered words (gathered made (cond b (r ∷ []) [])) ≡ cond b (foundWords p r (legsOn cs r)) []
+      go true = ap (gathered words) (append-nil (made r)) ∙ same r
+      go false = refl
+
+module _ (cs : List Call) (rs : List RangeLine) where
+  categories-part : gathered categoryWords (gathered (categoryRange cs) (partIn Category rs)) ≡ partWords Category cs rs
+  unfolding gathered
+  categories-part = part-of Category cs (categoryRange cs) categoryWords (λ r. go r (legsOn cs r)) rs
+    where
+      go : (r : RangeLine) (o : Option Legs) → gathered categoryWords (withLegs (λ (x : Legs). record { name = r .name; legs = x }) o) ≡ foundWords Category r o
+      go r none = refl
+      go r (some g) = refl
+
+  days-part : gathered dayWords (gathered (dayRange cs) (partIn Days rs)) ≡ partWords Days cs rs
+  unfolding gathered
+  days-part = part-of Days cs (dayRange cs) dayWords (λ r. go r (legsOn cs r)) rs
+    where
+      go : (r : RangeLine) (o : Option Legs) → gathered dayWords (withLegs (λ (x : Legs). record { field = r .field; legs = x }) o) ≡ foundWords Days r o
+      go r none = refl
+      go r (some g) = refl
+
+  extras-part : gathered extraWords (gathered (extraRange cs) (partIn Extra rs)) ≡ partWords Extra cs rs
+  unfolding gathered
+  extras-part = part-of Extra cs (extraRange cs) extraWords (λ r. go r (legsOn cs r)) rs
+    where
+      go : (r : RangeLine) (o : Option Legs) → gathered extraWords (withLegs (λ (x : Legs). record { code = r .name; field = r .field; legs = x }) o) ≡ foundWords Extra r o
+      go r none = refl
+      go r (some g) = refl
+
+-- ---- how many words each takes
+
+calls-size : (cs : List Call) → length (gathered callWords cs) ≡ callSize * length cs
+calls-size cs = length-gathered callWords callSize any (λ x h. refl) (all-any cs)
+
+categories-size : (rs : List CategoryRange) → length (gathered categoryWords rs) ≡ categorySize * length rs
+categories-size rs = length-gathered categoryWords categorySize any (λ x h. refl) (all-any rs)
+
+days-size : (rs : List DayRange) → length (gathered dayWords rs) ≡ daySize * length rs
+days-size rs = length-gathered dayWords daySize any (λ x h. refl) (all-any rs)
+
+extras-size : (rs : List ExtraRange) → length (gathered extraWords rs) ≡ extraSize * length rs
+extras-size rs = length-gathered extraWords extraSize any (λ x h. refl) (all-any rs)
+
+-- ---- the words of a drafted service
+
+module _ (o : Opening) (line : ℕ) (cs : List Call) (rs : List RangeLine) where
+  abbrev s : Service
+  s = draftedService o line cs rs
+
+  head-and-body : serviceWords s ≡ headWords s ++ bodyOf cs rs
+  unfolding serviceWords draftedService
+  head-and-body = rw (categories-part cs rs, days-part cs rs, extras-part cs rs) refl
+
+  words-size : length (serviceWords s) ≡ serviceHead + length (bodyOf cs rs)
+  words-size = ap length head-and-body ∙ length-append (headWords s) (bodyOf cs rs)
+
+  three : (v m : ℕ) → v ≡ 3 * m → v / 3 ≡ m
+  three v m e = omega arith
+
+  four : (v m : ℕ) → v ≡ 4 * m → v / 4 ≡ m
+  four v m e = omega arith
+
+  categories-count : length (partWords Category cs rs) ≡ categorySize * length (s .categories)
+  unfolding draftedService
+  categories-count = ap length (sym (categories-part cs rs)) ∙ categories-size (s .categories)
+
+  days-count : length (partWords Days cs rs) ≡ daySize * length (s .days)
+  unfolding draftedService
+  days-count = ap length (sym (days-part cs rs)) ∙ days-size (s .days)
+
+  extras-count : length (partWords Extra cs rs) ≡ extraSize * length (s .extras)
+  unfolding draftedService
+  extras-count = ap length (sym (extras-part cs rs)) ∙ extras-size (s .extras)
+
+  sizes-told : sizesBy cs rs ≡ sizesOf s
+  unfolding draftedService
+  sizes-told =
+      rw (
+        three (length (partWords Category cs rs)) (length (s .categories)) categories-count,
+        three (length (partWords Days cs rs)) (length (s .days)) days-count,
+        four (length (partWords Extra cs rs)) (length (s .extras)) extras-count,
+        words-size,
+      ) refl
+
+  head-told : headBy (sizesOf s) o line ≡ headWords s
+  unfolding draftedService
+  head-told =
+      let e : length (serviceWords s) ≡ serviceHead + callSize * length (s .calls) + categorySize * length (s .categories) + daySize * length (s .days) + extraSize * length (s .extras) =
+      omega (
+        arith,
+        words-size,
+        calls-size cs,
+        categories-count,
+        days-count,
+        extras-count,
+        length-append (gathered callWords cs) (rangeWords cs rs),
+        length-append (partWords Category cs rs) (partWords Days cs rs ++ partWords Extra cs rs),
+        length-append (partWords Days cs rs) (partWords Extra cs rs),
+      ) in
+      rw e refl
+
+  module _ (t : List ℕ) (q : ℕ) (room : q + length (serviceWords s) ≤ length t) where
+    pub room-body : q + serviceHead + length (bodyOf cs rs) ≤ length t
+    room-body = omega (arith, words-size)
+
+    pub room-head : (t₁ : List ℕ) → length t₁ ≡ length t → q + serviceHead ≤ length t₁
+    room-head t₁ l = omega (arith, words-size)
+
+    pub service-written : (t₁ t₂ : List ℕ) (z : Sizes) → t₁ ≡ write t (q + serviceHead) (bodyOf cs rs) → z ≡ sizesBy cs rs → t₂ ≡ write t₁ q (headBy z o line) → t₂ ≡ write t q (serviceWords s)
+    service-written t₁ t₂ z e₁ ez e₂ =
+        e₂ ∙ ap (λ (z : Sizes). write t₁ q (headBy z o line)) (ez ∙ sizes-told) ∙ ap (write t₁ q) head-told ∙ rw e₁ (write-before t q (headWords s) (bodyOf cs rs) (room-head t refl)) ∙ ap (write t q) (sym head-and-body)
+
+  pub service-sizes : (z : Sizes) → z ≡ sizesBy cs rs → z ≡ sizesOf s
+  service-sizes z e = e ∙ sizes-told
+
+  pub body-fits : length (serviceWords s) ≤ 4294967295 → serviceHead + length (bodyOf cs rs) ≤ 4294967295
+  body-fits h = omega (arith, words-size)
+
+-- the needs of `service_into`
+pub ruleset services = (tests, room-body, room-head, body-fits, service-sizes, service-written)
+
+-- ---- the eleven words of the head
+
+pub head-written : (t t₁ t₂ t₃ : List ℕ) (q : ℕ) (z : Sizes) (o : Opening) (line : ℕ) → q + serviceHead ≤ length t
+    → t₁ ≡ write t q (z .words ∷ o .number ∷ o .high ∷ o .low ∷ []) → t₂ ≡ write t₁ (q + 4) (o .repeats ∷ o .offset ∷ z .calls ∷ z .categories ∷ [])
+    → t₃ ≡ write t₂ (q + 8) (z .«day_ranges» ∷ z .extras ∷ line ∷ []) → t₃ ≡ write t q (headBy z o line)
+head-written t t₁ t₂ t₃ q z o line h e₁ e₂ e₃ =
+    let A : List ℕ = z .words ∷ o .number ∷ o .high ∷ o .low ∷ [] in
+    let B : List ℕ = o .repeats ∷ o .offset ∷ z .calls ∷ z .categories ∷ [] in
+    let C : List ℕ = z .«day_ranges» ∷ z .extras ∷ line ∷ [] in
+    let two : t₂ ≡ write t q (A ++ B) = e₂ ∙ rw e₁ (write-write t q A B (omega arith)) in
+    e₃ ∙ rw two (write-write t q (A ++ B) C (omega arith))
+
+pub ruleset heading = (tests, head-written)
+
+-- ---- one run of words after another: A from place q on, then B from m on
+
+module _ (A B t : List ℕ) (q : ℕ) (room : q + length (A ++ B) ≤ length t) where
+  pub room-first : q + length A ≤ length t
+  room-first = omega (arith, length-append A B)
+
+  module _ (m : ℕ) (e : m ≡ q + length A) where
+    pub room-second : (t₁ : List ℕ) → length t₁ ≡ length t → m + length B ≤ length t₁
+    room-second t₁ l = omega (arith, length-append A B)
+
+    pub joined : (t₁ t₂ : List ℕ) → t₁ ≡ write t q A → t₂ ≡ write t₁ m B → t₂ ≡ write t q (A ++ B)
+    joined t₁ t₂ e₁ e₂ = e₂ ∙ rw (e₁, e) (write-write t q A B room-first)
+
+-- ---- three runs, for `search ranging`: A from place q on, B from m on, C from k on
+
+module _ (A B C t : List ℕ) (q : ℕ) (room : q + length (A ++ (B ++ C)) ≤ length t) (m : ℕ) (e : m ≡ q + length A) where
+  pub room-middle : (t₁ : List ℕ) → length t₁ ≡ length t → m + length B ≤ length t₁
+  room-middle t₁ l = omega (arith, length-append A (B ++ C), length-append B C)
+
+  module _ (k : ℕ) (d : k ≡ m + length B) where
+    pub joined-three : (t₁ t₂ t₃ : List ℕ) → t₁ ≡ write t q A → t₂ ≡ write t₁ m B → t₃ ≡ write t₂ k C → length t₁ ≡ length t → t₃ ≡ write t q (A ++ (B ++ C))
+    joined-three t₁ t₂ t₃ e₁ e₂ e₃ l = joined A (B ++ C) t q room m e t₁ t₃ e₁ (joined B C t₁ m (room-second A (B ++ C) t q room m e t₁ l) k d t₂ t₃ e₂ e₃)
+
+pub range-count : (cs : List Call) (rs : List RangeLine) → length (rangeWords cs rs) ≡ length (partWords Category cs rs) + (length (partWords Days cs rs) + length (partWords Extra cs rs))
+range-count cs rs = rw (length-append (partWords Category cs rs) (partWords Days cs rs ++ partWords Extra cs rs), length-append (partWords Days cs rs) (partWords Extra cs rs)) refl
+
+pub range-ends : (q : ℕ) (cs : List Call) (rs : List RangeLine) (g v a : ℕ) → g ≡ q + length (partWords Category cs rs) → v ≡ g + length (partWords Days cs rs) → a ≡ v + length (partWords Extra cs rs)
+    → record { categories = g; «day_ranges» = v; extras = a } ≡ rangeEnds q cs rs
+range-ends q cs rs g v a e₁ e₂ e₃ = rw (e₃, e₂, e₁)
+
+pub ruleset ranging = (tests, room-first, room-middle, joined-three, range-ends)
+
+-- ---- the needs of `body_into`, for `search bodies`: g is where the ranges begin, r where they end
+
+body-count : (cs : List Call) (rs : List RangeLine)
+    → length (bodyOf cs rs) ≡ length (gathered callWords cs) + (length (partWords Category cs rs) + (length (partWords Days cs rs) + length (partWords Extra cs rs)))
+body-count cs rs = length-append (gathered callWords cs) (rangeWords cs rs) ∙ ap (λ (k : ℕ). length (gathered callWords cs) + k) (range-count cs rs)
+
+module _ (c : ℕ) (w : List ℕ) (rs : List RangeLine) (q g : ℕ) (e : g ≡ q + length (gathered callWords (callsIn c w))) (r : RangeEnds) (k : r ≡ rangeEnds g (callsIn c w) rs) where
+  abbrev cs : List Call
+  cs = callsIn c w
+
+  ends : (r .categories ≡ g + length (partWords Category cs rs)) × (r .«day_ranges» ≡ r .categories + length (partWords Days cs rs)) × (r .extras ≡ r .«day_ranges» + length (partWords Extra cs rs))
+  ends = rw k (refl, refl, refl)
+
+  pub after-calls : q ≤ g
+  after-calls = omega arith
+
+  pub after-start : g ≤ r .categories
+  after-start = omega (arith, ends)
+
+  pub after-categories : r .categories ≤ r .«day_ranges»
+  after-categories = omega (arith, ends)
+
+  pub after-days : r .«day_ranges» ≤ r .extras
+  after-days = omega (arith, ends)
+
+  pub body-sizes : (z : Sizes) → z ≡ record { calls = c; categories = (r .categories - g) / categorySize; «day_ranges» = (r .«day_ranges» - r .categories) / daySize; extras = (r .extras - r .«day_ranges») / extraSize; words = serviceHead + (r .extras - q) }
+      → z ≡ sizesBy (callsIn c w) rs
+  body-sizes z d =
+      let a : r .categories - g ≡ length (partWords Category cs rs) = omega (arith, ends) in
+      let b : r .«day_ranges» - r .categories ≡ length (partWords Days cs rs) = omega (arith, ends) in
+      let x : r .extras - r .«day_ranges» ≡ length (partWords Extra cs rs) = omega (arith, ends) in
+      let y : r .extras - q ≡ length (bodyOf cs rs) = omega (arith, ends, body-count cs rs) in
+      d ∙ rw (a, b, x, y, length-calls c w) refl
+
+pub body-ends : (cs : List Call) (rs : List RangeLine) (q g : ℕ) (r : RangeEnds) → r ≡ rangeEnds g cs rs → g ≡ q + length (gathered callWords cs) → serviceHead + length (bodyOf cs rs) ≤ 4294967295
+    → serviceHead + (r .extras - q) ≤ 4294967295
+body-ends cs rs q g r k e h =
+    let x : r .extras ≡ rangeEnds g cs rs .extras = ap (λ (r : RangeEnds). r .extras) k in
+    omega (arith, body-count cs rs)
+
+pub ruleset bodies = (tests, room-first, room-second, joined, after-calls, after-start, after-categories, after-days, body-ends, body-sizes)

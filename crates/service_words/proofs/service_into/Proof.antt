@@ -1,0 +1,22 @@
+use Rattle.service_words.proofs.Whole.{services}
+use Rattle.service_words.proofs.service_into.Statement.{statement}
+use Rattle.service_words.proofs.service_into.Tie as tie
+
+add-body-into : tie.Need-add-body-into
+add-body-into c = search services
+
+body-into-requires : tie.Need-body-into-requires
+body-into-requires c κs = search services
+
+head-into-requires : tie.Need-head-into-requires
+head-into-requires c κs = search services
+
+same-length : tie.Need-same-length
+same-length c = search services
+
+returns : tie.Need-returns
+returns c = search services
+
+pub service-into-spec : {M : Type 1} → statement M
+service-into-spec =
+    tie.close (tie.spec add-body-into body-into-requires head-into-requires same-length returns)

@@ -1,0 +1,92 @@
+-- The sizes of the table's records and the limits of the rules, each a number of the paper with a name. The code's names for them are tied to
+-- these by `timetable::sizes_tied` and `limits_tied`. Assumes nothing.
+use Prim.Native.Nat.{ℕ, _+_, _*_}
+
+-- ---- sizes in words
+
+-- "Header: words used, first day, n, bit fields B, stops S, interchange records U, services V, place of first service."
+abbrev pub headerSize : ℕ
+headerSize = 8
+
+-- "per bit field 13 (number, 12 words)"
+abbrev pub bitFieldSize : ℕ
+bitFieldSize = 13
+
+-- "stop 3 (number, byte offset .., name length ..)"
+abbrev pub stopSize : ℕ
+stopSize = 3
+
+-- "interchange 3 (number, two times)"
+abbrev pub interchangeSize : ℕ
+interchangeSize = 3
+
+-- "Service: .. 11 words."
+abbrev pub serviceHead : ℕ
+serviceHead = 11
+
+-- "calls of 4"
+abbrev pub callSize : ℕ
+callSize = 4
+
+-- "*G of 3"
+abbrev pub categorySize : ℕ
+categorySize = 3
+
+-- "*A VE of 3"
+abbrev pub daySize : ℕ
+daySize = 3
+
+-- "other of 4"
+abbrev pub extraSize : ℕ
+extraSize = 4
+
+-- "Rows of 7"
+abbrev pub rowSize : ℕ
+rowSize = 7
+
+-- the words of a service with c calls, g *G, v *A VE and a other *A: "11 + 4c + 3g + 3v + 4a"
+abbrev pub recordSize : ℕ → ℕ → ℕ → ℕ → ℕ
+recordSize c g v a = serviceHead + callSize * c + categorySize * g + daySize * v + extraSize * a
+
+-- the place of the first service: "8 + 13B + 3S + 3U"
+abbrev pub firstService : ℕ → ℕ → ℕ → ℕ
+firstService b s u = headerSize + bitFieldSize * b + stopSize * s + interchangeSize * u
+
+-- ---- limits
+
+-- "1 file over 16,777,216 bytes"
+abbrev pub mostFileBytes : ℕ
+mostFileBytes = 16777216
+
+-- "A period of n days has 1 to 380."
+abbrev pub mostPeriodDays : ℕ
+mostPeriodDays = 380
+
+-- "13 in one service over 200 calls, 50 *G, 50 *A VE or 100 other *A"
+abbrev pub mostCalls : ℕ
+mostCalls = 200
+
+abbrev pub mostCategories : ℕ
+mostCategories = 50
+
+abbrev pub mostDays : ℕ
+mostDays = 50
+
+abbrev pub mostExtras : ℕ
+mostExtras = 100
+
+-- "repeats or offset over 999"
+abbrev pub mostRepeats : ℕ
+mostRepeats = 999
+
+-- "a time over 59,999"
+abbrev pub latestTime : ℕ
+latestTime = 59999
+
+-- "flags over 15"
+abbrev pub allFlags : ℕ
+allFlags = 15
+
+-- how late the last repeat may be: repeats times offset
+abbrev pub mostDelay : ℕ
+mostDelay = 998001

@@ -1,0 +1,75 @@
+-- "The days, calls and categories are those of that same delivery's text": what an accepted delivery holds is what the lines of its five files say.
+-- Every line of every file was read, so no record is dropped unseen, and what is looked up by a line's number is that line's own.
+-- Proved in proofs/Text.antt: `own-text`. Assumes nothing.
+use mathlib.Core.Path.{_≡_}
+use mathlib.Core.List.{List, [], _∷_, _++_}
+use mathlib.Core.Bool.{true, false}
+use mathlib.Core.Option.{some}
+use Prim.Native.Nat.{ℕ, _+_, _-_}
+use lib.ListN.{length, getElem?}
+use lib.Dec.{eqb}
+use Rattle.base.specs.Lists.{All, find, gathered}
+use Rattle.bitfield.specs.BitField.{runsOn}
+use Rattle.calendar.specs.Calendar.{dateIn}
+use Rattle.calendar.specs.declared.Date.the-variants.{Day}
+use Rattle.forms.specs.Form.{fits}
+use Rattle.forms.specs.Columns.{dateColumns}
+use Rattle.lines.specs.Lines.{Line, linesOf, skipped}
+use Rattle.timetable.specs.Delivery.{Files, Period, BitField, StopRecord, Interchange, Service}
+use Rattle.timetable.specs.Files.{Held, held, bitFieldOf, stopOf, interchangeOf}
+use Rattle.timetable.specs.Plan.{tolds, partLines}
+use Rattle.timetable.specs.Service.{headLines, blocks, serviceOf}
+use Rattle.timetable.specs.Legs.{fieldRuns}
+use Rattle.timetable.specs.Load.{delivered}
+use Rattle.timetable.specs.declared.Part.the-variants.{Category, Days, Extra}
+use Rattle.timetable.specs.declared.Told.{Told}
+use Rattle.timetable.specs.declared.Told.the-variants.{Other, Broken}
+
+-- ECKDATEN: "lines 1, 2: 1-10 DD.MM.YYYY, rest free; line 3 free; exactly three lines"
+pub record ThreeLines (ls : List Line) (p : Period) : Type 0 where
+  pub first : Line
+  pub second : Line
+  pub third : Line
+  pub exactly : ls ≡ first ∷ second ∷ third ∷ []
+  pub forms : (fits dateColumns (first .text) ≡ true) × (fits dateColumns (second .text) ≡ true)
+  -- the first day of the period, and the last
+  pub start : dateIn (first .text) ≡ Day (p .start)
+  pub end : dateIn (second .text) ≡ Day (p .start + p .days - 1)
+
+-- BITFELD, BAHNHOF, UMSTEIGB: each line is skipped, or gives the next record
+pub data Records {X : Type 0} (of : Line → Held X) : List Line → List X → Type 0 where
+  no-line : Records of [] []
+  skips : {l : Line} {ls : List Line} {xs : List X} → skipped (l .text) ≡ true → Records of ls xs → Records of (l ∷ ls) xs
+  gives : {l : Line} {ls : List Line} {x : X} {xs : List X} → skipped (l .text) ≡ false → of l ≡ held x → Records of ls xs → Records of (l ∷ ls) (x ∷ xs)
+
+-- FPLAN: the i-th service is what the lines of the i-th block say; every line was read, and each line of a range gives one range
+pub record FromText (bs : List (List Line)) (i : ℕ) (s : Service) : Type 0 where
+  pub lines : List Line
+  pub block : getElem? bs i ≡ some lines
+  pub read : serviceOf lines ≡ s
+  pub categories : length (s .categories) ≡ length (partLines Category lines)
+  pub days : length (s .days) ≡ length (partLines Days lines)
+  pub extras : length (s .extras) ≡ length (partLines Extra lines)
+  pub lines-read : All (λ (t : Told). (t ≡ Other → ⊥) × ((c : ℕ) → t ≡ Broken c → ⊥)) (tolds lines)
+
+-- every line of every file
+pub record EveryLine (f : Files) : Type 0 where
+  pub eckdaten : ThreeLines (linesOf (f .eckdaten)) (delivered f .period)
+  pub bitfeld : Records bitFieldOf (linesOf (f .bitfeld)) (delivered f .fields)
+  pub bahnhof : Records stopOf (linesOf (f .bahnhof)) (delivered f .stops)
+  pub umsteigb : Records interchangeOf (linesOf (f .umsteigb)) (delivered f .interchanges)
+  -- a line of FPLAN stands before the first *Z line, and then it is skipped, or in one block; each block is a service
+  pub fplan : headLines (linesOf (f .fplan)) ++ gathered (λ (b : List Line). b) (blocks (linesOf (f .fplan))) ≡ linesOf (f .fplan)
+  pub before : All (λ (l : Line). skipped (l .text) ≡ true) (headLines (linesOf (f .fplan)))
+  pub blocks-read : length (delivered f .services) ≡ length (blocks (linesOf (f .fplan)))
+  pub services : (i : ℕ) (s : Service) → getElem? (delivered f .services) i ≡ some s → FromText (blocks (linesOf (f .fplan))) i s
+
+-- the delivery is its own text's
+pub record OwnText (f : Files) : Type 0 where
+  pub every-line : EveryLine f
+  -- a bit field runs on the days of its own line's bits; "A blank bit field means 000000, daily."
+  pub field-days : (k : ℕ) → All (λ (b : BitField). fieldRuns (delivered f .fields) (b .number) k ≡ runsOn (b .words) k) (delivered f .fields)
+  pub daily : (k : ℕ) → fieldRuns (delivered f .fields) 0 k ≡ true
+  -- what is found in BAHNHOF and UMSTEIGB by a line's number is that line's own
+  pub own-stop : All (λ (x : StopRecord). find (λ (y : StopRecord). eqb (y .number) (x .number)) (delivered f .stops) ≡ some x) (delivered f .stops)
+  pub own-interchange : All (λ (x : Interchange). find (λ (y : Interchange). eqb (y .number) (x .number)) (delivered f .interchanges) ≡ some x) (delivered f .interchanges)
