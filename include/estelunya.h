@@ -82,7 +82,7 @@ typedef struct EstelunyaDayCountResult {
 #define ESTELUNYA_STOP_WORDS 3
 
 /*
- * Interchange: number of the stop (9999999 in the first record: every stop without its own); time for two classes that are both 0 or 1; time for all
+ * Interchange: number of the stop (9999999 in the first record: every stop without its own); time for two classes that are both 0, 1 or 2; time for all
  * other classes
  */
 #define ESTELUNYA_INTERCHANGE_WORDS 3
@@ -119,7 +119,7 @@ typedef struct EstelunyaDayCountResult {
 #define ESTELUNYA_ROW_DEPARTURE_AT 2   /* in the same way; 0 in the last row */
 #define ESTELUNYA_ROW_FLAGS_AT 3       /* ARRIVAL and NO_ALIGHTING are not set in the first row, DEPARTURE and NO_BOARDING not in the last */
 #define ESTELUNYA_ROW_CATEGORY_AT 4    /* of the leg that leaves: columns 4-6 of its *G line; 0 in the last row */
-#define ESTELUNYA_ROW_FIRST_TIME_AT 5  /* the stop's interchange time for two classes that are both 0 or 1 */
+#define ESTELUNYA_ROW_FIRST_TIME_AT 5  /* the stop's interchange time for two classes that are both 0, 1 or 2 */
 #define ESTELUNYA_ROW_SECOND_TIME_AT 6 /* the stop's interchange time for all other classes */
 
 /* The calls that a service has at most, and words that are enough for every walk. */

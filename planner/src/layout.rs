@@ -73,7 +73,7 @@ pub const ROW_DEPARTURE_AT: usize = 2;
 pub const ROW_FLAGS_AT: usize = 3;
 /// Row: category of the leaving leg.
 pub const ROW_CATEGORY_AT: usize = 4;
-/// Row: the stop's interchange time for two classes of which both are 0 or 1.
+/// Row: the stop's interchange time for two classes of which both are 0, 1 or 2.
 pub const ROW_FIRST_TIME_AT: usize = 5;
 /// Row: the stop's interchange time for all other classes.
 pub const ROW_SECOND_TIME_AT: usize = 6;

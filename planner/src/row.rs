@@ -48,7 +48,7 @@ impl<'r> Row<'r> {
         self.stated(DEPARTURE, [first, second, third])
     }
 
-    /// The stop's first interchange time, for two classes of which both are 0 or 1, and its second, for all others.
+    /// The stop's first interchange time, for two classes of which both are 0, 1 or 2, and its second, for all others.
     pub fn interchange_times(self) -> [u32; 2] {
         [self.words[ROW_FIRST_TIME_AT], self.words[ROW_SECOND_TIME_AT]]
     }

@@ -67,7 +67,7 @@ fn walked() {
     assert_eq!(table.walk(0, 0, december(6), &mut lent), Ok(Walk::NotRunning));
 }
 
-/// "FE6 and zeros runs on days 0 to 4"; "Times 2 and 3: classes 1, 1 give 2; classes 2, 2 give 3".
+/// "FE6 and zeros runs on days 0 to 4"; "Times 2 and 3: classes 1, 1 give 2", and document 02, No. 2: 2, 2 give 2; 2, 3 give 3.
 #[test]
 fn asked() {
     let words = trial_week();
@@ -75,7 +75,8 @@ fn asked() {
     for day in 1..=7 {
         assert_eq!(table.day(1, december(day)), Ok(day <= 5));
     }
-    assert_eq!((table.interchange(1_000_011, 1, 1), table.interchange(1_000_011, 2, 2)), (Ok(2), Ok(3)));
+    let minutes = |a, b| table.interchange(1_000_011, a, b);
+    assert_eq!((minutes(1, 1), minutes(2, 2), minutes(2, 3)), (Ok(2), Ok(2), Ok(3)));
 }
 
 /// "three stops of R", "service 00042".

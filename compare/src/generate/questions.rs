@@ -64,7 +64,7 @@ fn stop(rng: &mut Rng, words: &[u32]) -> u32 {
 }
 
 fn class(rng: &mut Rng) -> u32 {
-    rng.pick(&[0, 0, 1, 1, 2, 13, 13, 14, u32::MAX, 0, 1])
+    rng.pick(&[0, 1, 1, 2, 2, 2, 3, 3, 13, 14, u32::MAX, 0, 1])
 }
 
 fn walk(rng: &mut Rng, words: &[u32]) -> Question {

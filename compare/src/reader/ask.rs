@@ -237,8 +237,8 @@ pub fn day(words: &[u32], d: u32, m: u32, y: u32, bitfield: u32) -> DayAnswer {
     }
 }
 
-/// "Interchange (no date): 26 class over 13, 27 stop unknown; the stop's record, else the first record; both classes
-/// 0 or 1 take the first time, else the second (5.7)."
+/// "Interchange (no date): 26 class over 13, 27 stop unknown; the stop's record, else the first record", and
+/// document 02, No. 2, in place of "both classes 0 or 1": "The first time applies when both classes are 0, 1 or 2."
 pub fn interchange(words: &[u32], stop: u32, class_a: u32, class_b: u32) -> Changed {
     let table = match table(words) {
         Some(table) => table,
@@ -251,7 +251,7 @@ pub fn interchange(words: &[u32], stop: u32, class_a: u32, class_b: u32) -> Chan
         return Changed::Refused { number: 27 };
     }
     let [first, second] = table.interchange_times(stop);
-    Changed::Minutes(if class_a <= 1 && class_b <= 1 { first } else { second })
+    Changed::Minutes(if class_a <= 2 && class_b <= 2 { first } else { second })
 }
 
 /// "Walk of service, repeat, date": the rows go into the slice lent, unless the walk is refused or not running.

@@ -28,7 +28,7 @@ slips!(
     LineOfRefusal,
     RefusesAll,
     DayZeroRests,
-    ClassTwo,
+    OldClassTwo,
     NoRows,
     RowsOnShort,
     WordAfterRows,
@@ -77,8 +77,8 @@ impl Boundary for Slip {
     }
 
     fn interchange(&self, table: &[u32], stop: u32, classes: [u32; 2]) -> [u32; 2] {
-        let like_first = |class: u32| if class == 2 { 1 } else { class };
-        let classes = if let ClassTwo = self { classes.map(like_first) } else { classes };
+        let like_third = |class: u32| if class == 2 { 3 } else { class };
+        let classes = if let OldClassTwo = self { classes.map(like_third) } else { classes };
         Reader.interchange(table, stop, classes)
     }
 

@@ -198,8 +198,10 @@ fn questions_on_the_trial_week() {
     assert_eq!(walk(&table, 1, 0, 5, 12, 2025, &mut none), Walked::Refused { number: 24, needed: 0 });
     assert_eq!(walk(&table, 0, 1, 5, 12, 2025, &mut none), Walked::Refused { number: 25, needed: 0 });
     assert_eq!(interchange(&table, 1_000_011, 1, 1), Changed::Minutes(2));
-    assert_eq!(interchange(&table, 1_000_011, 2, 2), Changed::Minutes(3));
-    assert_eq!(interchange(&table, 1_000_011, 0, 2), Changed::Minutes(3));
+    assert_eq!(interchange(&table, 1_000_011, 2, 2), Changed::Minutes(2));
+    assert_eq!(interchange(&table, 1_000_011, 0, 2), Changed::Minutes(2));
+    assert_eq!(interchange(&table, 1_000_011, 2, 3), Changed::Minutes(3));
+    assert_eq!(interchange(&table, 1_000_011, 3, 2), Changed::Minutes(3));
     assert_eq!(interchange(&table, 1_000_011, 14, 0), Changed::Refused { number: 26 });
     assert_eq!(interchange(&table, 9_999_999, 0, 0), Changed::Refused { number: 27 });
     assert_eq!(day(&table, 5, 12, 2025, 1), DayAnswer::Runs);

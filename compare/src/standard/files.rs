@@ -70,7 +70,8 @@ pub fn saturdays(boundary: &dyn Boundary) -> Vec<Checked> {
     ]
 }
 
-/// 5.7: the two records. Its "IC-IC (class 2)" changes in 3 minutes by document 01, which takes the prose's "0 up to 1".
+/// 5.7: the two records. Its "IC-IC (class 2)" changes in two minutes, as document 02, No. 2, reads the column table's "0 to 2"; document 01 took
+/// the prose's "0 up to 1".
 pub fn interchange_times(boundary: &dyn Boundary) -> Vec<Checked> {
     let printed = Paper::new().with(4, &["9999999 2 3 STANDARD", "5800010 5 5 Basel SBB"]);
     let records = Paper::new().with(4, &["9999999  2  3 STANDARD", "5800010  5  5 Basel SBB"]);
@@ -81,11 +82,11 @@ pub fn interchange_times(boundary: &dyn Boundary) -> Vec<Checked> {
         HEADER_WORDS + 2 * STOP_WORDS + 2 * INTERCHANGE_WORDS,
     );
     let minutes = |stop, class| boundary.interchange(&table, stop, [class, class])[1];
-    let asked = [minutes(8_800_002, 1), minutes(8_800_002, 2), minutes(5_800_010, 1), minutes(5_800_010, 2)];
+    let asked = [minutes(8_800_002, 1), minutes(8_800_002, 2), minutes(8_800_002, 3), minutes(5_800_010, 1), minutes(5_800_010, 3)];
     vec![
         printed.refused(boundary, "5.7 with one blank between, columns 9-10 are no count", [4, 4, 1]),
         records.refused(boundary, "5.7 Basel is not in BAHNHOF", [9, 4, 2]),
         accepted,
-        Checked::new("5.7 classes 1 and 2 elsewhere and in Basel", &[2, 3, 5, 5], &asked),
+        Checked::new("5.7 classes 1, 2 and 3 elsewhere, 1 and 3 in Basel", &[2, 2, 3, 5, 5], &asked),
     ]
 }

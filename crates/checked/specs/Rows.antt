@@ -101,7 +101,9 @@ rows =
     ++ line "*A VE #0      #1                                          %"
     ++ line "*A VE #1      #3      000001                              %")))
     (Accepted 69)
-    -- "P Times 2 and 3: classes 1, 1 give 2; classes 2, 2 give 3."
+    -- "P Times 2 and 3: classes 1, 1 give 2"; document 02, No. 2, in place of "classes 2, 2 give 3": "its marked case for classes 2, 2 change (now 2);
+    -- classes 2, 3 give 3"
     ∷ row (interchangeAsked (tableWords (delivered trial)) 1000011 1 1) (Minutes 2)
-    ∷ row (interchangeAsked (tableWords (delivered trial)) 1000011 2 2) (Minutes 3)
+    ∷ row (interchangeAsked (tableWords (delivered trial)) 1000011 2 2) (Minutes 2)
+    ∷ row (interchangeAsked (tableWords (delivered trial)) 1000011 2 3) (Minutes 3)
     ∷ []

@@ -31,10 +31,11 @@ days = (refl, refl, refl, refl, refl, refl, refl, refl, refl, refl)
 abbrev changes : List ℕ
 changes = set (set (set (take 33 words) 0 69) 5 2) 7 36 ++ (1000022 ∷ 5 ∷ 6 ∷ drop 33 words)
 
--- "Times 2 and 3: classes 1, 1 give 2; classes 2, 2 give 3."
+-- document 02, No. 2: "its marked case for classes 2, 2 change (now 2); classes 2, 3 give 3"
 pub interchanges : (interchangeAsked words 1000022 1 1 ≡ Minutes 2)
-    × (interchangeAsked words 1000022 2 2 ≡ Minutes 3)
-    × (interchangeAsked words 1000022 0 2 ≡ Minutes 3)
+    × (interchangeAsked words 1000022 2 2 ≡ Minutes 2)
+    × (interchangeAsked words 1000022 2 3 ≡ Minutes 3)
+    × (interchangeAsked words 1000022 3 2 ≡ Minutes 3)
     × (interchangeAsked words 1000022 13 0 ≡ Minutes 3)
     × (interchangeAsked changes 1000011 0 1 ≡ Minutes 2)
     × (interchangeAsked changes 1000022 0 1 ≡ Minutes 5)
@@ -44,4 +45,4 @@ pub interchanges : (interchangeAsked words 1000022 1 1 ≡ Minutes 2)
     × (interchangeAsked words 7 0 14 ≡ InterchangeRefused 26)
     × (interchangeAsked (take 65 words) 7 14 14 ≡ InterchangeRefused 21)
 unfolding interchangeAsked interchangeAtStop isTable headSound recordsSound recordSound serviceAt servicesIn rowsIn every tableOf find some-of
-interchanges = (refl, refl, refl, refl, refl, refl, refl, refl, refl, refl, refl)
+interchanges = (refl, refl, refl, refl, refl, refl, refl, refl, refl, refl, refl, refl)

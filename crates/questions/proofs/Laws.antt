@@ -12,7 +12,7 @@ use Rattle.bitfield.specs.BitField.{runsOn}
 use Rattle.timetable.specs.Files.{hasStop}
 use Rattle.timetable.specs.Legs.{fieldKnown, fieldRuns}
 use Rattle.timetable.specs.Table.{used, tableOf, isTable}
-use Rattle.timetable.specs.Questions.{dated, dayBy, dayAsked, interchangeAtStop, interchangeAsked}
+use Rattle.timetable.specs.Questions.{dated, dayBy, dayAsked, interchangeAtStop, interchangeAsked, firstTimeClass}
 use Rattle.timetable.specs.declared.DayAnswer.{DayAnswer}
 use Rattle.timetable.specs.declared.DayAnswer.the-variants.{Runs, Idle, Refused as DayRefused}
 use Rattle.timetable.specs.declared.InterchangeAnswer.the-variants.{Minutes, Refused as InterchangeRefused}
@@ -72,14 +72,14 @@ pub ruleset days = (tests, day-below, day-unknown, day-runs, day-idle, day-refus
 -- ---- an interchange; x says whether the words are a table, y whether the classes are known, z whether the stop is
 
 module _ (a b : ℕ) (times : Times) where
-  pub second-first : 1 < a → times .second ≡ cond (leb a 1 && leb b 1) (times .first) (times .second)
-  second-first h = rw (lt-leb a 1 h)
+  pub second-first : 2 < a → times .second ≡ cond (firstTimeClass a && firstTimeClass b) (times .first) (times .second)
+  second-first h = rw (lt-leb a 2 h)
 
-  pub second-second : a ≤ 1 → 1 < b → times .second ≡ cond (leb a 1 && leb b 1) (times .first) (times .second)
-  second-second g h = rw (le-leb a 1 g, lt-leb b 1 h)
+  pub second-second : a ≤ 2 → 2 < b → times .second ≡ cond (firstTimeClass a && firstTimeClass b) (times .first) (times .second)
+  second-second g h = rw (le-leb a 2 g, lt-leb b 2 h)
 
-  pub both-first : a ≤ 1 → b ≤ 1 → times .first ≡ cond (leb a 1 && leb b 1) (times .first) (times .second)
-  both-first g h = rw (le-leb a 1 g, le-leb b 1 h)
+  pub both-first : a ≤ 2 → b ≤ 2 → times .first ≡ cond (firstTimeClass a && firstTimeClass b) (times .first) (times .second)
+  both-first g h = rw (le-leb a 2 g, le-leb b 2 h)
 
 module _ (w : List ℕ) (stop a b : ℕ) (x : Bool) (e : x ≡ isTable w) where
   pub interchange-no-table : not x ≡ true → InterchangeRefused 21 ≡ interchangeAsked w stop a b
@@ -99,7 +99,7 @@ module _ (w : List ℕ) (stop a b : ℕ) (x : Bool) (e : x ≡ isTable w) where
       unfolding interchangeAsked
       interchange-unknown o = rw (sym e ∙ not-false x n, sym f ∙ not-false y m, stop-is, not-true z o)
 
-      pub interchange-minutes : not z ≡ false → (t : Times) → t ≡ timesOf (interchangeAtStop (tableOf u) stop) → (r : ℕ) → r ≡ cond (leb a 1 && leb b 1) (t .first) (t .second) → Minutes r ≡ interchangeAsked w stop a b
+      pub interchange-minutes : not z ≡ false → (t : Times) → t ≡ timesOf (interchangeAtStop (tableOf u) stop) → (r : ℕ) → r ≡ cond (firstTimeClass a && firstTimeClass b) (t .first) (t .second) → Minutes r ≡ interchangeAsked w stop a b
       unfolding interchangeAsked
       interchange-minutes o t i r j = rw (sym e ∙ not-false x n, sym f ∙ not-false y m, stop-is, not-false z o, j, i, p, used-same w (sym e ∙ not-false x n))
 

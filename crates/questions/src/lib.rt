@@ -7,15 +7,15 @@ ghost use mathlib.Core.Path.{_≡_};
 ghost use mathlib.Core.Bool.{cond, _&&_};
 ghost use Prim.Native.Nat.{_<_};
 ghost use lib.Dec.{leb};
-ghost use Rattle.timetable.specs.Table.{word, tableOf};
-ghost use Rattle.timetable.specs.Questions.{dated, dayBy, dayAsked, interchangeAsked};
+ghost use Rattle.timetable.specs.Table.{periodDays, tableOf};
+ghost use Rattle.timetable.specs.Questions.{dated, dayBy, dayAsked, firstTimeClass, interchangeAsked};
 ghost use Rattle.table.specs.Whole.{Whole};
 
 // The highest class of a service.
 const LAST_CLASS: u32 = 13;
 
 // Two services of classes up to this one take the first time.
-const FIRST_TIME_CLASS: u32 = 1;
+const FIRST_TIME_CLASS: u32 = 2;
 
 // Whether a bit field runs on a date: 21 to 23, 28 no such bit field.
 pub fn day(w: &[u32], day: u32, month: u32, year: u32, field: u32) -> DayAnswer
@@ -30,7 +30,7 @@ pub fn day(w: &[u32], day: u32, month: u32, year: u32, field: u32) -> DayAnswer
 
 // Whether a bit field runs on day k of the period.
 fn field_day(w: &[u32], field: u32, k: u32) -> DayAnswer
-    requires { ⌜ Whole (now w) × (k < word (now w) 2) ⌝ }
+    requires { ⌜ Whole (now w) × (k < periodDays (now w)) ⌝ }
     ensures { λ r. ⌜ r ≡ dayBy (tableOf (now (w .entry))) field (dated k) ⌝ }
 {
     let f = look::field_words(w, field);
@@ -71,7 +71,7 @@ fn classes_known(a: u32, b: u32) -> bool
 
 // The time for two classes.
 fn minutes(times: Times, a: u32, b: u32) -> u32
-    ensures { λ r. ⌜ r ≡ cond (leb a 1 && leb b 1) (times .first) (times .second) ⌝ }
+    ensures { λ r. ⌜ r ≡ cond (firstTimeClass a && firstTimeClass b) (times .first) (times .second) ⌝ }
 {
     if FIRST_TIME_CLASS < a {
         return times.second;

@@ -71,9 +71,13 @@ interchangeBy (some c) cs = c
 unfoldable pub interchangeAtStop : Delivery → ℕ → Interchange
 interchangeAtStop d n = interchangeBy (find (λ (c : Interchange). eqb (c .number) n) (d .interchanges)) (d .interchanges)
 
--- "both classes 0 or 1 take the first time, else the second (5.7)"
+-- document 02, No. 2: "The first time applies when both classes are 0, 1 or 2." It replaces document 01's "both classes 0 or 1 take the first time,
+-- else the second (5.7)".
+abbrev pub firstTimeClass : ℕ → Bool
+firstTimeClass class = leb class 2
+
 abbrev pub minutesFor : Interchange → ℕ → ℕ → ℕ
-minutesFor c a b = cond (leb a 1 && leb b 1) (c .firstTime) (c .secondTime)
+minutesFor c a b = cond (firstTimeClass a && firstTimeClass b) (c .firstTime) (c .secondTime)
 
 unfoldable pub interchangeAsked : List ℕ → ℕ → ℕ → ℕ → InterchangeAnswer
 interchangeAsked w n a b =
