@@ -27,6 +27,7 @@ typedef struct EstelunyaLoadResult {
     uint32_t file;   /* 1 ECKDATEN, 2 BITFELD, 3 BAHNHOF, 4 UMSTEIGB, 5 FPLAN; 0 if accepted, and for 20 */
     uint32_t line;   /* the line, counted from 1; 0 if accepted, and for 1 and 20 */
     uint32_t words;  /* accepted: the words used; 20: the words needed; else 0 */
+    size_t column;   /* 4: the column, counted from 1, where the leftmost field or unnamed column that breaks the form starts; else 0 */
 } EstelunyaLoadResult;
 
 typedef struct EstelunyaDayResult {

@@ -35,19 +35,25 @@ fresh
 says 'the trial week' 'accepted days 7 bitfields 1 stops 3 interchange 1 services 1 words 66'
 fresh
 echo '31.02.2025' >"$place/ECKDATEN"
-says 'no such date' 'refused 5 file 1 line 1'
+says 'no such date' 'refused 5 file 1 line 1 column 0'
 fresh
 sed -i 's/FE6/FE4/' "$place/BITFELD"
-says 'a wrong frame' 'refused 8 file 2 line 1'
+says 'a wrong frame' 'refused 8 file 2 line 1 column 0'
 fresh
 sed -i '2s/1000022/1000011/' "$place/BAHNHOF"
-says 'a stop listed twice' 'refused 6 file 3 line 2'
+says 'a stop listed twice' 'refused 6 file 3 line 2 column 0'
 fresh
 sed -i 's/  2  3/ 61  3/' "$place/UMSTEIGB"
-says '61 minutes' 'refused 4 file 4 line 1'
+says '61 minutes' 'refused 4 file 4 line 1 column 9'
 fresh
 sed -i 's/^1000033 /1000099 /' "$place/FPLAN"
-says 'an unknown stop' 'refused 9 file 5 line 6'
+says 'an unknown stop' 'refused 9 file 5 line 6 column 0'
+fresh
+sed -i '2s/%$//' "$place/FPLAN"
+says 'a missing "%"' 'refused 4 file 5 line 2 column 59'
+fresh
+sed -i '1s/FERRY_       /FERRY_       023/; 1s/   %$/%/' "$place/FPLAN"
+says 'repeats without an offset' 'refused 4 file 5 line 1 column 27'
 fresh
 rm "$place/UMSTEIGB"
 says 'a missing file' 'unread file 4'

@@ -48,6 +48,16 @@ rm -f "$wrap/module.bc"
 sed -i -e "s/^target triple.*/target triple = \"$machine-unknown-linux-gnu\"/" -e '/^target datalayout/d' \
     -e 's/"target-cpu"="[^"]*"//g; s/"target-features"="[^"]*"//g' "$out/$name.ll"
 
+# An answer of over 16 bytes comes back through a pointer: on x86-64 the first argument, which the module writes out; elsewhere that argument has a place
+# of its own, which the mark `sret` gives it.
+if [ "$machine" != x86_64 ]; then
+    awk '/^define noundef ptr @/ { sub(/define noundef ptr/, "define void"); sub(/\(ptr noundef %/, "(ptr noundef sret([64 x i8]) %"); large = 1 }
+        large && /^ *ret ptr / { sub(/ret ptr .*/, "ret void") }
+        /^}/ { large = 0 }
+        { print }' "$out/$name.ll" >"$out/$name.marked"
+    mv "$out/$name.marked" "$out/$name.ll"
+fi
+
 # archive DIRECTORY LEVEL
 archive() {
     "$clang" --target="$machine-unknown-linux-gnu" "$2" -fPIC -ffunction-sections -Wno-override-module -c "$out/$name.ll" -o "$1/$name.o"

@@ -1,21 +1,21 @@
 //! The linked archive as a `Boundary`, by its C functions: an answer's fields are all taken, so that one more is not overlooked.
 //! A module of the programs that link it; the library does not.
 
-use compare::boundary::Boundary;
+use compare::boundary::{column_word, Boundary};
 use compare::reader::Combination;
 use estelunya_planner::raw;
 
 pub struct Archive;
 
 impl Boundary for Archive {
-    fn load(&self, files: [&[u8]; 5], table: &mut [u32]) -> [u32; 4] {
+    fn load(&self, files: [&[u8]; 5], table: &mut [u32]) -> [u32; 5] {
         let [a, b, c, d, e] = files.map(<[u8]>::as_ptr);
         let [a_len, b_len, c_len, d_len, e_len] = files.map(<[u8]>::len);
         let (words, room) = (table.as_mut_ptr(), table.len());
         // SAFETY: here and below, pointers and lengths are those of slices, and a mutable one overlaps no other.
         let answer = unsafe { raw::estelunya_load(a, a_len, b, b_len, c, c_len, d, d_len, e, e_len, words, room) };
-        let raw::LoadResult { number, file, line, words } = answer;
-        [number, file, line, words]
+        let raw::LoadResult { number, file, line, words, column } = answer;
+        [number, file, line, words, column_word(column)]
     }
 
     fn day(&self, table: &[u32], [day, month, year]: [u32; 3], field: u32) -> [u32; 2] {

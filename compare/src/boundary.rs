@@ -4,8 +4,8 @@ use crate::reader::{self, Changed, Combination, DayAnswer, Loaded, Refused, Walk
 
 /// Whatever answers as the archive does. An answer's numbers stand in the order of its fields.
 pub trait Boundary {
-    /// number, file, line, words
-    fn load(&self, files: [&[u8]; 5], table: &mut [u32]) -> [u32; 4];
+    /// number, file, line, words, column
+    fn load(&self, files: [&[u8]; 5], table: &mut [u32]) -> [u32; 5];
 
     /// number, runs
     fn day(&self, table: &[u32], date: [u32; 3], field: u32) -> [u32; 2];
@@ -30,10 +30,10 @@ pub trait Boundary {
 pub struct Reader;
 
 impl Boundary for Reader {
-    fn load(&self, files: [&[u8]; 5], table: &mut [u32]) -> [u32; 4] {
+    fn load(&self, files: [&[u8]; 5], table: &mut [u32]) -> [u32; 5] {
         match reader::load(files, table) {
-            Loaded::Accepted { words } => [0, 0, 0, words],
-            Loaded::Refused { number, file, line, needed } => [number, file, line, needed],
+            Loaded::Accepted { words } => [0, 0, 0, words, 0],
+            Loaded::Refused { number, file, line, column, needed } => [number, file, line, needed, column_word(column)],
         }
     }
 
@@ -74,6 +74,11 @@ impl Boundary for Reader {
             Err(Refused { number }) => [number, 0],
         }
     }
+}
+
+/// A column as a word. No file that is read has one that needs more.
+pub fn column_word(column: usize) -> u32 {
+    u32::try_from(column).unwrap_or(u32::MAX)
 }
 
 fn number(given: Result<(), Refused>) -> [u32; 1] {

@@ -4,19 +4,21 @@
 //! sense, and arithmetic on operating days. It depends on nothing before it, so that a failing case runs again alone.
 
 mod cases;
+mod columns;
 mod lent;
 mod program;
 mod report;
 mod tally;
 
 pub use cases::{rng_of, senseless};
+pub use columns::Columns;
 pub use lent::{Call, Outcome};
 pub use program::Program;
 pub use report::report;
 pub use tally::Tally;
 
 use crate::boundary::{Boundary, Reader};
-use crate::generate::{arithmetic, damaged_table, question, Case, Question, Rng};
+use crate::generate::{arithmetic, damaged_table, question, Question, Rng};
 use cases::{delivery, other_room};
 
 /// A boundary to compare, and what it is called in a report.
@@ -37,11 +39,10 @@ pub struct Difference {
 /// Boxed, since it holds whole files.
 pub type Compared<T> = Result<T, Box<Difference>>;
 
-/// Compares the load of one case, and counts the reader's answer. Gives the case and the reader's outcome.
-pub fn compare_load(seed: u64, index: u64, boundaries: &[Named], tally: &mut Tally) -> Compared<(Case, Outcome)> {
+/// Compares the load of one case, and counts the reader's answer.
+pub fn compare_load(seed: u64, index: u64, boundaries: &[Named], tally: &mut Tally) -> Compared<()> {
     let case = delivery(&mut rng_of(seed, index), index);
-    let loaded = Run { boundaries, tally }.call(Call::Load { files: case.files.clone(), room: case.room })?;
-    Ok((case, loaded))
+    Run { boundaries, tally }.call(Call::Load { files: case.files, room: case.room }).map(|_| ())
 }
 
 /// Compares all calls of one case, and counts the reader's answers.

@@ -1,7 +1,7 @@
 //! The linked archive as a `Boundary`, through the planner's safe layer, its answers turned back into numbers. A module of
 //! the programs that link it.
 
-use compare::boundary::Boundary;
+use compare::boundary::{column_word, Boundary};
 use compare::reader::Combination;
 use estelunya_planner::layout::BIT_WORDS;
 use estelunya_planner::{load, BitField, Date, File, Files, Refusal, Table, Walk};
@@ -9,13 +9,13 @@ use estelunya_planner::{load, BitField, Date, File, Files, Refusal, Table, Walk}
 pub struct Planner;
 
 impl Boundary for Planner {
-    fn load(&self, files: [&[u8]; 5], table: &mut [u32]) -> [u32; 4] {
+    fn load(&self, files: [&[u8]; 5], table: &mut [u32]) -> [u32; 5] {
         let [eckdaten, bitfeld, bahnhof, umsteigb, fplan] = files;
         match load(&Files { eckdaten, bitfeld, bahnhof, umsteigb, fplan }, table) {
-            Ok(loaded) => [0, 0, 0, loaded.words],
+            Ok(loaded) => [0, 0, 0, loaded.words, 0],
             Err(refusal) => {
                 let file = refusal.file.map_or(0, File::number);
-                [refusal.offence.number(), file, refusal.line, refusal.needed]
+                [refusal.offence.number(), file, refusal.line, refusal.needed, column_word(refusal.column)]
             }
         }
     }

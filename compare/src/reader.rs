@@ -14,4 +14,4 @@ pub mod table;
 
 pub use ask::{day, interchange, is_table, walk, Changed, DayAnswer, Walked};
 pub use day_sets::{combine, complement, day_count, Combination, Refused};
-pub use load::{load, refused_column, Loaded};
+pub use load::{load, Loaded};

@@ -60,22 +60,22 @@ impl Paper {
         self
     }
 
-    fn load(&self, boundary: &dyn Boundary) -> ([u32; 4], Vec<u32>) {
+    fn load(&self, boundary: &dyn Boundary) -> ([u32; 5], Vec<u32>) {
         let mut table = vec![LENT; 2_000];
         let [a, b, c, d, e] = &self.files;
         let answer = boundary.load([a, b, c, d, e], &mut table);
         (answer, table)
     }
 
-    /// Number, file and line of the refusal that it must bring, with no word changed.
-    fn refused(&self, boundary: &dyn Boundary, text: &str, [number, file, line]: [u32; 3]) -> Checked {
+    /// Number, file, line and column of the refusal that it must bring, with no word changed.
+    fn refused(&self, boundary: &dyn Boundary, text: &str, [number, file, line, column]: [u32; 4]) -> Checked {
         let (answer, table) = self.load(boundary);
         let changed = table.iter().filter(|word| **word != LENT).count() as u32;
-        let [number_found, file_found, line_found, words] = answer;
+        let [number_found, file_found, line_found, words, column_found] = answer;
         Checked::new(
-            &format!("{}: refused {} file {} line {}", text, number, file, line),
-            &[number, file, line, 0, 0],
-            &[number_found, file_found, line_found, words, changed],
+            &format!("{}: refused {} file {} line {} column {}", text, number, file, line, column),
+            &[number, file, line, column, 0, 0],
+            &[number_found, file_found, line_found, column_found, words, changed],
         )
     }
 
@@ -83,7 +83,7 @@ impl Paper {
     fn accepted(&self, boundary: &dyn Boundary, text: &str, words: usize) -> (Checked, Vec<u32>) {
         let (answer, table) = self.load(boundary);
         let later = table[words..].iter().filter(|word| **word != LENT).count() as u32;
-        let [number, _, _, used] = answer;
+        let [number, _, _, used, _] = answer;
         (Checked::new(&format!("{}: accepted", text), &[0, words as u32, 0], &[number, used, later]), table)
     }
 }

@@ -53,7 +53,7 @@
 //! let files = Files { eckdaten: b"01.12.2025\n", bitfeld: b"", bahnhof: b"", umsteigb: b"", fplan: b"" };
 //! let refusal = load(&files, &mut words).unwrap_err();
 //! assert_eq!((refusal.offence, refusal.line), (Offence::LineMissing, 2));
-//! assert!(refusal.to_string().starts_with("refused 2 file 1 line 2: ECKDATEN: "));
+//! assert!(refusal.to_string().starts_with("refused 2 file 1 line 2 column 0: ECKDATEN: "));
 //!
 //! let date = Date { day: 5, month: 12, year: 2025 };
 //! assert_eq!(Table::new(&words).day(1, date), Err(Refusal::NotATable));

@@ -60,9 +60,13 @@ pub fn load(files: &Files<'_>, table: &mut [u32]) -> Result<Loaded, LoadRefusal>
 
 fn refusal(answer: raw::LoadResult) -> LoadRefusal {
     match Offence::from_number(answer.number) {
-        Some(offence) => {
-            LoadRefusal { offence, file: File::from_number(answer.file), line: answer.line, needed: answer.words }
-        }
+        Some(offence) => LoadRefusal {
+            offence,
+            file: File::from_number(answer.file),
+            line: answer.line,
+            column: answer.column,
+            needed: answer.words,
+        },
         None => panic!("the archive answered {:?}", answer),
     }
 }

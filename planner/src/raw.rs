@@ -13,6 +13,8 @@ pub struct LoadResult {
     pub line: u32,
     /// The words used if accepted, the words needed for 20, else 0.
     pub words: u32,
+    /// For 4 the column, counted from 1, where the leftmost field or unnamed column that breaks the form starts, else 0.
+    pub column: usize,
 }
 
 /// The answer of [`estelunya_day`].

@@ -144,7 +144,7 @@ impl fmt::Display for Offence {
     }
 }
 
-/// A refused delivery. Its text begins as the program's line does: `refused N file F line L`.
+/// A refused delivery. Its text begins as the program's line does: `refused N file F line L column C`.
 #[derive(Clone, Copy, Debug, PartialEq, Eq)]
 pub struct LoadRefusal {
     /// What is wrong: the first offence, in document 01's order.
@@ -153,6 +153,9 @@ pub struct LoadRefusal {
     pub file: Option<File>,
     /// The line to look at, counted from 1; 0 for [`Offence::FileTooLong`] and [`Offence::TableTooShort`].
     pub line: u32,
+    /// The column, counted from 1, where the leftmost field or unnamed column that breaks the form starts; 0 unless
+    /// [`Offence::Form`].
+    pub column: usize,
     /// The words that the table needs; 0 unless [`Offence::TableTooShort`].
     pub needed: u32,
 }
@@ -160,7 +163,7 @@ pub struct LoadRefusal {
 impl fmt::Display for LoadRefusal {
     fn fmt(&self, f: &mut fmt::Formatter<'_>) -> fmt::Result {
         let file = self.file.map_or(0, File::number);
-        write!(f, "refused {} file {} line {}: ", self.offence.number(), file, self.line)?;
+        write!(f, "refused {} file {} line {} column {}: ", self.offence.number(), file, self.line, self.column)?;
         match self.file {
             Some(file) => write!(f, "{}: {}", file, self.offence),
             None => write!(f, "{}: {} words are needed", self.offence, self.needed),

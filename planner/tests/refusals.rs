@@ -42,10 +42,25 @@ fn a_refused_delivery() {
     let mut words = [7; 3];
     let refusal = load(&files, &mut words).unwrap_err();
     assert_eq!((refusal.offence, refusal.file, refusal.line), (Offence::NoSuchDate, Some(File::Eckdaten), 2));
-    assert!(refusal.to_string().starts_with("refused 5 file 1 line 2: ECKDATEN: there is no such date"));
+    assert!(refusal.to_string().starts_with("refused 5 file 1 line 2 column 0: ECKDATEN: there is no such date"));
     assert_eq!(words, [7; 3]);
     let enough = Files { eckdaten: b"01.12.2025\n07.12.2025\n\n", umsteigb: b"9999999  2  3", ..files };
     let refusal = load(&enough, &mut words).unwrap_err();
     assert_eq!((refusal.offence, refusal.file, refusal.needed), (Offence::TableTooShort, None, 11));
     assert!(refusal.to_string().ends_with(": 11 words are needed"));
+}
+
+#[test]
+fn a_broken_form() {
+    let files = Files {
+        eckdaten: b"01.12.2025\n07.12.2025\n\n",
+        bitfeld: b"",
+        bahnhof: b"",
+        umsteigb: b"9999999  2  3",
+        fplan: b"*Z 00042 FERRY_       023                                 %",
+    };
+    let refusal = load(&files, &mut []).unwrap_err();
+    assert_eq!((refusal.offence, refusal.file, refusal.line), (Offence::Form, Some(File::Fplan), 1));
+    assert_eq!((refusal.column, refusal.needed), (27, 0));
+    assert!(refusal.to_string().starts_with("refused 4 file 5 line 1 column 27: FPLAN: "));
 }

@@ -49,7 +49,7 @@ fn bench(mib: f64) {
     let files = national(&mut Rng::new(1), &National::of_bytes((mib * MIB as f64) as usize));
     let [a, b, c, d, e] = &files;
     let files: [&[u8]; 5] = [a, b, c, d, e];
-    let [number, _, line, words] = Reader.load(files, &mut []);
+    let [number, _, line, words, _] = Reader.load(files, &mut []);
     assert_eq!((number, line), (20, 0));
     let load = |boundary: &dyn Boundary| {
         let mut table = vec![u32::MAX; words as usize];

@@ -81,7 +81,7 @@ type Load = fn([&[u8]; 5], &mut [u32]) -> Result<u32, u32>;
 
 fn archive_load(files: [&[u8]; 5], table: &mut [u32]) -> Result<u32, u32> {
     match Archive.load(files, table) {
-        [0, _, _, words] => Ok(words),
+        [0, _, _, words, _] => Ok(words),
         [number, ..] => Err(number),
     }
 }

@@ -3,6 +3,7 @@
 use std::collections::BTreeMap;
 use std::fmt;
 
+use super::columns::Columns;
 use super::lent::{Call, Outcome};
 use crate::generate::{Arithmetic, Question};
 use crate::reader::Combination;
@@ -20,15 +21,19 @@ const ANSWERS: [(&str, &[&str], &[u32]); 9] = [
     ("count", &["none", "some"], &[42]),
 ];
 
-/// The answers counted, by the name of the call and of the answer.
+/// The answers counted, by the name of the call and of the answer, and the columns of refusals 4.
 #[derive(Default)]
 pub struct Tally {
     counts: BTreeMap<(&'static str, String), u64>,
+    pub columns: Columns,
 }
 
 impl Tally {
     pub fn count(&mut self, call: &Call, outcome: &Outcome) {
         *self.counts.entry(kind(call, &outcome.answer)).or_insert(0) += 1;
+        if let Call::Load { files, .. } = call {
+            self.columns.count(files, &outcome.answer);
+        }
     }
 
     /// The kinds of answers of these calls that never came.
@@ -81,6 +86,6 @@ impl fmt::Display for Tally {
                 }
             }
         }
-        Ok(())
+        write!(f, "{}", self.columns)
     }
 }

@@ -1,5 +1,5 @@
-//! Damages to the form of one line (refusal 4), each with the column where the form breaks, which a later request asks
-//! for (document 02, No. 6).
+//! Damages to the form of one line (refusal 4), each with the column where the form breaks (document 02, No. 6). Every
+//! column that can be told comes about as often as any other of its kind of line.
 
 use super::rng::Rng;
 use super::sheet::{Row, Sheet, Tag};
@@ -25,16 +25,21 @@ enum Field {
     CrossOrBlank,
     Percent,
     Unnamed,
+    /// Unnamed columns from the first on.
+    Further,
 }
 
 use Field::*;
 
-const DATE: &[(usize, usize, Field)] = &[(1, 10, Date)];
-const BITFIELD: &[(usize, usize, Field)] = &[(1, 6, Digits), (7, 7, Unnamed), (8, 103, Hex), (104, 110, Unnamed)];
-const STOP: &[(usize, usize, Field)] = &[(1, 7, Digits), (8, 8, Unnamed), (12, 12, Unnamed), (13, 62, Name)];
-const RECORD: &[(usize, usize, Field)] =
+/// Columns a to b, and how they can break.
+type Part = (usize, usize, Field);
+
+const DATE: &[Part] = &[(1, 10, Date)];
+const BITFIELD: &[Part] = &[(1, 6, Digits), (7, 7, Unnamed), (8, 103, Hex), (104, 110, Unnamed), (111, 111, Further)];
+const STOP: &[Part] = &[(1, 7, Digits), (8, 8, Unnamed), (12, 12, Unnamed), (13, 62, Name)];
+const RECORD: &[Part] =
     &[(1, 7, Digits), (8, 8, Unnamed), (9, 10, CountTo60), (11, 11, Unnamed), (12, 13, Count), (14, 14, Unnamed)];
-const Z: &[(usize, usize, Field)] = &[
+const Z: &[Part] = &[
     (4, 8, Digits),
     (9, 9, Unnamed),
     (10, 15, NoBlank),
@@ -46,7 +51,7 @@ const Z: &[(usize, usize, Field)] = &[
     (30, 58, Unnamed),
     (59, 59, Percent),
 ];
-const G: &[(usize, usize, Field)] = &[
+const G: &[Part] = &[
     (4, 4, NotBlank),
     (7, 7, Unnamed),
     (8, 14, End),
@@ -59,7 +64,7 @@ const G: &[(usize, usize, Field)] = &[
     (37, 58, Unnamed),
     (59, 59, Percent),
 ];
-const A: &[(usize, usize, Field)] = &[
+const A: &[Part] = &[
     (4, 4, NotBlank),
     (6, 6, Unnamed),
     (7, 13, End),
@@ -75,7 +80,7 @@ const A: &[(usize, usize, Field)] = &[
     (59, 59, Percent),
 ];
 /// Column 1 makes it a schedule line, so its digits break from column 2 on.
-const SCHEDULE: &[(usize, usize, Field)] = &[
+const SCHEDULE: &[Part] = &[
     (2, 7, Digits),
     (8, 8, Unnamed),
     (30, 35, Time),
@@ -91,7 +96,7 @@ const SCHEDULE: &[(usize, usize, Field)] = &[
     (59, 59, Percent),
 ];
 
-fn fields(tag: Tag) -> &'static [(usize, usize, Field)] {
+fn parts(tag: Tag) -> &'static [Part] {
     match tag {
         Tag::Skipped | Tag::Free => &[],
         Tag::Date(_) => DATE,
@@ -105,17 +110,33 @@ fn fields(tag: Tag) -> &'static [(usize, usize, Field)] {
     }
 }
 
-/// Breaks the form of some line: the file, the line's place in it, and the column.
+/// Breaks the form of some line, of any kind that the file has: the file, the line's place in it, and the column.
 pub fn break_form(rng: &mut Rng, sheet: &mut Sheet) -> Option<(u32, usize, usize)> {
     let file = rng.pick(&[0, 1, 2, 3, 4, 4, 4, 4, 4]);
     let rows = &mut sheet.files[file];
-    let formed: Vec<usize> = (0..rows.len()).filter(|i| !fields(rows[*i].tag).is_empty()).collect();
-    if formed.is_empty() {
+    let mut kinds: Vec<&[Part]> = Vec::new();
+    for kind in rows.iter().map(|row| parts(row.tag)) {
+        if !kind.is_empty() && !kinds.contains(&kind) {
+            kinds.push(kind);
+        }
+    }
+    if kinds.is_empty() {
         return None;
     }
-    let at = rng.pick(&formed);
+    let kind = rng.pick(&kinds);
+    let alike: Vec<usize> = (0..rows.len()).filter(|i| parts(rows[*i].tag) == kind).collect();
+    let at = rng.pick(&alike);
     let column = break_row(rng, &mut rows[at])?;
     Some((file as u32 + 1, at, column))
+}
+
+/// One part for each column that can be told: every unnamed column stands by itself.
+fn told(parts: &[Part]) -> Vec<Part> {
+    let each = |(a, b, field): Part| match field {
+        Unnamed => (a..=b).map(|column| (column, column, Unnamed)).collect(),
+        _ => vec![(a, b, field)],
+    };
+    parts.iter().copied().flat_map(each).collect()
 }
 
 /// Adds a second offence to a line that may have one: which of them counts is for the order of offences to say.
@@ -132,13 +153,18 @@ pub fn pile_on(rng: &mut Rng, row: &mut Row) {
     }
 }
 
-/// Breaks one field or unnamed column of a line, and names the column.
+/// Breaks one field or unnamed column of a line, and names the column; `None` if it has none.
 fn break_row(rng: &mut Rng, row: &mut Row) -> Option<usize> {
-    let (a, b, field) = rng.pick(fields(row.tag));
+    let told = told(parts(row.tag));
+    if told.is_empty() {
+        return None;
+    }
+    let (a, b, field) = rng.pick(&told);
     let text = &mut row.text;
     match field {
-        Unnamed => {
-            let column = rng.between(a as u32, b as u32) as usize;
+        Unnamed => put(text, a, &[rng.byte(false)]),
+        Further => {
+            let column = a + rng.index(100);
             put(text, column, &[rng.byte(false)]);
             return Some(column);
         }
@@ -161,8 +187,10 @@ fn break_row(rng: &mut Rng, row: &mut Row) -> Option<usize> {
             let byte = wrong_byte(rng, field, text.get(column - 1).copied());
             put(text, column, &[byte]);
         }
-        Detail(end) if !has_stop(text, end) => return None,
         _ => {
+            if let Detail(end) = field {
+                put_stop(text, end);
+            }
             let wrong = rng.pick(wrong_texts(field, b + 1 - a));
             put(text, a, wrong);
         }
@@ -171,9 +199,12 @@ fn break_row(rng: &mut Rng, row: &mut Row) -> Option<usize> {
     Some(if a == 2 { 1 } else { a })
 }
 
-/// A detail is read beside a stop number only.
-fn has_stop(text: &[u8], end: usize) -> bool {
-    text.get(end - 1..end + 6).map_or(false, |place| place.iter().all(u8::is_ascii_digit))
+/// A detail is read beside a stop number only: some stop, where the end has none.
+fn put_stop(text: &mut Vec<u8>, end: usize) {
+    let has_stop = text.get(end - 1..end + 6).map_or(false, |place| place.iter().all(u8::is_ascii_digit));
+    if !has_stop {
+        put(text, end, b"1000011");
+    }
 }
 
 fn put(text: &mut Vec<u8>, column: usize, bytes: &[u8]) {

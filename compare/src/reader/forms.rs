@@ -1,28 +1,10 @@
 //! The form of each kind of line (refusal 4), and the column where it breaks: `None` if the form holds, else the
-//! column from 1 of the leftmost field or unnamed column that breaks it, which a later request asks for (document 02,
-//! No. 6).
+//! column from 1 where the leftmost field or unnamed column that breaks it starts (document 02, No. 6).
 
 use super::fields::{
-    all_blank, column, count, date, detail, digits, digits_or_blank, hex_words, kind, no_blank, range_end,
-    repeats_and_offset, time, Date, Detail, LineKind, RangeEnd, Time,
+    all_blank, column, count, date, detail, digits, digits_or_blank, hex_words, no_blank, range_end, repeats_and_offset,
+    time, Date, Detail, RangeEnd, Time,
 };
-use super::lines::Line;
-
-/// The form of a line of file 1 to 5, by its place or kind; a line that has none breaks none.
-pub fn form(file: u32, line: &Line) -> Option<usize> {
-    let text = line.text;
-    match (file, kind(text)) {
-        (1, _) if line.no <= 2 => form_date(text),
-        (2, _) => form_bitfield(text),
-        (3, _) => form_stop(text),
-        (4, _) => form_interchange(text),
-        (5, LineKind::Z) => form_z(text),
-        (5, LineKind::G) => form_g(text),
-        (5, LineKind::A) => form_a(text),
-        (5, LineKind::Schedule) => form_schedule(text),
-        _ => None,
-    }
-}
 
 /// A field counts at the column where it starts.
 fn field(start: usize, holds: bool) -> Option<usize> {
@@ -94,7 +76,7 @@ pub fn form_z(line: &[u8]) -> Option<usize> {
         field(23, digits_or_blank(line, 23, 25).is_some()),
         unnamed(line, 26, 26),
         field(27, digits_or_blank(line, 27, 29).is_some()),
-        // that request: "for repeats and offset that do not fit each other, 27"
+        // No. 6: "for repeats and offset that do not fit each other, 27"
         field(27, repeats_and_offset(line).is_some()),
         unnamed(line, 30, 58),
         percent(line),

@@ -8,9 +8,7 @@ use super::fields::{
     count, date, detail, digits, digits_or_blank, hex_words, kind, means_days, packed, range_end, repeats_and_offset,
     time, Date, Detail, LineKind, RangeEnd,
 };
-use super::forms::{
-    form, form_a, form_bitfield, form_date, form_g, form_interchange, form_schedule, form_stop, form_z,
-};
+use super::forms::{form_a, form_bitfield, form_date, form_g, form_interchange, form_schedule, form_stop, form_z};
 use super::lines::{lines, skipped, Line};
 use super::service::{checked, Call, Draft, End, Given, Range, Service};
 use super::table;
@@ -19,15 +17,16 @@ use super::table;
 #[derive(Clone, Copy, Debug, PartialEq, Eq)]
 pub enum Loaded {
     Accepted { words: u32 },
-    Refused { number: u32, file: u32, line: u32, needed: u32 },
+    Refused { number: u32, file: u32, line: u32, column: usize, needed: u32 },
 }
 
-/// A refusal 1 to 19.
+/// A refusal 1 to 19; the column is 0 unless 4.
 #[derive(Clone, Copy, Debug, PartialEq, Eq)]
 pub struct Offence {
     pub number: u32,
     pub file: u32,
     pub line: u32,
+    pub column: usize,
 }
 
 /// A BAHNHOF record: its number, where the name starts in the file, and its length.
@@ -69,37 +68,28 @@ const MOST_DAY_RANGES: usize = 50;
 const MOST_OTHERS: usize = 100;
 
 /// Loads the five files, ECKDATEN, BITFELD, BAHNHOF, UMSTEIGB, FPLAN. "A refusal returns number, file, line, and the
-/// words needed (0 unless 20); the table stays as lent. Acceptance returns words used; later words stay."
+/// words needed (0 unless 20); the table stays as lent. Acceptance returns words used; later words stay." Document 02, No. 6:
+/// "A refusal 4 also returns the column where the leftmost field or unnamed column that breaks the form starts ..; all other
+/// refusals return 0 there."
 pub fn load(files: [&[u8]; 5], lent: &mut [u32]) -> Loaded {
     let delivery = match read(files) {
         Ok(delivery) => delivery,
-        Err(Offence { number, file, line }) => return Loaded::Refused { number, file, line, needed: 0 },
+        Err(Offence { number, file, line, column }) => return Loaded::Refused { number, file, line, column, needed: 0 },
     };
     let words = table::words(&delivery);
     let used = words.len() as u32;
     if words.len() > lent.len() {
-        return Loaded::Refused { number: 20, file: 0, line: 0, needed: used };
+        return Loaded::Refused { number: 20, file: 0, line: 0, column: 0, needed: used };
     }
     lent[..words.len()].copy_from_slice(&words);
     Loaded::Accepted { words: used }
-}
-
-/// The column of a broken form (refusal 4), which a later request asks for (document 02, No. 6); 0 for every other answer.
-pub fn refused_column(files: [&[u8]; 5], loaded: Loaded) -> usize {
-    match loaded {
-        Loaded::Refused { number: 4, file, line, .. } => {
-            let broken = lines(files[file as usize - 1]).get(line as usize - 1).and_then(|line| form(file, line));
-            broken.unwrap_or(0)
-        }
-        _ => 0,
-    }
 }
 
 /// "First, lengths in file order; then files 1 to 5, each by line". (The fifth file's services come with it.)
 pub fn read(files: [&[u8]; 5]) -> Result<Delivery, Offence> {
     for (file, bytes) in (1..).zip(files) {
         if bytes.len() > MOST_BYTES {
-            return Err(Offence { number: 1, file, line: 0 });
+            return refuse(1, file, 0);
         }
     }
     let mut delivery = Delivery::default();
@@ -112,7 +102,7 @@ pub fn read(files: [&[u8]; 5]) -> Result<Delivery, Offence> {
 }
 
 fn refuse<T>(number: u32, file: u32, line: u32) -> Result<T, Offence> {
-    Err(Offence { number, file, line })
+    Err(Offence { number, file, line, column: 0 })
 }
 
 /// "Except in ECKDATEN, a line that is all blank or starts with "%" is skipped but counted."
@@ -124,7 +114,7 @@ fn records(file: &[u8]) -> impl Iterator<Item = Line<'_>> {
 fn must_hold(form: Option<usize>, file: u32, line: &Line) -> Result<(), Offence> {
     match form {
         None => Ok(()),
-        Some(_) => refuse(4, file, line.no),
+        Some(column) => Err(Offence { number: 4, file, line: line.no, column }),
     }
 }
 
@@ -165,7 +155,7 @@ fn read_bitfields(file: &[u8], delivery: &mut Delivery) -> Result<(), Offence> {
         must_hold(form_bitfield(line.text), 2, &line)?;
         let (number, words) = match (digits(line.text, 1, 6), hex_words(line.text, 8)) {
             (Some(number), Some(words)) => (number, words),
-            _ => return refuse(4, 2, line.no),
+            _ => unreachable!("its form holds"),
         };
         if number == 0 {
             return refuse(7, 2, line.no);

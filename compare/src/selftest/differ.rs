@@ -26,6 +26,10 @@ slips!(
     LastWord,
     NeededLost,
     LineOfRefusal,
+    ColumnLost,
+    ColumnOfRun,
+    RepeatsBlamed,
+    ColumnOfDate,
     RefusesAll,
     DayZeroRests,
     OldClassTwo,
@@ -50,20 +54,24 @@ fn bump(words: &mut [u32], at: usize) {
 }
 
 impl Boundary for Slip {
-    fn load(&self, files: [&[u8]; 5], table: &mut [u32]) -> [u32; 4] {
+    fn load(&self, files: [&[u8]; 5], table: &mut [u32]) -> [u32; 5] {
         if let RefusesAll = self {
-            return [4, 1, 1, 0];
+            return [4, 1, 1, 0, 1];
         }
         let answer = Reader.load(files, table);
-        let [number, file, line, words] = answer;
+        let [number, file, line, words, column] = answer;
         match self {
             WordAfterUsed if number == 0 => bump(table, words as usize),
             // SAFETY: the comparison keeps guard words behind the words lent.
             WordOutside if number == 0 => unsafe { *table.as_mut_ptr().add(table.len()) ^= 1 },
             WordOnRefusal if number == 19 => bump(table, 0),
             LastWord if number == 0 => bump(table, words as usize - 1),
-            NeededLost if number == 20 => return [20, 0, 0, 0],
-            LineOfRefusal if number == 15 => return [number, file, line - 1, words],
+            NeededLost if number == 20 => return [20, 0, 0, 0, 0],
+            LineOfRefusal if number == 15 => return [number, file, line - 1, words, column],
+            ColumnLost => return [number, file, line, words, 0],
+            ColumnOfRun if number == 4 && file == 5 && (51..=55).contains(&column) => return [4, 5, line, 0, 50],
+            RepeatsBlamed if number == 4 && column == 27 => return [4, file, line, 0, 23],
+            ColumnOfDate if number == 5 => return [5, file, line, 0, 1],
             _ => {}
         }
         answer

@@ -1,6 +1,7 @@
 //! Document 01's "Checked examples".
 
 use super::{a, bitfield, call, file, g, text, z};
+use crate::columns::line;
 use crate::reader::bits::{frame_ok, runs_on};
 use crate::reader::calendar::{day_number, period, LAST_DAY};
 use crate::reader::fields::{date, detail, hex_words, range_end, time, Date, Time};
@@ -62,8 +63,13 @@ fn load_in(files: &[Vec<u8>; 5], room: usize) -> (Loaded, Vec<u32>) {
     (loaded, table)
 }
 
+/// A refusal that is not 4.
 fn refused(number: u32, file: u32, line: u32) -> Loaded {
-    Loaded::Refused { number, file, line, needed: 0 }
+    Loaded::Refused { number, file, line, column: 0, needed: 0 }
+}
+
+fn broken(file: u32, line: u32, column: usize) -> Loaded {
+    Loaded::Refused { number: 4, file, line, column, needed: 0 }
 }
 
 #[test]
@@ -178,7 +184,7 @@ fn the_trial_week() {
     assert_eq!(table[44..52], [1_000_011, 0, 480, 2, 1_000_022, 490, 492, 3]);
     assert_eq!(table[52..60], [1_000_033, 510, 515, 3, 1_000_022, 535, 0, 1]);
     assert_eq!(table[60..66], [4_342_100, 0, 3, 1, 0, 3]);
-    assert_eq!(load_in(&files, 65).0, Loaded::Refused { number: 20, file: 0, line: 0, needed: 66 });
+    assert_eq!(load_in(&files, 65).0, Loaded::Refused { number: 20, file: 0, line: 0, column: 0, needed: 66 });
     assert_eq!(load_in(&files, 65).1, [7; 65]);
 }
 
@@ -234,7 +240,31 @@ fn sixty_minutes() {
     assert_eq!(form_interchange(b"9999999 61 99"), Some(9));
     let mut files = trial_week();
     files[3] = text(&["9999999 61  3"]);
-    assert_eq!(load_in(&files, 66).0, refused(4, 4, 1));
+    assert_eq!(load_in(&files, 66).0, broken(4, 1, 9));
+}
+
+/// Document 02, No. 6.
+#[test]
+fn columns_of_a_broken_form() {
+    let first = |line: String| {
+        let mut files = trial_week();
+        files[4] = file(&[z("00042", "FERRY_", "", ""), line]);
+        load_in(&files, 66).0
+    };
+    let opened = |repeats: &str, offset: &str| form_z(z("00042", "FERRY_", repeats, offset).as_bytes());
+    // "59 for a missing "%"; for repeats and offset that do not fit each other, 27"
+    assert_eq!(first(g("BAT", ALL, ALL).replace('%', " ")), broken(5, 2, 59));
+    assert_eq!(first("*G BAT".to_string()), broken(5, 2, 59));
+    assert_eq!([opened("", "010"), opened("023", ""), opened("023", "000")], [Some(27); 3]);
+    assert_eq!([opened("0 3", "010"), opened("A23", ""), opened("A23", "B"), opened("23", "000")], [Some(23); 4]);
+    // an unnamed column is told itself
+    assert_eq!(form_z(line(&[(1, "*Z 00042 FERRY_"), (20, "x"), (59, "%")]).as_bytes()), Some(20));
+    // where the leftmost starts, a field or an unnamed column
+    assert_eq!(first(call("1000011", " 00860", "x 0812")), broken(5, 2, 30));
+    assert_eq!(first(line(&[(1, "1000011"), (36, "x"), (37, "?"), (59, "%")])), broken(5, 2, 36));
+    // a detail is a field of its own, and beside "#1" it is not looked at
+    assert_eq!(first(g("BAT", ("1000011", ""), ("1000022", " 00872"))), broken(5, 2, 31));
+    assert_eq!(first(g("BAT", ("#1", "unread"), ("1000022", "#"))), broken(5, 2, 31));
 }
 
 #[test]
@@ -265,10 +295,10 @@ fn orders_of_offence() {
     files[4].splice(0..0, *b"*G\n");
     assert_eq!(load_in(&files, 66).0, refused(12, 5, 1));
     files[4].splice(0..3, *b"*Z\n");
-    assert_eq!(load_in(&files, 66).0, refused(4, 5, 1));
+    assert_eq!(load_in(&files, 66).0, broken(5, 1, 4));
     let mut files = trial_week();
     files[4].extend_from_slice(b"*G");
-    assert_eq!(load_in(&files, 66).0, refused(4, 5, 8));
+    assert_eq!(load_in(&files, 66).0, broken(5, 8, 4));
 }
 
 /// Lines of a service with so many calls and ranges, and the FPLAN lines after them.

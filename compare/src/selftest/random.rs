@@ -9,7 +9,7 @@ use crate::generate::plan::date_of;
 use crate::generate::raw_table::parts;
 use crate::generate::{damaged_table, mixed, oversized, question, valid, Aim, Case, Question, Rng, Size};
 use crate::layout::{ROW_FLAGS_AT, ROW_WORDS};
-use crate::reader::{day, interchange, is_table, load, refused_column, walk, Changed, DayAnswer, Loaded, Walked};
+use crate::reader::{day, interchange, is_table, load, walk, Changed, DayAnswer, Loaded, Walked};
 
 const LENT: u32 = 0xAAAA_AAAA;
 
@@ -74,14 +74,13 @@ fn run(case: &Case) -> (Loaded, Vec<u32>) {
 
 fn check_aim(case: &Case, aim: &Aim, loaded: Loaded) {
     match loaded {
-        Loaded::Refused { number, file, line, needed } => {
-            assert_eq!((number, file, line), (aim.number, aim.file, aim.line));
+        Loaded::Refused { number, file, line, column, needed } => {
+            assert_eq!((number, file, line, column), (aim.number, aim.file, aim.line, aim.column));
             assert_eq!(needed > case.room as u32, number == 20);
             assert!(number == 20 || needed == 0);
         }
         Loaded::Accepted { .. } => panic!("accepted, but aimed at {:?}", aim),
     }
-    assert_eq!(refused_column(case.slices(), loaded), aim.column);
 }
 
 fn check_valid(case: &Case, loaded: Loaded, table: &[u32]) {

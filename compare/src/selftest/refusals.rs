@@ -4,7 +4,6 @@ use std::collections::BTreeSet;
 
 use super::file;
 use crate::boundary::{Boundary, Reader};
-use crate::reader::{load, refused_column};
 
 const DOCUMENT: &str = include_str!("../../../docs/REFUSALS.md");
 
@@ -68,10 +67,13 @@ fn written(lines: &[&str]) -> Vec<String> {
     all
 }
 
-fn numbers(head: &str, words: [&str; 3]) -> Option<[u32; 3]> {
+/// The numbers of a line `refused N file F line L column C`.
+fn numbers(head: &str) -> Option<[u32; 4]> {
     let parts: Vec<&str> = head.split(' ').collect();
     match parts[..] {
-        [a, x, b, y, c, z] if [a, b, c] == words => Some([x.parse().ok()?, y.parse().ok()?, z.parse().ok()?]),
+        ["refused", n, "file", f, "line", l, "column", c] => {
+            Some([n.parse().ok()?, f.parse().ok()?, l.parse().ok()?, c.parse().ok()?])
+        }
         _ => None,
     }
 }
@@ -102,53 +104,42 @@ fn with(mut files: Files, number: u32, line: u32, lines: Vec<String>) -> Files {
     files
 }
 
-fn answer(files: &Files, room: usize) -> [u32; 4] {
+/// number, file, line, words, column
+fn answer(files: &Files, room: usize) -> [u32; 5] {
     let [a, b, c, d, e] = files;
     Reader.load([a, b, c, d, e], &mut vec![0; room])
 }
 
-/// Document 02's column of a refusal 4 is where the first mark starts.
-fn check_column(files: &Files, wrong: &[&str]) {
-    let [a, b, c, d, e] = files;
-    let files: [&[u8]; 5] = [a, b, c, d, e];
-    let column = refused_column(files, load(files, &mut []));
-    let mark = wrong.iter().find(|line| is_mark(line)).unwrap();
-    assert_eq!(column, marked(mark)[0].0, "{:?}", wrong);
-}
-
-fn check_example([number, of, line]: [u32; 3], lines: &[&str]) {
+fn check_example([number, of, line, column]: [u32; 4], lines: &[&str]) {
     if number == 1 {
         let mut files = trial_week();
         files[of as usize - 1].resize(16_777_217, b' ');
-        assert_eq!(answer(&files, 66), [number, of, line, 0]);
+        assert_eq!(answer(&files, 66), [number, of, line, 0, column]);
         return;
     }
     if number == 20 {
-        assert_eq!(answer(&trial_week(), 65), [number, of, line, 66]);
+        assert_eq!(answer(&trial_week(), 65), [number, of, line, 66, column]);
         return;
     }
     let cut = lines.iter().position(|line| *line == "mended").unwrap();
     let (wrong, mended) = (&lines[..cut], &lines[cut + 1..]);
     let files = with(trial_week(), of, line, written(wrong));
-    assert_eq!(answer(&files, 500), [number, of, line, 0], "{:?}", wrong);
-    if number == 4 {
-        check_column(&files, wrong);
-    }
+    assert_eq!(answer(&files, 500), [number, of, line, 0, column], "{:?}", wrong);
     let files = with(trial_week(), of, line, written(mended));
     assert_eq!(answer(&files, 500)[0], 0, "{:?}", mended);
 }
 
 #[test]
 fn the_trial_week() {
-    assert_eq!(answer(&trial_week(), 66), [0, 0, 0, 66]);
+    assert_eq!(answer(&trial_week(), 66), [0, 0, 0, 66, 0]);
 }
 
 #[test]
 fn examples() {
     let mut shown = BTreeSet::new();
     for block in blocks() {
-        if block[0].starts_with("refused ") && block[0] != "refused N file F line L" {
-            let refusal = numbers(block[0], ["refused", "file", "line"]).unwrap_or_else(|| panic!("{}", block[0]));
+        if block[0].starts_with("refused ") && block[0] != "refused N file F line L column C" {
+            let refusal = numbers(block[0]).unwrap_or_else(|| panic!("{}", block[0]));
             check_example(refusal, &block[1..]);
             shown.insert(refusal[0]);
         }

@@ -46,8 +46,9 @@ pub fn saturdays(boundary: &dyn Boundary) -> Vec<Checked> {
     let printed = "C0810204081020408102040810204081020";
     let days = bit_digits(&bitfield_of(SATURDAY_DAYS, |d| d % 7 == 6));
     let begins = u32::from(days.starts_with(printed));
-    let refused =
-        |text: &str, line: String, number: u32| paper.clone().with(2, &[line]).refused(boundary, text, [number, 2, 1]);
+    let refused = |text: &str, line: String, number: u32, column: u32| {
+        paper.clone().with(2, &[line]).refused(boundary, text, [number, 2, 1, column])
+    };
     let mended = paper.clone().with(2, &[bitfield("000001", &days)]);
     let (accepted, table) = mended.accepted(
         boundary,
@@ -61,9 +62,9 @@ pub fn saturdays(boundary: &dyn Boundary) -> Vec<Checked> {
     let asked: Vec<u32> = (0..SATURDAY_DAYS).flat_map(runs).collect();
     let expected: Vec<u32> = (0..SATURDAY_DAYS).flat_map(|d| [0, u32::from(d % 7 == 6)]).collect();
     vec![
-        refused("5.4.2 as printed, with dots", format!("000001 {} ...", printed), 4),
-        refused("5.4.2 the first digits, without frame", bitfield("000001", "02040810204081020408102040810204081"), 8),
-        refused("5.4.2 the framed digits, not closed", bitfield("000001", printed), 8),
+        refused("5.4.2 as printed, with dots", format!("000001 {} ...", printed), 4, 8),
+        refused("5.4.2 the first digits, without frame", bitfield("000001", "02040810204081020408102040810204081"), 8, 0),
+        refused("5.4.2 the framed digits, not closed", bitfield("000001", printed), 8, 0),
         accepted,
         Checked::new("5.4.2 the digits begin as printed", &[1], &[begins]),
         Checked::new("5.4.2 each day of the period", &expected, &asked),
@@ -84,8 +85,8 @@ pub fn interchange_times(boundary: &dyn Boundary) -> Vec<Checked> {
     let minutes = |stop, class| boundary.interchange(&table, stop, [class, class])[1];
     let asked = [minutes(8_800_002, 1), minutes(8_800_002, 2), minutes(8_800_002, 3), minutes(5_800_010, 1), minutes(5_800_010, 3)];
     vec![
-        printed.refused(boundary, "5.7 with one blank between, columns 9-10 are no count", [4, 4, 1]),
-        records.refused(boundary, "5.7 Basel is not in BAHNHOF", [9, 4, 2]),
+        printed.refused(boundary, "5.7 with one blank between, columns 9-10 are no count", [4, 4, 1, 9]),
+        records.refused(boundary, "5.7 Basel is not in BAHNHOF", [9, 4, 2, 0]),
         accepted,
         Checked::new("5.7 classes 1, 2 and 3 elsewhere, 1 and 3 in Basel", &[2, 2, 3, 5, 5], &asked),
     ]

@@ -58,7 +58,7 @@ pub fn service_1554(boundary: &dyn Boundary) -> Vec<Checked> {
     let ends: Vec<u32> =
         table[words - 4 * EXTRA_WORDS..words].chunks(EXTRA_WORDS).flat_map(|other| [other[2], other[3]]).collect();
     vec![
-        paper.with(5, &old).refused(boundary, "5.3.1 with \"%\" in column 55", [4, 5, 1]),
+        paper.with(5, &old).refused(boundary, "5.3.1 with \"%\" in column 55", [4, 5, 1, 55]),
         accepted,
         Checked::new("5.3.1 where BR, BW, L and LS apply", &[2, 8, 0, 4, 4, 8, 6, 8], &ends),
     ]
@@ -127,15 +127,15 @@ pub fn service_114_refused(boundary: &dyn Boundary) -> Vec<Checked> {
     wide.files[4] = taken.join("\n").into_bytes();
     let mut next: Vec<String> = taken.iter().map(|line| mended(line)).collect();
     next.push(NEXT_SERVICE.to_string());
-    let refused = |text: &str, lines: &[String], number_file_line: [u32; 3]| {
-        paper.clone().with(5, lines).refused(boundary, text, number_file_line)
+    let refused = |text: &str, lines: &[String], refusal: [u32; 4]| {
+        paper.clone().with(5, lines).refused(boundary, text, refusal)
     };
     vec![
-        refused("5.3.14 as printed, *L", &without(&[]), [11, 5, 5]),
-        refused("5.3.14 without *L, *R", &without(&NOT_TAKEN[..1]), [11, 5, 5]),
-        refused("5.3.14 without *L and *R, 0053352 is not on the route", &taken, [16, 5, 3]),
-        refused("5.3.14 mended, line 25 as printed", &next, [4, 5, 23]),
-        wide.refused(boundary, "5.3.14 in UTF-8, Wannseebrücke is a column wider", [4, 5, 6]),
+        refused("5.3.14 as printed, *L", &without(&[]), [11, 5, 5, 0]),
+        refused("5.3.14 without *L, *R", &without(&NOT_TAKEN[..1]), [11, 5, 5, 0]),
+        refused("5.3.14 without *L and *R, 0053352 is not on the route", &taken, [16, 5, 3, 0]),
+        refused("5.3.14 mended, line 25 as printed", &next, [4, 5, 23, 4]),
+        wide.refused(boundary, "5.3.14 in UTF-8, Wannseebrücke is a column wider", [4, 5, 6, 30]),
     ]
 }
 

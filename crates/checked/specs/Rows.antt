@@ -1,4 +1,5 @@
--- "Rows marked P are proved together as one list by one theorem": the rows, each with its line of the paper. `Rattle.checked.proofs.Rows` proves them.
+-- "Rows marked P are proved together as one list by one theorem": the rows, each with its line of the paper (the last with document 02's).
+-- `Rattle.checked.proofs.Rows` proves them.
 -- Assumes nothing.
 use Prim.Native.Nat.{ℕ}
 use Prim.Native.String.{String}
@@ -69,7 +70,7 @@ rows =
     -- "P With n = 7, FE6 and zeros runs on days 0 to 4"
     ∷ row (days 7 trial) (Runs ∷ Runs ∷ Runs ∷ Runs ∷ Runs ∷ Idle ∷ Idle ∷ [])
     -- "P FE4 and zeros answers 8": file 2, line 1
-    ∷ row (answer (week trialPeriod (bitField "000001" "FE4") (categoryOverAll ++ daysOverAll))) (Refused 8 2 1 0)
+    ∷ row (answer (week trialPeriod (bitField "000001" "FE4") (categoryOverAll ++ daysOverAll))) (Refused 8 2 1 0 0)
     -- "P n = 1, D8 and zeros: never."
     ∷ row (answer oneDay) (Accepted 66)
     ∷ row (days 1 oneDay) (Idle ∷ [])
@@ -81,9 +82,9 @@ rows =
     ∷ row (ends (withCategory "*G BAT         1000022        #0                          %")) (1 ∷ [])
     ∷ row (ends (withCategory "*G BAT         1000022         00810                      %")) (1 ∷ [])
     -- "P "#2" answers 16": file 5, line 2
-    ∷ row (answer (withCategory "*G BAT         1000022        #2                          %")) (Refused 16 5 2 0)
+    ∷ row (answer (withCategory "*G BAT         1000022        #2                          %")) (Refused 16 5 2 0 0)
     -- "P from "#4" answers 16."
-    ∷ row (answer (withCategory "*G BAT #4                                                 %")) (Refused 16 5 2 0)
+    ∷ row (answer (withCategory "*G BAT #4                                                 %")) (Refused 16 5 2 0 0)
     -- "P Legs 0 and 2 on FE6, leg 1 on C1E: 19.": file 5, line 1
     ∷ row
     (answer
@@ -92,7 +93,7 @@ rows =
     ++ line "*A VE #0      #1      000001                              %"
     ++ line "*A VE #1      #2      000002                              %"
     ++ line "*A VE #2      #3      000001                              %")))
-    (Refused 19 5 1 0)
+    (Refused 19 5 1 0 0)
     -- "P Leg 0 daily, others FE6: passes."
     ∷ row
     (answer
@@ -106,4 +107,6 @@ rows =
     ∷ row (interchangeAsked (tableWords (delivered trial)) 1000011 1 1) (Minutes 2)
     ∷ row (interchangeAsked (tableWords (delivered trial)) 1000011 2 2) (Minutes 2)
     ∷ row (interchangeAsked (tableWords (delivered trial)) 1000011 2 3) (Minutes 3)
+    -- No. 6: "A refusal 4 also returns the column .. (59 for a missing "%")": file 5, line 2
+    ∷ row (answer (withCategory "*G BAT")) (Refused 4 5 2 59 0)
     ∷ []

@@ -7,6 +7,7 @@ use lib.ListN.{length}
 use lib.Dec.{eqb, ltb, leb}
 use Rattle.base.specs.Lists.{countIf, upto, below}
 use Rattle.bitfield.specs.BitField.{bit, runsOn, framed}
+use Rattle.timetable.specs.Layout.{mostPeriodDays}
 use Rattle.day_sets.specs.declared.Operation.{Operation}
 use Rattle.day_sets.specs.declared.Operation.the-variants.{Union, Intersection, Difference}
 use Rattle.day_sets.specs.declared.SetAnswer.{SetAnswer}
@@ -59,7 +60,7 @@ dayCount n field = countIf (runsOn field) (below n)
 -- ---- "42 if n is not 1 to 380 or a lent field or the result is not twelve words, or a field has a wrong frame; the result words then stay"
 
 unfoldable pub isField : ℕ → List ℕ → Bool
-isField n words = leb 1 n && (leb n 380 && (eqb (length words) 12 && framed n words))
+isField n words = leb 1 n && (leb n mostPeriodDays && (eqb (length words) 12 && framed n words))
 
 abbrev pub setAnswer : Bool → SetAnswer
 setAnswer taken = cond taken Given (Refused 42)

@@ -8,6 +8,7 @@ ghost use Prim.Native.Nat.{_-_, _≤_, _<_};
 ghost use lib.ListN.{length};
 ghost use Rattle.base.specs.Lists.{countIf, upto};
 ghost use Rattle.bitfield.specs.BitField.{bit, runsOn};
+ghost use Rattle.timetable.specs.Layout.{mostPeriodDays};
 ghost use Rattle.day_sets.specs.DaySets.{wordOf, fieldOf, bitIn, combined, complement, dayCount, isField, combineAsked, combineWritten, complementAsked, complementWritten, countAsked};
 
 // What of two sets of days is wanted: the days of either, those of both, those of the first that the second has not.
@@ -121,7 +122,7 @@ fn field_in(words: &[u32]) -> [u32; 12]
 
 // The field of n days that two fields make.
 fn combined(op: Operation, n: u32, first: [u32; 12], second: [u32; 12]) -> [u32; 12]
-    requires { ⌜ n ≤ 380 ⌝ }
+    requires { ⌜ n ≤ mostPeriodDays ⌝ }
     ensures { λ r. ⌜ r ≡ combined op n first second ⌝ }
 {
     match op {
@@ -133,7 +134,7 @@ fn combined(op: Operation, n: u32, first: [u32; 12], second: [u32; 12]) -> [u32;
 
 // The field of the other days of the period.
 fn other_days(n: u32, field: [u32; 12]) -> [u32; 12]
-    requires { ⌜ n ≤ 380 ⌝ }
+    requires { ⌜ n ≤ mostPeriodDays ⌝ }
     ensures { λ r. ⌜ r ≡ complement n field ⌝ }
 {
     in_frame(n, bitfield::without(bitfield::all_bits(), field))
@@ -141,7 +142,7 @@ fn other_days(n: u32, field: [u32; 12]) -> [u32; 12]
 
 // The number of its days, which stand at bits 2 to n + 1.
 fn day_count(n: u32, field: [u32; 12]) -> u32
-    requires { ⌜ n ≤ 380 ⌝ }
+    requires { ⌜ n ≤ mostPeriodDays ⌝ }
     ensures { λ r. ⌜ r ≡ dayCount n field ⌝ }
 {
     count_bits(field, 2, n + 2)
@@ -163,7 +164,7 @@ fn count_bits(bits: [u32; 12], from: u32, to: u32) -> u32
 
 // The field of n days that has the days of some bits. Their bits that are no days make way for the frame.
 fn in_frame(n: u32, days: [u32; 12]) -> [u32; 12]
-    requires { ⌜ n ≤ 380 ⌝ }
+    requires { ⌜ n ≤ mostPeriodDays ⌝ }
     ensures { λ r. ⌜ r ≡ fieldOf n (runsOn days) ⌝ }
 {
     let mut r = [0u32; 12];
@@ -177,7 +178,7 @@ fn in_frame(n: u32, days: [u32; 12]) -> [u32; 12]
 
 // Word i of it.
 fn framed_word(n: u32, days: [u32; 12], i: u32) -> u32
-    requires { ⌜ (n ≤ 380) × (i < 12) ⌝ }
+    requires { ⌜ (n ≤ mostPeriodDays) × (i < 12) ⌝ }
     ensures { λ r. ⌜ r ≡ wordOf (bitIn n days) i ⌝ }
 {
     let mut word: u32 = 0;
@@ -191,7 +192,7 @@ fn framed_word(n: u32, days: [u32; 12], i: u32) -> u32
 
 // Bit k of it.
 fn framed_bit(n: u32, days: [u32; 12], k: u32) -> bool
-    requires { ⌜ (n ≤ 380) × (k < 384) ⌝ }
+    requires { ⌜ (n ≤ mostPeriodDays) × (k < 384) ⌝ }
     ensures { λ r. ⌜ r ≡ bitIn n days k ⌝ }
 {
     let day = bitfield::bit_of(days, k);

@@ -22,7 +22,7 @@ use Rattle.whole.specs.Promise.{Asked, Walk, not-running, short, runs, TwoRows}
 use Rattle.whole.proofs.Any.{two-rows}
 use Rattle.whole.proofs.Slack.{never-both}
 use Rattle.whole.proofs.Demand3.{demand3-promised}
-use Rattle.whole.proofs.Numbers.{load-numbered, day-numbered, interchange-numbered, walk-numbered}
+use Rattle.whole.proofs.Numbers.{load-numbered, load-columned, day-numbered, interchange-numbered, walk-numbered}
 use Rattle.estelunya.specs.declared.LoadResult.{LoadResult}
 use Rattle.estelunya.specs.declared.WalkResult.{WalkResult}
 use Rattle.estelunya.specs.Answers.{loadResult, dayResult, interchangeResult, walkResult}
@@ -34,7 +34,15 @@ accepted f room e = go (loaded f room) refl e
   where
     go : (a : Loaded) → loaded f room ≡ a → loadResult a .number ≡ 0 → a ≡ Accepted (loadResult a .words)
     go (Accepted used) q e = refl
-    go (Refused number file line needed) q e = let h = load-numbered f room number file line needed q in absurd (omega (arith, h, e))
+    go (Refused number file line column needed) q e = let h = load-numbered f room number file line column needed q in absurd (omega (arith, h, e))
+
+-- an answer has a column exactly if its number is 4
+pub columned : (f : Files) (room : ℕ) {x : LoadResult} → x ≡ loadResult (loaded f room) → (x .number ≡ 4 → 1 ≤ x .column) × ((x .number ≡ 4 → ⊥) → x .column ≡ 0)
+columned f room e = subst (λ (y : LoadResult). (y .number ≡ 4 → 1 ≤ y .column) × ((y .number ≡ 4 → ⊥) → y .column ≡ 0)) (sym e) (go (loaded f room) refl)
+  where
+    go : (a : Loaded) → loaded f room ≡ a → (loadResult a .number ≡ 4 → 1 ≤ loadResult a .column) × ((loadResult a .number ≡ 4 → ⊥) → loadResult a .column ≡ 0)
+    go (Accepted used) q = (λ k. absurd (omega arith), λ k. refl)
+    go (Refused number file line column needed) q = load-columned f room number file line column needed q
 
 -- and so with the questions: an answer numbered 0 is no refusal
 pub day-answered : (w : List ℕ) (d m y field number : ℕ) → dayResult (dayAsked w d m y field) .number ≡ 0 → dayAsked w d m y field ≡ DayRefused number → ⊥

@@ -13,10 +13,11 @@ use Rattle.estelunya.specs.declared.DayResult.{DayResult}
 use Rattle.estelunya.specs.declared.InterchangeResult.{InterchangeResult}
 use Rattle.estelunya.specs.declared.WalkResult.{WalkResult}
 
--- "A refusal returns number, file, line, and the words needed (0 unless 20) .. Acceptance returns words used"
+-- "A refusal returns number, file, line, and the words needed (0 unless 20) .. Acceptance returns words used"; No. 6: "A refusal 4 also returns the
+-- column ..; all other refusals return 0 there."
 abbrev pub loadResult : Loaded → LoadResult
-loadResult (Accepted used) = record { number = 0; file = 0; line = 0; words = used }
-loadResult (Refused number file line needed) = record { number = number; file = file; line = line; words = needed }
+loadResult (Accepted used) = record { number = 0; file = 0; line = 0; words = used; column = 0 }
+loadResult (Refused number file line column needed) = record { number = number; file = file; line = line; words = needed; column = column }
 
 -- 1 where the bit field runs on the day
 abbrev pub dayResult : DayAnswer → DayResult

@@ -17,13 +17,15 @@ ghost use Rattle.day_sets.specs.DaySets.{combineAsked, combineWritten, compleme
 ghost use Rattle.estelunya.specs.Answers.{loadResult, dayResult, interchangeResult, walkResult};
 ghost use Rattle.estelunya.specs.DaySets.{daySetResult, dayCountResult};
 
-// number 0: accepted, and words is the words used; else the refusal's number, file and line, and words is the words needed (0 unless 20).
+// number 0: accepted, and words is the words used; else the refusal's number, file and line, words is the words needed (0 unless 20), and column is
+// where the line breaks its form (0 unless 4).
 #[repr(C)]
 pub struct LoadResult {
     pub number: u32,
     pub file: u32,
     pub line: u32,
     pub words: u32,
+    pub column: usize,
 }
 
 // number 0: runs is 1 where the bit field runs on the day, else 0; other numbers are refusals.
@@ -184,17 +186,20 @@ fn load_result(a: Loaded) -> LoadResult
             file: 0,
             line: 0,
             words: used,
+            column: 0,
         },
         Loaded::Refused {
             number,
             file,
             line,
+            column,
             needed,
         } => LoadResult {
             number,
             file,
             line,
             words: needed,
+            column,
         },
     }
 }

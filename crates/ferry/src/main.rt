@@ -129,17 +129,23 @@ fn tell(answer: Loaded, table: &[u32; TABLE_WORDS]) {
             number,
             file,
             line,
+            column,
             needed,
         } => {
             say(b"refused ", number);
             say(b" file ", file);
             say(b" line ", line);
+            say_size(b" column ", column);
         }
     }
     end_line();
 }
 
 fn say(text: &[u8], number: u32) {
+    say_size(text, number as usize);
+}
+
+fn say_size(text: &[u8], number: usize) {
     io::write_all(STDOUT_FILENO, text);
     io::print_decimal(STDOUT_FILENO, number as u64);
 }

@@ -2,3 +2,4 @@ pub mod Form
 pub mod Columns
 pub mod Rows
 pub mod Kinds
+pub mod Leftmost

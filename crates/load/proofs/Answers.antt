@@ -44,7 +44,7 @@ module _ (e b s u p : List ℕ) (d : Delivered) (k : d ≡ deliveredBy (offence 
         go none v = apart (cc)
         go (some w) v = let a : w .file ≡ file = cc in let c : w .offence ≡ o = cc in rw (← a, ← c) refl
 
-    pub refused : (t : List ℕ) → LoadRefused (o .number) file (o .line) 0 ≡ loaded (filesOf e b s u p) (length t)
+    pub refused : (t : List ℕ) → LoadRefused (o .number) file (o .line) (o .column) 0 ≡ loaded (filesOf e b s u p) (length t)
     unfolding loaded
     refused t = rw offence-is refl
 
@@ -88,7 +88,7 @@ module _ (e b s u p : List ℕ) (d : Delivered) (k : d ≡ deliveredBy (offence 
 
     module _ (t : List ℕ) where
       -- 20
-      pub too-short : length t < h .words → LoadRefused 20 0 0 (h .words) ≡ loaded (filesOf e b s u p) (length t)
+      pub too-short : length t < h .words → LoadRefused 20 0 0 0 (h .words) ≡ loaded (filesOf e b s u p) (length t)
       unfolding loaded
       too-short l = rw (clean .0, size-is, lt-ltb (length t) (h .words) l) refl
 

@@ -40,6 +40,7 @@ pub fn load(
             number: offence.number,
             file,
             line: offence.line,
+            column: offence.column,
             needed: 0,
         },
         Delivered::Holds(header) => {
@@ -49,6 +50,7 @@ pub fn load(
                     number: 20,
                     file: 0,
                     line: 0,
+                    column: 0,
                     needed: used,
                 };
             }
@@ -101,15 +103,7 @@ fn check_delivery(
     let Checked::Holds(services, words) = plan else {
         return refused(5, plan);
     };
-    Delivered::Holds(header_of(
-        start,
-        days,
-        fields,
-        stops,
-        interchanges,
-        services,
-        words,
-    ))
+    Delivered::Holds(header_of(start, days, fields, stops, interchanges, services, words))
 }
 
 // The first file of over 16,777,216 bytes, by the sizes of the five; 0 where none is.

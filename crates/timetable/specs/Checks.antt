@@ -24,7 +24,7 @@ use Rattle.timetable.specs.declared.RangeLine.{RangeLine}
 use Rattle.timetable.specs.declared.Told.{Told}
 use Rattle.timetable.specs.declared.Told.the-variants.{Skip, Other, Broken, Opens, Ranges, Calls}
 
--- ---- a line's own offences, after the lines of its service before it: "Within a line by the order 12, 11, 4, 13, .., 9, 10" (12: `planFirst`, below)
+-- ---- a line's own offences, after the lines of its service before it: "Within a line by the order 12, 11, 4, 13, .., 9, 10" (12: `headFirst`, below)
 
 -- "50 *G, 50 *A VE or 100 other *A"
 abbrev pub most : Part → ℕ
@@ -33,13 +33,13 @@ most Days = mostDays
 most Extra = mostExtras
 
 module _ (fields : List BitField) (stops : List StopRecord) where
-  -- "13 in one service over 200 calls, 50 *G, 50 *A VE or 100 other *A", at the first over; "10 bit field neither 000000 nor in BITFELD" (a *G line
+  -- "13 in one service over .. 50 *G, 50 *A VE or 100 other *A", at the first over; "10 bit field neither 000000 nor in BITFELD" (a *G line
   -- has none, which is 000000)
   abbrev pub rangeOffence : List Line → ℕ → RangeLine → Option Offence
   rangeOffence before line r =
       given (leb (most (r .part)) (length (partLines (r .part) before))) 13 line <|> given (not (fieldKnown (r .field) fields)) 10 line
 
-  -- 13; "9 .. schedule stop not in BAHNHOF"
+  -- "13 in one service over 200 calls"; "9 .. schedule stop not in BAHNHOF"
   abbrev pub callOffence : List Line → ℕ → Call → Option Offence
   callOffence before line c = given (leb mostCalls (length (callsOf before))) 13 line <|> given (not (hasStop (c .stop) stops)) 9 line
 

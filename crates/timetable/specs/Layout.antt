@@ -1,4 +1,4 @@
--- The sizes of the table's records and the limits of the rules, each a number of the paper with a name. The code's names for them are tied to
+-- The sizes of the table's records and the limits of the rules, each a number of the paper with a name (but for the last). The code's names for them are tied to
 -- these by `timetable::sizes_tied` and `limits_tied`. Assumes nothing.
 use Prim.Native.Nat.{ℕ, _+_, _*_}
 
@@ -75,7 +75,7 @@ mostDays = 50
 abbrev pub mostExtras : ℕ
 mostExtras = 100
 
--- "repeats or offset over 999"
+-- "repeats or offset over 999": the limit of both
 abbrev pub mostRepeats : ℕ
 mostRepeats = 999
 
@@ -87,6 +87,6 @@ latestTime = 59999
 abbrev pub allFlags : ℕ
 allFlags = 15
 
--- how late the last repeat may be: repeats times offset
+-- how late a repeat may be, for contracts of inner functions only: `mostRepeats` times `mostRepeats`
 abbrev pub mostDelay : ℕ
 mostDelay = 998001

@@ -59,10 +59,12 @@ offence f =
 unfoldable pub onto : List ℕ → List ℕ → List ℕ
 onto ws t = ws ++ drop (length ws) t
 
--- "A refusal returns number, file, line, and the words needed (0 unless 20)"; "20 table lent too short", file 0, line 0; "Acceptance returns words used"
+-- "A refusal returns number, file, line, and the words needed (0 unless 20)"; "20 table lent too short", file 0, line 0; "Acceptance returns words used".
+-- No. 6: "A refusal 4 also returns the column where the leftmost field or unnamed column that breaks the form starts ..; all other refusals return 0
+-- there." (The offence's own: `formOffence` has it from the form, every other offence is made by `offenceAt`.)
 abbrev pub loadedBy : Option Where → ℕ → ℕ → Loaded
-loadedBy (some w) needed room = Refused (w .offence .number) (w .file) (w .offence .line) 0
-loadedBy none needed room = cond (ltb room needed) (Refused 20 0 0 needed) (Accepted needed)
+loadedBy (some w) needed room = Refused (w .offence .number) (w .file) (w .offence .line) (w .offence .column) 0
+loadedBy none needed room = cond (ltb room needed) (Refused 20 0 0 0 needed) (Accepted needed)
 
 unfoldable pub loaded : Files → ℕ → Loaded
 loaded f room = loadedBy (offence f) (length (tableWords (delivered f))) room
@@ -70,7 +72,7 @@ loaded f room = loadedBy (offence f) (length (tableWords (delivered f))) room
 -- "the table stays as lent"
 abbrev pub writtenBy : Loaded → List ℕ → List ℕ → List ℕ
 writtenBy (Accepted used) ws t = onto ws t
-writtenBy (Refused number file line needed) ws t = t
+writtenBy (Refused number file line column needed) ws t = t
 
 unfoldable pub written : Files → List ℕ → List ℕ
 written f t = writtenBy (loaded f (length t)) (tableWords (delivered f)) t

@@ -1,4 +1,4 @@
--- FPLAN, line by line: what each kind of line says. Assumes nothing.
+-- FPLAN, line by line: what each kind of line says. The columns are those of forms/specs/Columns, said again where they are read. Assumes nothing.
 use Prim.Native.Nat.{ℕ, _+_, _*_}
 use mathlib.Core.List.{List, [], _∷_, map}
 use mathlib.Core.Bool.{Bool, true, false, cond}
@@ -41,7 +41,7 @@ openingIn text = record {
   offset = number (columns 27 29 text);
 }
 
--- "*G: 4-6 category, 8-14 from, 16-22 to, 24-29 from-detail, 31-36 to-detail"
+-- "*G: 4-6 category .., 8-14 from, 16-22 to, 24-29 from-detail, 31-36 to-detail"
 abbrev pub categoryIn : List ℕ → RangeLine
 categoryIn text = record {
   part = Category;
@@ -60,7 +60,7 @@ VE = 22085
 abbrev pub attributePart : ℕ → Part
 attributePart code = cond (eqb code VE) Days Extra
 
--- "*A: 4-5 code, 7-13 from, 15-21 to, 23-28 bit field digits or blank, 30-35 and 37-42 details"; "A blank bit field means 000000, daily."
+-- "*A: 4-5 code .., 7-13 from, 15-21 to, 23-28 bit field digits or blank, 30-35 and 37-42 details"; "A blank bit field means 000000, daily."
 abbrev pub attributeIn : List ℕ → RangeLine
 attributeIn text = record {
   part = attributePart (twoBytes 4 text);

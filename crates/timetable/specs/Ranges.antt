@@ -71,7 +71,7 @@ toStop cs n NoDetail = none
 abbrev pub within : List Call → RouteIndex → Option ℕ
 within cs k = cond (ltb (k .0) (length cs)) (some (k .0)) none
 
--- "A from or to is blank (first, last call), "#" and digits (route index from 0), or seven digits (stop)."
+-- "A from or to is blank (first, last call), "#" and digits with blanks around (route index from 0), or seven digits (stop)."
 abbrev pub fromBy : List Call → RangeEnd → Detail → Option ℕ
 fromBy cs Outer d = within cs (record { 0 = 0 })
 fromBy cs (Index k) d = within cs k

@@ -107,13 +107,14 @@ pub enum Checked {
 
 // ---- answers
 
-// What load answers: the words used, or number, file and line of the first offence, and the words needed (0 unless 20).
+// What load answers: the words used, or number, file, line and column (0 unless 4) of the first offence, and the words needed (0 unless 20).
 pub enum Loaded {
     Accepted(u32),
     Refused {
         number: u32,
         file: u32,
         line: u32,
+        column: usize,
         needed: u32,
     },
 }

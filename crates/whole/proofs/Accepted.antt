@@ -138,7 +138,7 @@ pub accepted-none : (o : Option Where) (needed room u : ℕ) → loadedBy o need
 accepted-none (some x) needed room u e = apart (cc)
 accepted-none none needed room u e = go (ltb room needed) refl e
   where
-    go : (t : Bool) → ltb room needed ≡ t → cond t (Refused 20 0 0 needed) (Accepted needed) ≡ Accepted u → (_≡_ {A = Option Where} none none) × (needed ≤ room) × (u ≡ needed)
+    go : (t : Bool) → ltb room needed ≡ t → cond t (Refused 20 0 0 0 needed) (Accepted needed) ≡ Accepted u → (_≡_ {A = Option Where} none none) × (needed ≤ room) × (u ≡ needed)
     go true q e = apart (cc)
     go false q e = (refl, ltb-false room needed q, let z : needed ≡ u = cc in sym z)
 

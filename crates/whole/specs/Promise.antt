@@ -37,7 +37,7 @@ pub record Asked (f : Files) (i r d m y : ℕ) (s : Service) (day : ℕ) : Type 
 pub record OwnRun (f : Files) (i : ℕ) (s : Service) (k : ℕ) : Type 0 where
   pub delivery : OwnText f
   pub service : FromText (blocks (linesOf (f .fplan))) i s
-  -- each leg has exactly one operating-day range, and each such range a bit field that BITFELD holds
+  -- each leg has exactly one operating-day range, and each such range a bit field that is 000000 or in BITFELD
   pub one-range : (leg : ℕ) → leg < legCount s → covering (λ (g : DayRange). g .legs) (s .days) leg ≡ 1
   pub fields-known : All (λ (g : DayRange). fieldKnown (g .field) (delivered f .fields) ≡ true) (s .days)
   -- a leg operates exactly when the bit field of its range runs

@@ -1,5 +1,6 @@
 -- "one unbroken stretch of calls, none missing, whose stated times never fall, and one category for each leg": the rows of a run, word by word.
--- Nothing here goes by the definitions that the walk lists its rows with. Assumes nothing.
+-- Nothing here goes by the definitions that the walk lists its rows with (`rowOf`, `rowFlags`, `categoryOn`, `interchangeAtStop`); what covers a leg, and
+-- which stop is listed, is said by the same definitions. Assumes nothing.
 use mathlib.Core.Path.{_≡_}
 use mathlib.Core.List.{List}
 use mathlib.Core.Bool.{true, false}

@@ -1,10 +1,10 @@
 //! `ordinary-loader [DIRECTORY]`: loads the delivery of a directory (else of this one), and prints what the program of
-//! document 01 prints: `accepted ..`, `refused N file F line L`, or `unread file F`.
+//! document 01 prints: `accepted ..`, `refused N file F line L column C`, or `unread file F`.
 
 use std::path::Path;
 use std::process::exit;
 
-use ordinary_loader::{words_of, Files};
+use ordinary_loader::{words_of, Files, Refusal};
 
 const NAMES: [&str; 5] = ["ECKDATEN", "BITFELD", "BAHNHOF", "UMSTEIGB", "FPLAN"];
 
@@ -16,7 +16,9 @@ fn main() {
             "accepted days {} bitfields {} stops {} interchange {} services {} words {}",
             words[2], words[3], words[4], words[5], words[6], words[0]
         ),
-        Err(refusal) => println!("refused {} file {} line {}", refusal.number, refusal.file, refusal.line),
+        Err(Refusal { number, file, line, column, .. }) => {
+            println!("refused {} file {} line {} column {}", number, file, line, column)
+        }
     }
 }
 

@@ -1,18 +1,19 @@
 use mathlib.Core.Path.{_≡_}
-use Prim.Native.Nat.{_-_}
+use Prim.Native.Nat.{_-_, _≤_}
+use native.Mathlib.Omega.{arith}
 use Rattle.forms.specs.Form.{unnamed}
 use Rattle.forms.proofs.Laws.{forms}
 use Rattle.forms.proofs.unnamed_form.Statement.{statement}
 use Rattle.forms.proofs.unnamed_form.Tie as tie
 
 abbrev Inv-loop : tie.InvT-loop
-Inv-loop line done to i₀ i = unnamed i to line ≡ unnamed done to line
+Inv-loop line done to i₀ i = (done ≤ i) × (unnamed i to line ≡ unnamed done to line)
 
 abbrev μ-loop : tie.MeasureT-loop
 μ-loop line done to i₀ i = to - i
 
 loop-holds : tie.Need-loop-holds Inv-loop μ-loop
-loop-holds c = search forms
+loop-holds c = (omega arith, search forms)
 
 returns : tie.Need-returns Inv-loop μ-loop
 returns c = search forms
@@ -33,7 +34,7 @@ loop-less : tie.Need-loop-less Inv-loop μ-loop
 loop-less c = search forms
 
 loop-again : tie.Need-loop-again Inv-loop μ-loop
-loop-again c = search forms
+loop-again c = (omega arith, search forms)
 
 returns-3 : tie.Need-returns-3 Inv-loop μ-loop
 returns-3 c = search forms
