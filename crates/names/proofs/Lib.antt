@@ -1,0 +1,8 @@
+pub mod Runs
+pub mod Reading
+pub mod Laws
+pub mod PatternAt
+pub mod Turns
+pub mod Fields
+pub mod Inside
+pub mod Examples
