@@ -64,8 +64,8 @@ fn handed_on() {
     unsafe {
         let day = drift_estelunya_day(words, length, 5, 12, 2025, 1);
         assert_eq!((day, day.runs), (raw::estelunya_day(words, length, 5, 12, 2025, 1), 1));
-        let change = drift_estelunya_interchange(words, length, 1_000_011, 2, 1);
-        assert_eq!((change, change.minutes), (raw::estelunya_interchange(words, length, 1_000_011, 2, 1), 3));
+        let change = drift_estelunya_interchange(words, length, 1_000_011, 3, 1);
+        assert_eq!((change, change.minutes), (raw::estelunya_interchange(words, length, 1_000_011, 3, 1), 3));
     }
 }
 
