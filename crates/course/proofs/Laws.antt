@@ -15,12 +15,12 @@ use Rattle.timetable.specs.Legs.{operated, stretches, legCount, operatedLegs}
 use Rattle.timetable.specs.Table.{calls#, rowsIn, callAt, serviceAt, tableOf, recordSound}
 use Rattle.timetable.specs.Questions.{legRefusal, firstRefusal, callsRefusal}
 use Rattle.timetable.proofs.Rows.{length-rows, rows-take, rows-drop}
-use Rattle.table.specs.Whole.{Whole}
+use Rattle.table.specs.JustTable.{JustTable}
 use Rattle.table.proofs.Says.{record-says}
-use Rattle.table.proofs.Whole.{whole-says}
-use Rattle.look.specs.Look.{servicePlace}
-use Rattle.look.proofs.Services.{service-none, service-is, service-sound}
-use Rattle.run.specs.Run.{noted, gap}
+use Rattle.table.proofs.JustTable.{whole-says}
+use Rattle.lookups.specs.Lookups.{servicePlace}
+use Rattle.lookups.proofs.Services.{service-none, service-is, service-sound}
+use Rattle.legs.specs.Run.{noted, gap}
 use Rattle.rows.specs.Rows.{callsFrom}
 use Rattle.course.specs.Course.{courseBy, stretchCourse, dayCourse, serviceCourse, courseOf}
 use Rattle.course.specs.declared.Course.{Course}
@@ -116,7 +116,7 @@ module _ (d : Delivery) (s : List ℕ) (r k : ℕ) where
 
 -- ---- of an index
 
-module _ (w : List ℕ) (h : Whole w) where
+module _ (w : List ℕ) (h : JustTable w) where
   pub count-word : 6 < length w
   count-word = omega (arith, whole-says w h .used-low, whole-says w h .used-high)
 
@@ -132,7 +132,7 @@ module _ (w : List ℕ) (h : Whole w) where
     unfolding courseOf
     index-yes b s q x g = g ∙ sym (rw (service-is w h i b, q) refl)
 
-pub index-sound : (w : List ℕ) → Whole w → (i : ℕ) → i < getD w 6 0 → (s : List ℕ) → s ≡ drop (servicePlace w i) w → recordSound s ≡ true
+pub index-sound : (w : List ℕ) → JustTable w → (i : ℕ) → i < getD w 6 0 → (s : List ℕ) → s ≡ drop (servicePlace w i) w → recordSound s ≡ true
 index-sound w h i b s q = rw q (service-sound w h i b)
 
 pub ruleset course = (tests, stretch-no, stretch-yes, repeats-word, calls-word, legs-fit, day-idle, day-order, day-within, day-two, day-one, over, legs-no, legs-yes)

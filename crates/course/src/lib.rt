@@ -8,7 +8,7 @@ ghost use mathlib.Core.Bool.{true};
 ghost use Prim.Native.Nat.{_+_, _<_};
 ghost use Rattle.timetable.specs.Layout.{mostPeriodDays};
 ghost use Rattle.timetable.specs.Table.{calls#, periodDays, serviceAt, tableOf, recordSound};
-ghost use Rattle.table.specs.Whole.{Whole};
+ghost use Rattle.table.specs.JustTable.{JustTable};
 ghost use Rattle.course.specs.Course.{stretchCourse, dayCourse, serviceCourse, courseOf};
 
 // The stretch that a run runs along, by its first call and its number of legs; that it does not run; or the number of the refusal.
@@ -20,25 +20,25 @@ pub enum Course {
 
 // The course of a repeat of the i-th service on day k of the period: 24 service index not below V.
 pub fn course_of(w: &[u32], service: u32, repeat: u32, k: u32) -> Course
-    requires { ⌜ Whole (now w) × (k < periodDays (now w)) ⌝ }
+    requires { ⌜ JustTable (now w) × (k < periodDays (now w)) ⌝ }
     ensures { λ r. ⌜ r ≡ courseOf (tableOf (now (w .entry))) service repeat k ⌝ }
 {
     if w[SERVICES_AT] <= service {
         return Course::Refused(24);
     }
-    service_course(w, look::service_words(w, service), repeat, k)
+    service_course(w, lookups::service_words(w, service), repeat, k)
 }
 
 // Of the service at the front of `s`: 25 repeat number over repeats, 34 and 31 of its legs.
 fn service_course(w: &[u32], s: &[u32], repeat: u32, k: u32) -> Course
-    requires { ⌜ Whole (now w) × (k < mostPeriodDays) ⌝ }
+    requires { ⌜ JustTable (now w) × (k < mostPeriodDays) ⌝ }
     requires { ⌜ recordSound (now s) ≡ true ⌝ }
     ensures { λ r. ⌜ r ≡ serviceCourse (tableOf (now (w .entry))) (serviceAt (now (s .entry))) repeat k ⌝ }
 {
     if s[REPEATS_AT] < repeat {
         return Course::Refused(25);
     }
-    let number = run::legs_refusal(w, s, s[CALLS_AT] - 1);
+    let number = legs::legs_refusal(w, s, s[CALLS_AT] - 1);
     if number != 0 {
         return Course::Refused(number);
     }
@@ -47,17 +47,17 @@ fn service_course(w: &[u32], s: &[u32], repeat: u32, k: u32) -> Course
 
 // On day k: "not running" where no leg is operated, 35 two stretches.
 fn day_course(w: &[u32], s: &[u32], k: u32) -> Course
-    requires { ⌜ Whole (now w) × (k < mostPeriodDays) ⌝ }
+    requires { ⌜ JustTable (now w) × (k < mostPeriodDays) ⌝ }
     requires { ⌜ recordSound (now s) ≡ true ⌝ }
     ensures { λ r. ⌜ r ≡ dayCourse (tableOf (now (w .entry))) (serviceAt (now (s .entry))) k ⌝ }
 {
     let legs = s[CALLS_AT] - 1;
-    let start = run::next_leg(w, s, k, 0, legs, true);
+    let start = legs::next_leg(w, s, k, 0, legs, true);
     if legs <= start {
         return Course::NotRunning;
     }
-    let end = run::next_leg(w, s, k, start, legs, false);
-    let again = run::next_leg(w, s, k, end, legs, true);
+    let end = legs::next_leg(w, s, k, start, legs, false);
+    let again = legs::next_leg(w, s, k, end, legs, true);
     if again < legs {
         return Course::Refused(35);
     }
@@ -66,7 +66,7 @@ fn day_course(w: &[u32], s: &[u32], k: u32) -> Course
 
 // Along the stretch from call `start` on with so many legs: 32, 36 and 33 of its calls.
 fn stretch_course(w: &[u32], s: &[u32], start: u32, legs: u32) -> Course
-    requires { ⌜ Whole (now w) ⌝ }
+    requires { ⌜ JustTable (now w) ⌝ }
     requires { ⌜ recordSound (now s) ≡ true ⌝ }
     requires { ⌜ start + legs < calls# (now s) ⌝ }
     ensures { λ r. ⌜ r ≡ stretchCourse (tableOf (now (w .entry))) (serviceAt (now (s .entry))) start legs ⌝ }

@@ -15,7 +15,7 @@ use Rattle.timetable.specs.Table.{rowsIn, legsAt}
 use Rattle.timetable.proofs.Rows.{room-start, room-now, room-fits, room-next, rows-left}
 use Rattle.cover.specs.declared.FirstRange.{FirstRange}
 use Rattle.cover.specs.declared.FirstRange.the-variants.{At, Nowhere}
-use Rattle.cover.specs.Cover.{rangesIn, placeFrom}
+use Rattle.cover.specs.Cover.{legsIn, placeFrom}
 
 -- ---- a range is read where it stands
 
@@ -28,25 +28,25 @@ covers-read w at k leg t e =
 -- ---- how many cover a leg
 
 -- t says whether the range at `at` covers the leg
-module _ (leg width left at count r : ℕ) (w : List ℕ) (t : Bool) (h : 0 < left) (e : t ≡ covers leg (legsAt (width - 2) (drop at w))) (v : count + countIf (covers leg) (rangesIn width left (drop at w)) ≡ r) where
-  count-next : count + (cond t 1 0 + countIf (covers leg) (rangesIn width (left - 1) (drop (at + width) w))) ≡ r
+module _ (leg width left at count r : ℕ) (w : List ℕ) (t : Bool) (h : 0 < left) (e : t ≡ covers leg (legsAt (width - 2) (drop at w))) (v : count + countIf (covers leg) (legsIn width left (drop at w)) ≡ r) where
+  count-next : count + (cond t 1 0 + countIf (covers leg) (legsIn width (left - 1) (drop (at + width) w))) ≡ r
   unfolding countIf
   count-next =
-      ap (λ (x : Bool). count + (cond x 1 0 + countIf (covers leg) (rangesIn width (left - 1) (drop (at + width) w)))) e
+      ap (λ (x : Bool). count + (cond x 1 0 + countIf (covers leg) (legsIn width (left - 1) (drop (at + width) w)))) e
       ∙ ap (λ (rs : List Legs). count + countIf (covers leg) rs) (sym (rows-left (legsAt (width - 2)) width left at w h)) ∙ v
 
-  pub count-on : t ≡ true → count + 1 + countIf (covers leg) (rangesIn width (left - 1) (drop (at + width) w)) ≡ r
+  pub count-on : t ≡ true → count + 1 + countIf (covers leg) (legsIn width (left - 1) (drop (at + width) w)) ≡ r
   count-on k =
-      add-assoc count 1 (countIf (covers leg) (rangesIn width (left - 1) (drop (at + width) w)))
-      ∙ ap (λ (x : Bool). count + (cond x 1 0 + countIf (covers leg) (rangesIn width (left - 1) (drop (at + width) w)))) (sym k) ∙ count-next
+      add-assoc count 1 (countIf (covers leg) (legsIn width (left - 1) (drop (at + width) w)))
+      ∙ ap (λ (x : Bool). count + (cond x 1 0 + countIf (covers leg) (legsIn width (left - 1) (drop (at + width) w)))) (sym k) ∙ count-next
 
-  pub count-past : t ≡ false → count + countIf (covers leg) (rangesIn width (left - 1) (drop (at + width) w)) ≡ r
-  count-past k = omega (arith, ap (λ (x : Bool). count + (cond x 1 0 + countIf (covers leg) (rangesIn width (left - 1) (drop (at + width) w)))) (sym k) ∙ count-next)
+  pub count-past : t ≡ false → count + countIf (covers leg) (legsIn width (left - 1) (drop (at + width) w)) ≡ r
+  count-past k = omega (arith, ap (λ (x : Bool). count + (cond x 1 0 + countIf (covers leg) (legsIn width (left - 1) (drop (at + width) w)))) (sym k) ∙ count-next)
 
-pub count-start : (leg width n : ℕ) (w : List ℕ) → 0 + countIf (covers leg) (rangesIn width n (drop 0 w)) ≡ countIf (covers leg) (rangesIn width n w)
-count-start leg width n w = zero-add (countIf (covers leg) (rangesIn width n w))
+pub count-start : (leg width n : ℕ) (w : List ℕ) → 0 + countIf (covers leg) (legsIn width n (drop 0 w)) ≡ countIf (covers leg) (legsIn width n w)
+count-start leg width n w = zero-add (countIf (covers leg) (legsIn width n w))
 
-pub count-done : (leg width left at count r : ℕ) (w : List ℕ) → left ≤ 0 → count + countIf (covers leg) (rangesIn width left (drop at w)) ≡ r → count ≡ r
+pub count-done : (leg width left at count r : ℕ) (w : List ℕ) → left ≤ 0 → count + countIf (covers leg) (legsIn width left (drop at w)) ≡ r → count ≡ r
 unfolding countIf rowsIn
 count-done leg width zero at count r w h v = sym (add-zero count) ∙ v
 count-done leg width (suc left) at count r w h v = absurd (omega arith)

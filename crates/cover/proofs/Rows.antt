@@ -18,12 +18,12 @@ use Rattle.timetable.specs.Checks.{eachOnce}
 use Rattle.timetable.specs.Table.{rowsIn, legsAt, categoryAt, dayAt}
 use Rattle.cover.specs.declared.FirstRange.{FirstRange}
 use Rattle.cover.specs.declared.FirstRange.the-variants.{At, Nowhere}
-use Rattle.cover.specs.Cover.{rangesIn, onceIn, placeFrom}
+use Rattle.cover.specs.Cover.{legsIn, onceIn, placeFrom}
 
 -- ---- rows of any kind whose legs are their last two words
 
 module _ {X : Type 0} (f : List ℕ → X) (legs : X → Legs) (width : ℕ) (e : (w : List ℕ) → legsAt (width - 2) w ≡ legs (f w)) where
-  pub covering-rows : (leg n : ℕ) (w : List ℕ) → countIf (covers leg) (rangesIn width n w) ≡ covering legs (rowsIn f width n w) leg
+  pub covering-rows : (leg n : ℕ) (w : List ℕ) → countIf (covers leg) (legsIn width n w) ≡ covering legs (rowsIn f width n w) leg
   unfolding countIf rowsIn
   covering-rows leg zero w = refl
   covering-rows leg (suc n) w = ap₂ (λ (g : Legs) (m : ℕ). cond (covers leg g) 1 0 + m) (e w) (covering-rows leg n (drop width w))

@@ -12,12 +12,12 @@ use Rattle.cover.specs.declared.FirstRange.{FirstRange}
 use Rattle.cover.specs.declared.FirstRange.the-variants.{At, Nowhere}
 
 -- the legs of n ranges of `width` words each, whose last two words are from and to
-abbrev pub rangesIn : ℕ → ℕ → List ℕ → List Legs
-rangesIn width n w = rowsIn (legsAt (width - 2)) width n w
+abbrev pub legsIn : ℕ → ℕ → List ℕ → List Legs
+legsIn width n w = rowsIn (legsAt (width - 2)) width n w
 
 -- exactly one of them covers a leg
 abbrev pub onceIn : ℕ → ℕ → List ℕ → ℕ → Bool
-onceIn width n w leg = eqb (countIf (covers leg) (rangesIn width n w)) 1
+onceIn width n w leg = eqb (countIf (covers leg) (legsIn width n w)) 1
 
 -- the place of the first of n ranges that covers a leg, where the first of them stands at place `at`
 unfoldable pub placeFrom : ℕ → ℕ → ℕ → ℕ → List ℕ → FirstRange

@@ -5,7 +5,7 @@ ghost use lib.ListN.{length, drop};
 ghost use Rattle.base.specs.Lists.{every, countIf, below};
 ghost use Rattle.timetable.specs.Legs.{covers};
 ghost use Rattle.timetable.specs.Table.{legsAt};
-ghost use Rattle.cover.specs.Cover.{rangesIn, onceIn, placeFrom};
+ghost use Rattle.cover.specs.Cover.{legsIn, onceIn, placeFrom};
 
 // The place of the first range that covers a leg, or that none does.
 pub enum FirstRange {
@@ -63,7 +63,7 @@ pub fn covering_place(w: &[u32], n: u32, width: usize, leg: u32) -> FirstRange
 fn covering(w: &[u32], n: u32, width: usize, leg: u32) -> u32
     requires { ⌜ 2 ≤ width ⌝ }
     requires { ⌜ n * width ≤ length (now w) ⌝ }
-    ensures { λ r. ⌜ r ≡ countIf (covers leg) (rangesIn width n (now (w .entry))) ⌝ }
+    ensures { λ r. ⌜ r ≡ countIf (covers leg) (legsIn width n (now (w .entry))) ⌝ }
 {
     let mut count: u32 = 0;
     let mut left = n;

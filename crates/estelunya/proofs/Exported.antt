@@ -17,12 +17,12 @@ use Rattle.timetable.specs.declared.Loaded.{Loaded}
 use Rattle.timetable.specs.declared.Loaded.the-variants.{Accepted, Refused}
 use Rattle.timetable.specs.declared.Walked.{Walked}
 use Rattle.timetable.specs.declared.Walked.the-variants.{Listed, NotRunning, Refused as WalkRefused}
-use Rattle.whole.specs.Rows.{RunsNowhere}
-use Rattle.whole.specs.Promise.{Asked, Walk, not-running, short, runs, TwoRows}
-use Rattle.whole.proofs.Any.{two-rows}
-use Rattle.whole.proofs.Slack.{never-both}
-use Rattle.whole.proofs.Demand3.{demand3-promised}
-use Rattle.whole.proofs.Numbers.{load-numbered, load-columned, day-numbered, interchange-numbered, walk-numbered}
+use Rattle.whole_runs.specs.Rows.{RunsNowhere}
+use Rattle.whole_runs.specs.Promise.{Asked, Walk, not-running, short, runs, TwoRows}
+use Rattle.whole_runs.proofs.Any.{two-rows}
+use Rattle.whole_runs.proofs.Slack.{never-both}
+use Rattle.whole_runs.proofs.Demand3.{demand3-promised}
+use Rattle.whole_runs.proofs.Numbers.{load-numbered, load-columned, day-numbered, interchange-numbered, walk-numbered}
 use Rattle.estelunya.specs.declared.LoadResult.{LoadResult}
 use Rattle.estelunya.specs.declared.WalkResult.{WalkResult}
 use Rattle.estelunya.specs.Answers.{loadResult, dayResult, interchangeResult, walkResult}

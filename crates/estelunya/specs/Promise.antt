@@ -9,8 +9,8 @@ use Rattle.timetable.specs.Delivery.{Files, Service, Delivery}
 use Rattle.timetable.specs.Load.{delivered, onto}
 use Rattle.timetable.specs.declared.Walked.{Walked}
 use Rattle.timetable.specs.declared.Walked.the-variants.{Listed, NotRunning, Refused}
-use Rattle.whole.specs.Rows.{RunsNowhere, Stretched}
-use Rattle.whole.specs.Promise.{OwnRun}
+use Rattle.whole_runs.specs.Rows.{RunsNowhere, Stretched}
+use Rattle.whole_runs.specs.Promise.{OwnRun}
 use Rattle.estelunya.specs.declared.WalkResult.{WalkResult}
 
 -- the answer as numbers, and the rows afterwards, from the rows as lent: "not running", or 29 exactly if fewer words are lent than one row for each call

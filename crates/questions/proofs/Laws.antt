@@ -16,24 +16,24 @@ use Rattle.timetable.specs.Questions.{dated, dayBy, dayAsked, interchangeAtStop
 use Rattle.timetable.specs.declared.DayAnswer.{DayAnswer}
 use Rattle.timetable.specs.declared.DayAnswer.the-variants.{Runs, Idle, Refused as DayRefused}
 use Rattle.timetable.specs.declared.InterchangeAnswer.the-variants.{Minutes, Refused as InterchangeRefused}
-use Rattle.table.specs.Whole.{Whole}
-use Rattle.table.proofs.Whole.{used-whole, used-word, used-same, whole-says}
-use Rattle.look.specs.Look.{timesOf, datedAsked}
-use Rattle.look.specs.declared.PeriodDay.{PeriodDay}
-use Rattle.look.specs.declared.PeriodDay.the-variants.{On, Refused}
-use Rattle.look.specs.declared.Times.{Times}
-use Rattle.look.proofs.Dates.{asDated, by-dated, dated-table, dated-day}
+use Rattle.table.specs.JustTable.{JustTable}
+use Rattle.table.proofs.JustTable.{used-whole, used-word, used-same, whole-says}
+use Rattle.lookups.specs.Lookups.{timesOf, datedAsked}
+use Rattle.lookups.specs.declared.PeriodDay.{PeriodDay}
+use Rattle.lookups.specs.declared.PeriodDay.the-variants.{On, Refused}
+use Rattle.lookups.specs.declared.Times.{Times}
+use Rattle.lookups.proofs.Dates.{asDated, by-dated, dated-table, dated-day}
 
 -- ---- day k of a whole table; known and ws are what the look-up of bit field b gave
 
-pub day-below : (w : List ℕ) (k : ℕ) → Whole w → k < getD w 2 0 → k < 380
+pub day-below : (w : List ℕ) (k : ℕ) → JustTable w → k < getD w 2 0 → k < 380
 day-below w k h l = omega (arith, whole-says w h .days-high)
 
 module _ (w : List ℕ) (b k : ℕ) (known : Bool) (e : known ≡ fieldKnown b (tableOf w .fields)) where
   pub day-unknown : not known ≡ true → DayRefused 28 ≡ dayBy (tableOf w) b (dated k)
   day-unknown n = rw (sym e ∙ not-true known n)
 
-  module _ (n : not known ≡ false) (h : Whole w) (l : k < getD w 2 0) (ws : List ℕ) (f : (d : ℕ) → d < 380 → runsOn ws d ≡ fieldRuns (tableOf w .fields) b d) (x : Bool) (g : x ≡ runsOn ws k) where
+  module _ (n : not known ≡ false) (h : JustTable w) (l : k < getD w 2 0) (ws : List ℕ) (f : (d : ℕ) → d < 380 → runsOn ws d ≡ fieldRuns (tableOf w .fields) b d) (x : Bool) (g : x ≡ runsOn ws k) where
     runs-is : fieldRuns (tableOf w .fields) b k ≡ x
     runs-is = sym (g ∙ f k (day-below w k h l))
 
@@ -58,7 +58,7 @@ module _ (w : List ℕ) (day month year : ℕ) (x : PeriodDay) (e : x ≡ datedA
     day-table = dated-table w day month year k x e g
 
     module _ (u : List ℕ) (p : u ≡ used w) where
-      pub day-whole : Whole u
+      pub day-whole : JustTable u
       day-whole = rw p (used-whole w day-table)
 
       pub day-within : k < getD u 2 0
@@ -107,7 +107,7 @@ module _ (w : List ℕ) (x : Bool) (e : x ≡ isTable w) (n : not x ≡ false) w
   pub interchange-table : isTable w ≡ true
   interchange-table = sym e ∙ not-false x n
 
-  pub interchange-whole : (u : List ℕ) → u ≡ used w → Whole u
+  pub interchange-whole : (u : List ℕ) → u ≡ used w → JustTable u
   interchange-whole u p = rw p (used-whole w interchange-table)
 
 pub ruleset interchanges = (tests, second-first, second-second, both-first, interchange-no-table, interchange-class, interchange-unknown, interchange-minutes, interchange-table, interchange-whole)

@@ -1,6 +1,6 @@
 // The questions on any words that go by no service: whether a bit field runs on a date, and how long an interchange takes.
-use look::PeriodDay;
-use look::Times;
+use lookups::PeriodDay;
+use lookups::Times;
 use timetable::DayAnswer;
 use timetable::InterchangeAnswer;
 ghost use mathlib.Core.Path.{_≡_};
@@ -9,7 +9,7 @@ ghost use Prim.Native.Nat.{_<_};
 ghost use lib.Dec.{leb};
 ghost use Rattle.timetable.specs.Table.{periodDays, tableOf};
 ghost use Rattle.timetable.specs.Questions.{dated, dayBy, dayAsked, firstTimeClass, interchangeAsked};
-ghost use Rattle.table.specs.Whole.{Whole};
+ghost use Rattle.table.specs.JustTable.{JustTable};
 
 // The highest class of a service.
 const LAST_CLASS: u32 = 13;
@@ -21,7 +21,7 @@ const FIRST_TIME_CLASS: u32 = 2;
 pub fn day(w: &[u32], day: u32, month: u32, year: u32, field: u32) -> DayAnswer
     ensures { λ r. ⌜ r ≡ dayAsked (now (w .entry)) day month year field ⌝ }
 {
-    let on = look::dated(w, day, month, year);
+    let on = lookups::dated(w, day, month, year);
     match on {
         PeriodDay::Refused(number) => DayAnswer::Refused(number),
         PeriodDay::On(k) => field_day(table::used_words(w), field, k),
@@ -30,14 +30,14 @@ pub fn day(w: &[u32], day: u32, month: u32, year: u32, field: u32) -> DayAnswer
 
 // Whether a bit field runs on day k of the period.
 fn field_day(w: &[u32], field: u32, k: u32) -> DayAnswer
-    requires { ⌜ Whole (now w) × (k < periodDays (now w)) ⌝ }
+    requires { ⌜ JustTable (now w) × (k < periodDays (now w)) ⌝ }
     ensures { λ r. ⌜ r ≡ dayBy (tableOf (now (w .entry))) field (dated k) ⌝ }
 {
-    let f = look::field_words(w, field);
+    let f = lookups::field_words(w, field);
     if !f.known {
         return DayAnswer::Refused(28);
     }
-    if look::field_runs(f, k) {
+    if lookups::field_runs(f, k) {
         return DayAnswer::Runs;
     }
     DayAnswer::Idle
@@ -54,10 +54,10 @@ pub fn interchange(w: &[u32], stop: u32, a: u32, b: u32) -> InterchangeAnswer
     if !classes_known(a, b) {
         return InterchangeAnswer::Refused(26);
     }
-    if !look::stop_known(u, stop) {
+    if !lookups::stop_known(u, stop) {
         return InterchangeAnswer::Refused(27);
     }
-    InterchangeAnswer::Minutes(minutes(look::interchange_at(u, stop), a, b))
+    InterchangeAnswer::Minutes(minutes(lookups::interchange_at(u, stop), a, b))
 }
 
 fn classes_known(a: u32, b: u32) -> bool

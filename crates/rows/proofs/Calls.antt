@@ -19,7 +19,7 @@ use Rattle.timetable.specs.Table.{rowsIn, callAt}
 use Rattle.timetable.specs.Questions.{neededLast, callsRefusal}
 use Rattle.timetable.specs.declared.Call.{Call}
 use Rattle.timetable.proofs.Rows.{one-row}
-use Rattle.run.specs.Run.{noted}
+use Rattle.legs.specs.Run.{noted}
 use Rattle.rows.proofs.Record.{leg-fits, next-fits, leg-within}
 use Rattle.rows.specs.Rows.{callFault, timesFine, timeFine, callsFrom}
 

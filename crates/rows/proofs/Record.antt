@@ -20,7 +20,7 @@ use Rattle.cover.specs.Cover.{onceIn, placeFrom}
 use Rattle.cover.specs.declared.FirstRange.{FirstRange}
 use Rattle.cover.specs.declared.FirstRange.the-variants.{At, Nowhere}
 use Rattle.cover.proofs.Rows.{covering-rows, rowAt, first-row, place-fits}
-use Rattle.run.proofs.Legs.{record-ends}
+use Rattle.legs.proofs.Legs.{record-ends}
 
 module _ (s : List ℕ) (e : recordSound s ≡ true) where
   -- the i-th call of a stretch from call a on with n legs

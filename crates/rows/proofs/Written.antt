@@ -14,8 +14,8 @@ use Rattle.timetable.specs.Questions.{interchangeAtStop, categoryOn, rowFlags, 
 use Rattle.timetable.specs.declared.Call.{Call}
 use Rattle.words.specs.Words.{write}
 use Rattle.words.proofs.Laws.{write-none, write-write, write-turn, length-write}
-use Rattle.look.specs.Look.{timesOf}
-use Rattle.look.specs.declared.Times.{Times}
+use Rattle.lookups.specs.Lookups.{timesOf}
+use Rattle.lookups.specs.declared.Times.{Times}
 use Rattle.rows.specs.declared.Row.{Row}
 use Rattle.rows.specs.Rows.{rowFor, rowWords, callsFrom}
 use Rattle.rows.proofs.Record.{leg-fits, next-fits, leg-within}

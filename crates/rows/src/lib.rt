@@ -18,8 +18,8 @@ ghost use Rattle.timetable.specs.Legs.{covering};
 ghost use Rattle.timetable.specs.Table.{calls#, callAt, categoryPlace, serviceAt, tableOf, recordSound};
 ghost use Rattle.timetable.specs.Questions.{neededLast, categoryOn, rowFlags, callsRefusal, rowsOf};
 ghost use Rattle.words.specs.Words.{write};
-ghost use Rattle.table.specs.Whole.{Whole};
-ghost use Rattle.run.specs.Run.{noted};
+ghost use Rattle.table.specs.JustTable.{JustTable};
+ghost use Rattle.legs.specs.Run.{noted};
 ghost use Rattle.rows.specs.Rows.{callFault, timesFine, timeFine, rowFor, rowWords, callsFrom};
 
 // A row of a walk.
@@ -37,7 +37,7 @@ pub struct Row {
 
 // What the first refused call of the stretch is refused for; 0 for none.
 pub fn calls_refusal(w: &[u32], s: &[u32], start: u32, legs: u32) -> u32
-    requires { ⌜ Whole (now w) ⌝ }
+    requires { ⌜ JustTable (now w) ⌝ }
     requires { ⌜ recordSound (now s) ≡ true ⌝ }
     requires { ⌜ start + legs < calls# (now s) ⌝ }
     ensures { λ r. ⌜ noted r ≡ callsRefusal (tableOf (now (w .entry))) (serviceAt (now (s .entry))) start legs 0 0 (callsFrom (now (s .entry)) start (legs + 1)) ⌝ }
@@ -58,12 +58,12 @@ pub fn calls_refusal(w: &[u32], s: &[u32], start: u32, legs: u32) -> u32
 
 // What a call is refused for: 32 stop unknown, 36 a needed time, 33 its leaving leg without exactly one *G; 0 for nothing.
 fn call_refusal(w: &[u32], s: &[u32], start: u32, legs: u32, i: u32, before: u32, call: Call) -> u32
-    requires { ⌜ Whole (now w) ⌝ }
+    requires { ⌜ JustTable (now w) ⌝ }
     requires { ⌜ recordSound (now s) ≡ true ⌝ }
     requires { ⌜ (start + legs < calls# (now s)) × (i ≤ legs) ⌝ }
     ensures { λ r. ⌜ noted r ≡ callFault (tableOf (now (w .entry))) (serviceAt (now (s .entry))) start legs i before call ⌝ }
 {
-    if !look::stop_known(w, call.stop) {
+    if !lookups::stop_known(w, call.stop) {
         return 32;
     }
     if !times_needed(legs, i, before, call) {
@@ -127,7 +127,7 @@ fn choose(test: bool, first: u32, second: u32) -> u32
 
 // Writes the rows of the stretch from the front on.
 pub fn rows_into(w: &[u32], s: &[u32], start: u32, legs: u32, delay: u32, rows: &mut [u32])
-    requires { ⌜ Whole (now w) ⌝ }
+    requires { ⌜ JustTable (now w) ⌝ }
     requires { ⌜ recordSound (now s) ≡ true ⌝ }
     requires { ⌜ (start + legs < calls# (now s)) × (delay ≤ mostDelay) ⌝ }
     requires { ⌜ rowSize * (legs + 1) ≤ length (now rows) ⌝ }
@@ -154,13 +154,13 @@ fn put_row(t: &mut [u32], at: usize, row: Row)
 
 // The row of a call.
 fn row_of(w: &[u32], s: &[u32], start: u32, legs: u32, delay: u32, i: u32, call: Call) -> Row
-    requires { ⌜ Whole (now w) ⌝ }
+    requires { ⌜ JustTable (now w) ⌝ }
     requires { ⌜ recordSound (now s) ≡ true ⌝ }
     requires { ⌜ (start + legs < calls# (now s)) × (i ≤ legs) × (delay ≤ mostDelay) ⌝ }
     requires { ⌜ (call .arrival ≤ latestTime) × (call .departure ≤ latestTime) × (call .flags ≤ allFlags) ⌝ }
     ensures { λ r. ⌜ rowWords r ≡ rowFor (tableOf (now (w .entry))) (serviceAt (now (s .entry))) start legs delay i call ⌝ }
 {
-    let times = look::interchange_at(w, call.stop);
+    let times = lookups::interchange_at(w, call.stop);
     Row {
         stop: call.stop,
         arrival: choose(i == 0, 0, call.arrival + delay),

@@ -1,5 +1,5 @@
 pub mod Says
 pub mod Laws
 pub mod Records
-pub mod Whole
+pub mod JustTable
 pub mod Examples

@@ -12,7 +12,7 @@ use borrow.Author.Tests.{le-leb, lt-leb, eq-eqb, ne-eqb, not-true, not-false}
 use Rattle.base.specs.Lists.{every}
 use Rattle.base.proofs.Laws.{tests, by-eqb}
 use Rattle.timetable.specs.Table.{word, rowsIn, callAt, legsAt, categoryPlace, dayPlace, extraPlace, serviceAt, used, callSound, legsSound, serviceSound, countsSound, sizesSound, recordSound, recordsSound, isTable}
-use Rattle.table.specs.Whole.{recordEnd, headerSound}
+use Rattle.table.specs.JustTable.{recordEnd, headerSound}
 use Rattle.table.proofs.Says.{Sizes, sizes-say, record-says, service-parts, HeadOf, head-says, table-says}
 
 -- ---- the length of a record: said is its first word, y what its counts make it

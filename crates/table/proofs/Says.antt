@@ -17,7 +17,7 @@ use Rattle.timetable.specs.Delivery.{CategoryRange, DayRange, ExtraRange}
 use Rattle.timetable.specs.Table.{word, rowsIn, callAt, legsAt, categoryAt, dayAt, extraAt, calls#, categories#, days#, extras#, categoryPlace, dayPlace, extraPlace, serviceAt, used, callSound, legsSound, serviceSound, countsSound, sizesSound, recordSound, recordsSound, headSound, isTable}
 use Rattle.timetable.specs.declared.Call.{Call}
 use Rattle.timetable.proofs.Rows.{length-rows, rows-as, every-row}
-use Rattle.table.specs.Whole.{recordEnd}
+use Rattle.table.specs.JustTable.{recordEnd}
 
 -- ---- a record at the front of the words
 

@@ -41,7 +41,7 @@ ghost use lib.Dec.{leb, eqb};
 ghost use Rattle.base.specs.Lists.{every};
 ghost use Rattle.timetable.specs.Layout.{headerSize, serviceHead, callSize, recordSize, firstService};
 ghost use Rattle.timetable.specs.Table.{recordWords, rowsIn, legsAt, callAt, serviceAt, categoryPlace, dayPlace, extraPlace, used, callSound, legsSound, serviceSound, countsSound, sizesSound, recordSound, recordsSound, headSound, isTable};
-ghost use Rattle.table.specs.Whole.{recordEnd, headerSound};
+ghost use Rattle.table.specs.JustTable.{recordEnd, headerSound};
 
 // The day after 31.12.2199.
 const AFTER_LAST_DAY: u64 = 109573;

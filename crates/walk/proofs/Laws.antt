@@ -13,14 +13,14 @@ use Rattle.timetable.specs.Table.{used, serviceAt, tableOf, isTable, recordSoun
 use Rattle.timetable.specs.Questions.{Journey, refused, idle, datedJourney, journey, walkOf, walkedBy, rowsBy}
 use Rattle.timetable.specs.declared.Walked.{Walked}
 use Rattle.timetable.specs.declared.Walked.the-variants.{Refused, NotRunning}
-use Rattle.table.specs.Whole.{Whole}
+use Rattle.table.specs.JustTable.{JustTable}
 use Rattle.table.proofs.Says.{record-says}
-use Rattle.table.proofs.Whole.{used-whole, used-word, used-same}
-use Rattle.look.specs.Look.{servicePlace, datedAsked}
-use Rattle.look.specs.declared.PeriodDay.{PeriodDay}
-use Rattle.look.specs.declared.PeriodDay.the-variants.{On, Refused as Undated}
-use Rattle.look.proofs.Dates.{asDated, by-dated, dated-table, dated-day}
-use Rattle.look.proofs.Services.{service-none, service-is, service-sound}
+use Rattle.table.proofs.JustTable.{used-whole, used-word, used-same}
+use Rattle.lookups.specs.Lookups.{servicePlace, datedAsked}
+use Rattle.lookups.specs.declared.PeriodDay.{PeriodDay}
+use Rattle.lookups.specs.declared.PeriodDay.the-variants.{On, Refused as Undated}
+use Rattle.lookups.proofs.Dates.{asDated, by-dated, dated-table, dated-day}
+use Rattle.lookups.proofs.Services.{service-none, service-is, service-sound}
 use Rattle.course.specs.Course.{indexedCourse, courseOf, rowsAlong}
 use Rattle.course.specs.declared.Course.{Course}
 use Rattle.course.specs.declared.Course.the-variants.{Along, NotRunning as Idle, Refused as Barred}
@@ -78,7 +78,7 @@ module _ (d : Delivery) (i r k : ℕ) where
       pub idle-kept : (t : List ℕ) → t ≡ rowsBy (indexWalk d i r k) t
       idle-kept t = rw idles
 
-module _ (w : List ℕ) (h : Whole w) (i r k a n : ℕ) (c : Course) (e : c ≡ courseOf (tableOf w) i r k) (g : c ≡ Along a n) where
+module _ (w : List ℕ) (h : JustTable w) (i r k a n : ℕ) (c : Course) (e : c ≡ courseOf (tableOf w) i r k) (g : c ≡ Along a n) where
   -- it is the index of a service
   pub along-index : i < getD w 6 0
   unfolding courseOf
@@ -149,7 +149,7 @@ module _ (w : List ℕ) (day month year : ℕ) (x : PeriodDay) (e : x ≡ datedA
   walk-table = dated-table w day month year k x e g
 
   module _ (u : List ℕ) (p : u ≡ used w) where
-    pub walk-whole : Whole u
+    pub walk-whole : JustTable u
     walk-whole = rw p (used-whole w walk-table)
 
     pub walk-within : k < getD u 2 0

@@ -1,6 +1,6 @@
 // The walk question on any words: the rows of a service's run on a date. A refusal leaves the rows as lent.
 use course::Course;
-use look::PeriodDay;
+use lookups::PeriodDay;
 use timetable::OFFSET_AT;
 use timetable::ROW_WORDS;
 use timetable::Walked;
@@ -10,7 +10,7 @@ ghost use Prim.Native.Nat.{_+_, _≤_, _<_};
 ghost use lib.ListN.{length};
 ghost use Rattle.timetable.specs.Table.{calls#, periodDays, serviceAt, tableOf, recordSound};
 ghost use Rattle.timetable.specs.Questions.{walkedBy, rowsBy, walked, walkRows};
-ghost use Rattle.table.specs.Whole.{Whole};
+ghost use Rattle.table.specs.JustTable.{JustTable};
 ghost use Rattle.walk.specs.Walk.{stretchWalk, indexWalk};
 
 // The rows of a run of a service on a date: 21 to 25, 34 and 31 (legs), 35, 32, 36 and 33 (calls), 29 row slice too short.
@@ -26,7 +26,7 @@ pub fn walk(
     ensures answer { λ r. ⌜ r ≡ walked (now (w .entry)) service repeat day month year (length (now (rows .entry))) ⌝ }
     ensures listed { λ _. ⌜ now (rows .exit) ≡ walkRows (now (w .entry)) service repeat day month year (now (rows .entry)) ⌝ }
 {
-    let on = look::dated(w, day, month, year);
+    let on = lookups::dated(w, day, month, year);
     match on {
         PeriodDay::Refused(number) => Walked::Refused { number, needed: 0 },
         PeriodDay::On(k) => walk_on(table::used_words(w), service, repeat, k, rows),
@@ -35,7 +35,7 @@ pub fn walk(
 
 // The walk of the i-th service on day k of the period of a whole table: its course, then its rows.
 fn walk_on(w: &[u32], i: u32, repeat: u32, k: u32, rows: &mut [u32]) -> Walked
-    requires { ⌜ Whole (now w) × (k < periodDays (now w)) ⌝ }
+    requires { ⌜ JustTable (now w) × (k < periodDays (now w)) ⌝ }
     ensures answer { λ r. ⌜ r ≡ walkedBy (indexWalk (tableOf (now (w .entry))) i repeat k) (length (now (rows .entry))) ⌝ }
     ensures listed { λ _. ⌜ now (rows .exit) ≡ rowsBy (indexWalk (tableOf (now (w .entry))) i repeat k) (now (rows .entry)) ⌝ }
 {
@@ -45,7 +45,7 @@ fn walk_on(w: &[u32], i: u32, repeat: u32, k: u32, rows: &mut [u32]) -> Walked
         Course::NotRunning => Walked::NotRunning,
         Course::Along { start, legs } => list(
             w,
-            look::service_words(w, i),
+            lookups::service_words(w, i),
             start,
             legs,
             repeat,
@@ -56,7 +56,7 @@ fn walk_on(w: &[u32], i: u32, repeat: u32, k: u32, rows: &mut [u32]) -> Walked
 
 // The rows along the stretch from call `start` on with so many legs, of the service at the front of `s`; 29 row slice too short.
 fn list(w: &[u32], s: &[u32], start: u32, legs: u32, repeat: u32, rows: &mut [u32]) -> Walked
-    requires { ⌜ Whole (now w) ⌝ }
+    requires { ⌜ JustTable (now w) ⌝ }
     requires { ⌜ recordSound (now s) ≡ true ⌝ }
     requires { ⌜ (start + legs < calls# (now s)) × (repeat ≤ serviceAt (now s) .opening .repeats) ⌝ }
     ensures answer { λ r. ⌜ r ≡ walkedBy (stretchWalk (tableOf (now (w .entry))) (serviceAt (now (s .entry))) repeat start legs) (length (now (rows .entry))) ⌝ }

@@ -4,13 +4,13 @@ use native.Mathlib.Omega.{arith}
 use lib.ListN.{length, drop}
 use Rattle.base.specs.Lists.{countIf}
 use Rattle.timetable.specs.Legs.{covers}
-use Rattle.cover.specs.Cover.{rangesIn}
+use Rattle.cover.specs.Cover.{legsIn}
 use Rattle.cover.proofs.Ranges.{ranges}
 use Rattle.cover.proofs.covering.Statement.{statement}
 use Rattle.cover.proofs.covering.Tie as tie
 
 abbrev Inv-loop : tie.InvT-loop
-Inv-loop w n width leg count₀ left₀ at₀ count left at = (at + left * width ≤ length w) × (count + left ≤ n) × (count + countIf (covers leg) (rangesIn width left (drop at w)) ≡ countIf (covers leg) (rangesIn width n w))
+Inv-loop w n width leg count₀ left₀ at₀ count left at = (at + left * width ≤ length w) × (count + left ≤ n) × (count + countIf (covers leg) (legsIn width left (drop at w)) ≡ countIf (covers leg) (legsIn width n w))
 
 abbrev μ-loop : tie.MeasureT-loop
 μ-loop w n width leg count₀ left₀ at₀ count left at = left

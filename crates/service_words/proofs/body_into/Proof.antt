@@ -1,4 +1,4 @@
-use Rattle.service_words.proofs.Whole.{bodies}
+use Rattle.service_words.proofs.Record.{bodies}
 use Rattle.service_words.proofs.body_into.Statement.{statement}
 use Rattle.service_words.proofs.body_into.Tie as tie
 

@@ -1,4 +1,4 @@
-use Rattle.service_words.proofs.Whole.{heading}
+use Rattle.service_words.proofs.Record.{heading}
 use Rattle.service_words.proofs.head_into.Statement.{statement}
 use Rattle.service_words.proofs.head_into.Tie as tie
 

@@ -1,4 +1,4 @@
-use Rattle.service_words.proofs.Whole.{services}
+use Rattle.service_words.proofs.Record.{services}
 use Rattle.service_words.proofs.service_into.Statement.{statement}
 use Rattle.service_words.proofs.service_into.Tie as tie
 

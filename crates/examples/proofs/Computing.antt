@@ -1,0 +1,26 @@
+-- For worked examples: `unfolding computing` opens every definition that a delivery, its table and its questions are computed by. Assumes nothing.
+use Rattle.base.specs.Lists.{every, some-of, countIf, find, gathered, upto}
+use Rattle.base.specs.Text.{bytes}
+use Rattle.bitfield.specs.BitField.{hexFrom, hexWords, bitsIn, bit, framed}
+use Rattle.calendar.specs.Calendar.{yearsBefore, monthsBefore, exists, dayOf, dateIn, periodOf}
+use Rattle.columns.specs.Columns.{padTo, columns, count, numberFrom}
+use Rattle.fields.specs.Fields.{hashDigits, hash, timeIn, rangeEndIn, detailIn}
+use Rattle.forms.specs.Form.{strayFrom, unnamed, rowForm, formFrom}
+use Rattle.forms.specs.Kinds.{kindOf}
+use Rattle.lines.specs.Lines.{startWith, pieces, noCR, numbered, linesFrom, skipped, toLF, cutAt}
+use Rattle.timetable.specs.Checks.{timesFirst, endsFirst, serviceChecks, serviceFirst, servicesFirst, planFirst}
+use Rattle.timetable.specs.Legs.{fieldRuns, stretches}
+use Rattle.timetable.specs.Files.{held-in, periodFirst, bitFieldsFirst, nameLength, stopsFirst, interchangesFirst}
+use Rattle.timetable.specs.Load.{delivered, offence, onto, loaded, written}
+use Rattle.timetable.specs.Table.{serviceWords, tableWords}
+use Rattle.timetable.specs.Offences.{_<|>_, first}
+use Rattle.timetable.specs.Plan.{toldIn, opens, tolds, saidOn}
+use Rattle.timetable.specs.Ranges.{places, lastPlace, fromPlace, toPlace, legsOf}
+use Rattle.timetable.specs.Service.{headLines, blocks, serviceOf}
+use Rattle.timetable.specs.Table.{rowsIn, serviceAt, servicesIn, tableOf, recordSound, recordsSound, headSound, isTable}
+use Rattle.timetable.specs.Questions.{dayAsked, interchangeAtStop, interchangeAsked, firstRefusal, idleLegs, leadingLegs, callsRefusal, rowsOf, journey, walkOf}
+use Rattle.examples.specs.Trial.{routeR, week, trial, fridayRows}
+
+unfoldable pub computing : Unit {0}
+unfolding every some-of countIf find gathered upto bytes hexFrom hexWords bitsIn bit framed yearsBefore monthsBefore exists dayOf dateIn periodOf padTo columns count numberFrom hashDigits hash timeIn rangeEndIn detailIn strayFrom unnamed rowForm formFrom kindOf startWith pieces noCR numbered linesFrom skipped toLF cutAt saidOn timesFirst endsFirst fieldRuns stretches serviceChecks serviceFirst servicesFirst planFirst held-in periodFirst bitFieldsFirst nameLength stopsFirst interchangesFirst delivered offence serviceWords tableWords onto loaded written _<|>_ first toldIn opens tolds dayAsked interchangeAtStop interchangeAsked firstRefusal idleLegs leadingLegs callsRefusal rowsOf journey walkOf places lastPlace fromPlace toPlace legsOf headLines blocks serviceOf rowsIn serviceAt servicesIn tableOf recordSound recordsSound headSound isTable routeR week trial fridayRows
+computing = tt

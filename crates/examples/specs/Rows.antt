@@ -1,0 +1,112 @@
+-- "Rows marked P are proved together as one list by one theorem": the rows, each with its line of the paper (the last with document 02's).
+-- `Rattle.examples.proofs.Rows` proves them.
+-- Assumes nothing.
+use Prim.Native.Nat.{ℕ}
+use Prim.Native.String.{String}
+use mathlib.Core.Path.{_≡_}
+use mathlib.Core.List.{List, [], _∷_, _++_, map}
+use Rattle.base.specs.Lists.{gathered, upto}
+use Rattle.calendar.specs.Calendar.{dayOf}
+use Rattle.calendar.specs.declared.Date.the-variants.{Day, NoSuchDate}
+use Rattle.lines.specs.Lines.{linesOf}
+use Rattle.timetable.specs.Delivery.{Files, CategoryRange, Service}
+use Rattle.timetable.specs.Files.{periodIn}
+use Rattle.timetable.specs.Load.{delivered, loaded}
+use Rattle.timetable.specs.Table.{tableWords}
+use Rattle.timetable.specs.Questions.{dayAsked, interchangeAsked}
+use Rattle.timetable.specs.declared.DayAnswer.{DayAnswer}
+use Rattle.timetable.specs.declared.DayAnswer.the-variants.{Runs, Idle}
+use Rattle.timetable.specs.declared.InterchangeAnswer.the-variants.{Minutes}
+use Rattle.timetable.specs.declared.Loaded.{Loaded}
+use Rattle.timetable.specs.declared.Loaded.the-variants.{Accepted, Refused}
+use Rattle.examples.specs.Trial.{line, week, period, trialPeriod, bitField, categoryOverAll, daysOverAll, trial}
+
+-- what the definitions give, and what the paper says
+pub record Row : Type 1 where
+  pub Kind : Type 0
+  pub got : Kind
+  pub said : Kind
+
+abbrev pub row : {X : Type 0} → X → X → Row
+row {X} x y = record { Kind = X; got = x; said = y }
+
+-- every row holds
+abbrev pub Hold : List Row → Type 0
+Hold [] = Unit {0}
+Hold (r ∷ rs) = (r .got ≡ r .said) × Hold rs
+
+-- ---- the trial week with another period, BITFELD or range lines: what load answers, on which days a bit field runs, where a range begins and ends
+
+abbrev pub answer : Files → Loaded
+answer f = loaded f 4096
+
+-- n days from 01.12.2025 on, asked of a delivery's table: whether bit field 000001 runs
+abbrev pub days : ℕ → Files → List DayAnswer
+days n f = map (λ (d : ℕ). dayAsked (tableWords (delivered f)) d 12 2025 1) (upto n 1)
+
+-- another *G line
+abbrev pub withCategory : String → Files
+withCategory text = week trialPeriod (bitField "000001" "FE6") (line text ++ daysOverAll)
+
+-- the first and the last call of the *G ranges
+abbrev pub starts : Files → List ℕ
+starts f = gathered (λ (s : Service). map (λ (r : CategoryRange). r .legs .from) (s .categories)) (delivered f .services)
+
+abbrev pub ends : Files → List ℕ
+ends f = gathered (λ (s : Service). map (λ (r : CategoryRange). r .legs .to) (s .categories)) (delivered f .services)
+
+-- one day, on which bit field 000001 does not run
+abbrev pub oneDay : Files
+oneDay = week (period "01.12.2025" "01.12.2025") (bitField "000001" "D8") (categoryOverAll ++ daysOverAll)
+
+abbrev pub rows : List Row
+rows =
+    -- "P 30.09.1996 is day 35,336; to 01.06.1997 is 245 days."
+    row (dayOf 30 9 1996) (Day 35336)
+    ∷ row (periodIn (linesOf (period "30.09.1996" "01.06.1997"))) (record { start = 35336; days = 245 })
+    -- "P 29.02.2000 exists, 29.02.1900 does not."
+    ∷ row (dayOf 29 2 2000) (Day 36583)
+    ∷ row (dayOf 29 2 1900) NoSuchDate
+    -- "P With n = 7, FE6 and zeros runs on days 0 to 4"
+    ∷ row (days 7 trial) (Runs ∷ Runs ∷ Runs ∷ Runs ∷ Runs ∷ Idle ∷ Idle ∷ [])
+    -- "P FE4 and zeros answers 8": file 2, line 1
+    ∷ row (answer (week trialPeriod (bitField "000001" "FE4") (categoryOverAll ++ daysOverAll))) (Refused 8 2 1 0 0)
+    -- "P n = 1, D8 and zeros: never."
+    ∷ row (answer oneDay) (Accepted 66)
+    ∷ row (days 1 oneDay) (Idle ∷ [])
+    -- "P On R, to 1000022 is 3"
+    ∷ row (ends (withCategory "*G BAT         1000022                                    %")) (3 ∷ [])
+    -- "P from it is 1"
+    ∷ row (starts (withCategory "*G BAT 1000022                                            %")) (1 ∷ [])
+    -- "P to with "#0" or " 00810" is 1"
+    ∷ row (ends (withCategory "*G BAT         1000022        #0                          %")) (1 ∷ [])
+    ∷ row (ends (withCategory "*G BAT         1000022         00810                      %")) (1 ∷ [])
+    -- "P "#2" answers 16": file 5, line 2
+    ∷ row (answer (withCategory "*G BAT         1000022        #2                          %")) (Refused 16 5 2 0 0)
+    -- "P from "#4" answers 16."
+    ∷ row (answer (withCategory "*G BAT #4                                                 %")) (Refused 16 5 2 0 0)
+    -- "P Legs 0 and 2 on FE6, leg 1 on C1E: 19.": file 5, line 1
+    ∷ row
+    (answer
+    (week trialPeriod (bitField "000001" "FE6" ++ bitField "000002" "C1E")
+    (categoryOverAll
+    ++ line "*A VE #0      #1      000001                              %"
+    ++ line "*A VE #1      #2      000002                              %"
+    ++ line "*A VE #2      #3      000001                              %")))
+    (Refused 19 5 1 0 0)
+    -- "P Leg 0 daily, others FE6: passes."
+    ∷ row
+    (answer
+    (week trialPeriod (bitField "000001" "FE6")
+    (categoryOverAll
+    ++ line "*A VE #0      #1                                          %"
+    ++ line "*A VE #1      #3      000001                              %")))
+    (Accepted 69)
+    -- "P Times 2 and 3: classes 1, 1 give 2"; document 02, No. 2, in place of "classes 2, 2 give 3": "its marked case for classes 2, 2 change (now 2);
+    -- classes 2, 3 give 3"
+    ∷ row (interchangeAsked (tableWords (delivered trial)) 1000011 1 1) (Minutes 2)
+    ∷ row (interchangeAsked (tableWords (delivered trial)) 1000011 2 2) (Minutes 2)
+    ∷ row (interchangeAsked (tableWords (delivered trial)) 1000011 2 3) (Minutes 3)
+    -- No. 6: "A refusal 4 also returns the column .. (59 for a missing "%")": file 5, line 2
+    ∷ row (answer (withCategory "*G BAT")) (Refused 4 5 2 59 0)
+    ∷ []

@@ -1,0 +1,157 @@
+-- The needs of the look-ups in the sections of a whole table, a ruleset for each: `words`, `fields`, `stops`, `interchanges`. Assumes nothing.
+use mathlib.Core.Path.{_≡_, refl, ap, _∙_, sym}
+use mathlib.Core.List.{List}
+use mathlib.Core.Bool.{true, false}
+use mathlib.Core.Option.{Option, none}
+use Prim.Native.Nat.{ℕ, _+_, _*_, _^_, _≤_, _<_}
+use native.Mathlib.Omega.{arith}
+use lib.ListN.{length, getD, take, drop}
+use lib.Seq.{drop-drop, getD-drop}
+use lib.Dec.{eqb}
+use borrow.Author.Tests.{eq-eqb, ne-eqb}
+use Rattle.base.specs.Lists.{find}
+use Rattle.base.proofs.Laws.{tests}
+use Rattle.bitfield.specs.BitField.{bit, runsOn}
+use Rattle.bitfield.proofs.Fill.{filled-none, twelve-next, twelve-done}
+use Rattle.timetable.specs.Delivery.{BitField, StopRecord, Interchange}
+use Rattle.timetable.specs.Files.{hasStop}
+use Rattle.timetable.specs.Legs.{fieldKnown, runsBy, fieldRuns}
+use Rattle.timetable.specs.Table.{rowsIn, bitFieldAt, stopAt, interchangeAt, tableOf}
+use Rattle.timetable.specs.Questions.{interchangeBy, interchangeAtStop}
+use Rattle.timetable.proofs.Rows.{one-row}
+use Rattle.table.specs.JustTable.{JustTable}
+use Rattle.table.proofs.JustTable.{whole-says, sections-fit, fields-are, stops-are, interchanges-are}
+use Rattle.lookups.specs.Lookups.{placeOf, timesOf}
+use Rattle.lookups.specs.declared.Found.{Found}
+use Rattle.lookups.specs.declared.Found.the-variants.{At, Nothing}
+use Rattle.lookups.specs.declared.Times.{Times}
+use Rattle.lookups.proofs.Search.{readAt, isAt, find-there, some-there, place-inside}
+
+-- ---- twelve words from a place on, for `search words`
+
+pub ruleset words = (tests, filled-none, twelve-next, twelve-done)
+
+-- ---- the header of a whole table, and where its sections begin
+
+module _ (w : List ℕ) (h : JustTable w) where
+  pub word-3 : 3 < length w
+  word-3 = omega (arith, whole-says w h .used-low, whole-says w h .used-high)
+
+  pub word-4 : 4 < length w
+  word-4 = omega (arith, whole-says w h .used-low, whole-says w h .used-high)
+
+  pub word-5 : 5 < length w
+  word-5 = omega (arith, whole-says w h .used-low, whole-says w h .used-high)
+
+  pub fields-room : 8 + 13 * getD w 3 0 ≤ length w
+  fields-room = omega (arith, sections-fit w h)
+
+  module _ (s : ℕ) (l : length w < 2 ^ 64) where
+    pub stops-scaled : s ≡ getD w 3 0 → 13 * s < 2 ^ 64
+    stops-scaled e = omega (arith, sections-fit w h)
+
+    pub stops-fit : s ≡ getD w 3 0 → 8 + 13 * s < 2 ^ 64
+    stops-fit e = omega (arith, sections-fit w h)
+
+    pub interchanges-scaled : s ≡ getD w 4 0 → 3 * s < 2 ^ 64
+    interchanges-scaled e = omega (arith, sections-fit w h)
+
+    pub interchanges-fit : (p : ℕ) → p ≡ 8 + 13 * getD w 3 0 → s ≡ getD w 4 0 → p + 3 * s < 2 ^ 64
+    interchanges-fit p q e = omega (arith, sections-fit w h)
+
+  pub stops-room : (p : ℕ) → p ≡ 8 + 13 * getD w 3 0 → p + 3 * getD w 4 0 ≤ length w
+  stops-room p q = omega (arith, sections-fit w h)
+
+  module _ (p : ℕ) (q : p ≡ 8 + 13 * getD w 3 0 + 3 * getD w 4 0) where
+    pub interchanges-room : p + 3 * getD w 5 0 ≤ length w
+    interchanges-room = omega (arith, sections-fit w h)
+
+    pub first-room : p + 3 ≤ length w
+    first-room = omega (arith, sections-fit w h, whole-says w h .interchanges)
+
+pub ruleset places = (tests, word-3, word-4, stops-scaled, stops-fit, interchanges-scaled, interchanges-fit)
+
+-- ---- bit fields, for `search fields`; f is where the search found the number b
+
+pub zero-known : (b : ℕ) (fs : List BitField) → b ≡ 0 → true ≡ fieldKnown b fs
+zero-known b fs e = rw (eq-eqb b 0 e)
+
+pub zero-days : (b : ℕ) (fs : List BitField) (ws : List ℕ) → b ≡ 0 → ((k : ℕ) → k < 384 → bit ws k ≡ true) → (d : ℕ) → d < 380 → runsOn ws d ≡ fieldRuns fs b d
+unfolding fieldRuns
+zero-days b fs ws e a d h = a (d + 2) (omega arith) ∙ rw (eq-eqb b 0 e)
+
+module _ (w : List ℕ) (h : JustTable w) (b : ℕ) (n : b ≡ 0 → ⊥) (f : Found) (e : f ≡ placeOf w b 13 8 (getD w 3 0)) where
+  field-known : fieldKnown b (tableOf w .fields) ≡ isAt f
+  field-known = rw (ne-eqb b 0 n, fields-are w h, e) (some-there bitFieldAt (λ (x : BitField). x .number) (λ u. refl) w b 13 (getD w 3 0) 8)
+
+  field-days : (d : ℕ) → fieldRuns (tableOf w .fields) b d ≡ runsBy (readAt bitFieldAt w f) d
+  unfolding fieldRuns
+  field-days d = rw (ne-eqb b 0 n, fields-are w h, e) (ap (λ (o : Option BitField). runsBy o d) (find-there bitFieldAt (λ (x : BitField). x .number) (λ u. refl) w b 13 (getD w 3 0) 8))
+
+  pub unknown-known : f ≡ Nothing → false ≡ fieldKnown b (tableOf w .fields)
+  unknown-known g = sym (field-known ∙ ap isAt g)
+
+  pub unknown-days : f ≡ Nothing → (ws : List ℕ) → ((k : ℕ) → k < 384 → bit ws k ≡ false) → (d : ℕ) → d < 380 → runsOn ws d ≡ fieldRuns (tableOf w .fields) b d
+  unknown-days g ws a d l = a (d + 2) (omega arith) ∙ sym (field-days d ∙ ap (λ (f : Found). runsBy (readAt bitFieldAt w f) d) g)
+
+  module _ (p : ℕ) (g : f ≡ At p) where
+    field-end : p + 13 ≤ length w
+    field-end = omega (arith, place-inside w b 13 (getD w 3 0) 8 p (sym e ∙ g), fields-room w h)
+
+    pub field-next : length w < 2 ^ 64 → p + 1 < 2 ^ 64
+    field-next l = omega (arith, field-end)
+
+    pub field-room : p + 1 + 12 ≤ length w
+    field-room = omega (arith, field-end)
+
+    pub found-known : true ≡ fieldKnown b (tableOf w .fields)
+    found-known = sym (field-known ∙ ap isAt g)
+
+    pub found-days : (ws : List ℕ) → ws ≡ take 12 (drop (p + 1) w) → (d : ℕ) → d < 380 → runsOn ws d ≡ fieldRuns (tableOf w .fields) b d
+    found-days ws q d l = rw (q, ← (drop-drop 1 p w)) (sym (field-days d ∙ ap (λ (f : Found). runsBy (readAt bitFieldAt w f) d) g))
+
+pub ruleset fields = (tests, word-3, fields-room, zero-known, zero-days, unknown-known, unknown-days, field-next, field-room, found-known, found-days)
+
+-- ---- stops, for `search stops`; f is where the search found the stop, from p on
+
+module _ (w : List ℕ) (h : JustTable w) (stop p : ℕ) (q : p ≡ 8 + 13 * getD w 3 0) (f : Found) (e : f ≡ placeOf w stop 3 p (getD w 4 0)) where
+  stop-known : hasStop stop (tableOf w .stops) ≡ isAt f
+  stop-known = rw (stops-are w h, e, q) (some-there stopAt (λ (x : StopRecord). x .number) (λ u. refl) w stop 3 (getD w 4 0) (8 + 13 * getD w 3 0))
+
+  pub stop-found : (x : ℕ) → f ≡ At x → true ≡ hasStop stop (tableOf w .stops)
+  stop-found x g = sym (stop-known ∙ ap isAt g)
+
+  pub stop-unknown : f ≡ Nothing → false ≡ hasStop stop (tableOf w .stops)
+  stop-unknown g = sym (stop-known ∙ ap isAt g)
+
+pub ruleset stops = (tests, word-4, stops-room, stop-found, stop-unknown)
+
+-- ---- interchange records, for `search interchanges`; p is where they begin, f where the search found the stop
+
+pub times-are : (w : List ℕ) (p : ℕ) → record { first = getD w (p + 1) 0; second = getD w (p + 2) 0 } ≡ timesOf (interchangeAt (drop p w))
+times-are w p = rw (getD-drop p w 1 0, getD-drop p w 2 0)
+
+module _ (w : List ℕ) (h : JustTable w) (stop p : ℕ) (q : p ≡ 8 + 13 * getD w 3 0 + 3 * getD w 4 0) (f : Found) (e : f ≡ placeOf w stop 3 p (getD w 5 0)) where
+  records-are : tableOf w .interchanges ≡ rowsIn interchangeAt 3 (getD w 5 0) (drop p w)
+  records-are = rw (interchanges-are w h, q)
+
+  interchange-is : interchangeAtStop (tableOf w) stop ≡ interchangeBy (readAt interchangeAt w f) (tableOf w .interchanges)
+  unfolding interchangeAtStop
+  interchange-is =
+      let g : find (λ (c : Interchange). eqb (c .number) stop) (tableOf w .interchanges) ≡ readAt interchangeAt w f = rw (records-are, e) (find-there interchangeAt (λ (x : Interchange). x .number) (λ u. refl) w stop 3 (getD w 5 0) p) in
+      ap (λ (o : Option Interchange). interchangeBy o (tableOf w .interchanges)) g
+
+  module _ (t : Times) where
+    pub interchange-found : (x : ℕ) → f ≡ At x → t ≡ timesOf (interchangeAt (drop x w)) → t ≡ timesOf (interchangeAtStop (tableOf w) stop)
+    interchange-found x g k = k ∙ ap timesOf (sym (interchange-is ∙ ap (λ (f : Found). interchangeBy (readAt interchangeAt w f) (tableOf w .interchanges)) g))
+
+    pub interchange-first : f ≡ Nothing → t ≡ timesOf (interchangeAt (drop p w)) → t ≡ timesOf (interchangeAtStop (tableOf w) stop)
+    interchange-first g k =
+        let first : interchangeBy none (tableOf w .interchanges) ≡ interchangeAt (drop p w) = rw (records-are, one-row interchangeAt 3 (getD w 5 0) (drop p w) (omega (arith, whole-says w h .interchanges))) in
+        let is : interchangeAtStop (tableOf w) stop ≡ interchangeAt (drop p w) = interchange-is ∙ ap (λ (f : Found). interchangeBy (readAt interchangeAt w f) (tableOf w .interchanges)) g ∙ first in
+        k ∙ ap timesOf (sym is)
+
+  pub interchange-room : (x : ℕ) → f ≡ At x → x + 3 ≤ length w
+  interchange-room x g = omega (arith, place-inside w stop 3 (getD w 5 0) p x (sym e ∙ g), interchanges-room w h p q)
+
+pub ruleset interchanges = (tests, word-5, interchanges-room, first-room, times-are, interchange-found, interchange-first, interchange-room)

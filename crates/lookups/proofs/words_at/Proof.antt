@@ -1,0 +1,58 @@
+use Prim.Native.Nat.{_-_}
+use Rattle.bitfield.proofs.Fill.{Filled, wordFrom}
+use Rattle.lookups.proofs.Sections.{words}
+use Rattle.lookups.proofs.words_at.Statement.{statement}
+use Rattle.lookups.proofs.words_at.Tie as tie
+
+abbrev Inv-loop : tie.InvT-loop
+Inv-loop w p r₀ i₀ r i = Filled (wordFrom w p) r i
+
+abbrev μ-loop : tie.MeasureT-loop
+μ-loop w p r₀ i₀ r i = 12 - i
+
+loop-holds : tie.Need-loop-holds Inv-loop μ-loop
+loop-holds c = search words
+
+add-r : tie.Need-add-r Inv-loop μ-loop
+add-r c = search words
+
+mul-r : tie.Need-mul-r Inv-loop μ-loop
+mul-r c = search words
+
+shared-slice-read-r : tie.Need-shared-slice-read-r Inv-loop μ-loop
+shared-slice-read-r c = search words
+
+mul-r-2 : tie.Need-mul-r-2 Inv-loop μ-loop
+mul-r-2 c = search words
+
+array-write-r : tie.Need-array-write-r Inv-loop μ-loop
+array-write-r c = search words
+
+add-i : tie.Need-add-i Inv-loop μ-loop
+add-i c = search words
+
+loop-less : tie.Need-loop-less Inv-loop μ-loop
+loop-less c = search words
+
+loop-again : tie.Need-loop-again Inv-loop μ-loop
+loop-again c = search words
+
+returns : tie.Need-returns Inv-loop μ-loop
+returns c = search words
+
+pub words-at-spec : {M : Type 1} → statement M
+words-at-spec =
+    tie.close
+    (tie.spec
+    Inv-loop
+    μ-loop
+    loop-holds
+    add-r
+    mul-r
+    shared-slice-read-r
+    mul-r-2
+    array-write-r
+    add-i
+    loop-less
+    loop-again
+    returns)

@@ -1,0 +1,37 @@
+-- Places in the words of a table, and what the look-ups answer of what the table holds. Assumes nothing.
+use Prim.Native.Nat.{ℕ, zero, suc, _+_}
+use mathlib.Core.List.{List}
+use mathlib.Core.Bool.{cond}
+use lib.Dec.{eqb}
+use Rattle.timetable.specs.Delivery.{Interchange}
+use Rattle.timetable.specs.Table.{word, tableOf, isTable}
+use Rattle.timetable.specs.Questions.{Dated, undated, dated, dateOf}
+use Rattle.lookups.specs.declared.Found.{Found}
+use Rattle.lookups.specs.declared.Found.the-variants.{At, Nothing}
+use Rattle.lookups.specs.declared.PeriodDay.{PeriodDay}
+use Rattle.lookups.specs.declared.PeriodDay.the-variants.{On, Refused}
+use Rattle.lookups.specs.declared.Times.{Times}
+
+-- "Lookups take the first match": the first of n records of a size from place p on that begins with the key
+unfoldable pub placeOf : List ℕ → ℕ → ℕ → ℕ → ℕ → Found
+placeOf w key size p zero = Nothing
+placeOf w key size p (suc n) = cond (eqb (word w p) key) (At p) (placeOf w key size (p + size) n)
+
+-- the i-th record from place p on, each as long as its first word says
+unfoldable pub recordPlace : List ℕ → ℕ → ℕ → ℕ
+recordPlace w p zero = p
+recordPlace w p (suc i) = recordPlace w (p + word w p) i
+
+abbrev pub servicePlace : List ℕ → ℕ → ℕ
+servicePlace w i = recordPlace w (word w 7) i
+
+abbrev pub timesOf : Interchange → Times
+timesOf c = record { first = c .firstTime; second = c .secondTime }
+
+-- "21, 22 no such date, 23 outside the period"
+abbrev pub periodDay : Dated → PeriodDay
+periodDay (undated number) = Refused number
+periodDay (dated k) = On k
+
+unfoldable pub datedAsked : List ℕ → ℕ → ℕ → ℕ → PeriodDay
+datedAsked w day month year = cond (isTable w) (periodDay (dateOf (tableOf w) day month year)) (Refused 21)

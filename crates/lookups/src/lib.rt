@@ -1,0 +1,224 @@
+// Look-ups in the words of a table: "lookups take the first match".
+// `dated` answers on any words; the others ask for a whole table (`table::used_words`).
+use calendar::Date;
+use timetable::BIT_FIELD_WORDS;
+use timetable::BIT_FIELDS_AT;
+use timetable::BIT_WORDS;
+use timetable::FIRST_DAY_AT;
+use timetable::FIRST_SERVICE_AT;
+use timetable::HEADER_WORDS;
+use timetable::INTERCHANGE_WORDS;
+use timetable::INTERCHANGES_AT;
+use timetable::PERIOD_DAYS_AT;
+use timetable::STOP_WORDS;
+use timetable::STOPS_AT;
+ghost use mathlib.Core.Path.{_≡_};
+ghost use Prim.Native.Nat.{ℕ, _+_, _*_, _≤_, _<_};
+ghost use lib.ListN.{length, drop, take};
+ghost use Rattle.bitfield.specs.BitField.{runsOn};
+ghost use Rattle.timetable.specs.Files.{hasStop};
+ghost use Rattle.timetable.specs.Legs.{fieldKnown, fieldRuns};
+ghost use Rattle.timetable.specs.Layout.{headerSize, bitFieldSize, stopSize, interchangeSize, mostPeriodDays};
+ghost use Rattle.timetable.specs.Table.{bitFields#, stops#, services#, interchangeAt, tableOf};
+ghost use Rattle.timetable.specs.Questions.{datedBy, interchangeAtStop};
+ghost use Rattle.table.specs.JustTable.{JustTable};
+ghost use Rattle.lookups.specs.Lookups.{placeOf, servicePlace, timesOf, periodDay, datedAsked};
+
+// A day of the period, counted from 0, or the number of a refusal.
+pub enum PeriodDay {
+    On(u32),
+    Refused(u32),
+}
+
+// A bit field: whether there is one of that number, and its days.
+pub struct Field {
+    pub known: bool,
+    pub words: [u32; BIT_WORDS],
+}
+
+// The two times of an interchange record.
+pub struct Times {
+    pub first: u32,
+    pub second: u32,
+}
+
+// The place of a record.
+pub enum Found {
+    At(usize),
+    Nothing,
+}
+
+// ---- dates
+
+// The day of the period that a date is: 21 not a table, 22 no such date, 23 outside the period.
+pub fn dated(w: &[u32], day: u32, month: u32, year: u32) -> PeriodDay
+    ensures { λ r. ⌜ r ≡ datedAsked (now (w .entry)) day month year ⌝ }
+{
+    if !table::is_table(w) {
+        return PeriodDay::Refused(21);
+    }
+    in_period(
+        w[FIRST_DAY_AT],
+        w[PERIOD_DAYS_AT],
+        calendar::day_of(day, month, year),
+    )
+}
+
+// The day of a period of n days from start on that a date is.
+fn in_period(start: u32, n: u32, date: Date) -> PeriodDay
+    ensures { λ r. ⌜ r ≡ periodDay (datedBy (record { start = start; days = n }) date) ⌝ }
+{
+    let Date::Day(k) = date else {
+        return PeriodDay::Refused(22);
+    };
+    if k < start {
+        return PeriodDay::Refused(23);
+    }
+    if n <= k - start {
+        return PeriodDay::Refused(23);
+    }
+    PeriodDay::On(k - start)
+}
+
+// ---- bit fields
+
+// The bit field of a number; 0 is every day.
+pub fn field_words(w: &[u32], number: u32) -> Field
+    requires { ⌜ JustTable (now w) ⌝ }
+    ensures known { λ r. ⌜ r .known ≡ fieldKnown number (tableOf (now (w .entry)) .fields) ⌝ }
+    ensures days { λ r. ⌜ ((d : ℕ) → d < mostPeriodDays → runsOn (r .words) d ≡ fieldRuns (tableOf (now (w .entry)) .fields) number d) ⌝ }
+{
+    if number == 0 {
+        let words = bitfield::all_bits();
+        return Field { known: true, words };
+    }
+    let found = find(w, HEADER_WORDS, w[BIT_FIELDS_AT], BIT_FIELD_WORDS, number);
+    let Found::At(p) = found else {
+        let words = bitfield::no_bits();
+        return Field {
+            known: false,
+            words,
+        };
+    };
+    let words = words_at(w, p + 1);
+    Field { known: true, words }
+}
+
+// Whether a bit field runs on day d of the period.
+pub fn field_runs(field: Field, d: u32) -> bool
+    requires { ⌜ d < mostPeriodDays ⌝ }
+    ensures { λ r. ⌜ r ≡ runsOn (field .words) d ⌝ }
+{
+    let words = field.words;
+    bitfield::runs_on(words, d)
+}
+
+// The twelve words from a place on.
+fn words_at(w: &[u32], p: usize) -> [u32; BIT_WORDS]
+    requires { ⌜ p + 12 ≤ length (now w) ⌝ }
+    ensures { λ r. ⌜ r ≡ take 12 (drop p (now (w .entry))) ⌝ }
+{
+    let mut r = [0u32; BIT_WORDS];
+    let mut i: usize = 0;
+    while i < BIT_WORDS {
+        r[i] = w[p + i];
+        i += 1;
+    }
+    r
+}
+
+// ---- stops and interchange records
+
+pub fn stop_known(w: &[u32], stop: u32) -> bool
+    requires { ⌜ JustTable (now w) ⌝ }
+    ensures { λ r. ⌜ r ≡ hasStop stop (tableOf (now (w .entry)) .stops) ⌝ }
+{
+    let found = find(w, stops_place(w), w[STOPS_AT], STOP_WORDS, stop);
+    match found {
+        Found::At(p) => true,
+        Found::Nothing => false,
+    }
+}
+
+// The times of the stop's interchange record, else of the first record.
+pub fn interchange_at(w: &[u32], stop: u32) -> Times
+    requires { ⌜ JustTable (now w) ⌝ }
+    ensures { λ r. ⌜ r ≡ timesOf (interchangeAtStop (tableOf (now (w .entry))) stop) ⌝ }
+{
+    let first = interchanges_place(w);
+    let found = find(w, first, w[INTERCHANGES_AT], INTERCHANGE_WORDS, stop);
+    match found {
+        Found::At(p) => times_at(w, p),
+        Found::Nothing => times_at(w, first),
+    }
+}
+
+// The times of the interchange record at a place.
+fn times_at(w: &[u32], p: usize) -> Times
+    requires { ⌜ p + interchangeSize ≤ length (now w) ⌝ }
+    ensures { λ r. ⌜ r ≡ timesOf (interchangeAt (drop p (now (w .entry)))) ⌝ }
+{
+    Times {
+        first: w[p + 1],
+        second: w[p + 2],
+    }
+}
+
+// Where the stops begin.
+fn stops_place(w: &[u32]) -> usize
+    requires { ⌜ JustTable (now w) ⌝ }
+    ensures { λ r. ⌜ r ≡ headerSize + bitFieldSize * bitFields# (now (w .entry)) ⌝ }
+{
+    HEADER_WORDS + BIT_FIELD_WORDS * table::size(w[BIT_FIELDS_AT])
+}
+
+// Where the interchange records begin.
+fn interchanges_place(w: &[u32]) -> usize
+    requires { ⌜ JustTable (now w) ⌝ }
+    ensures { λ r. ⌜ r ≡ headerSize + bitFieldSize * bitFields# (now (w .entry)) + stopSize * stops# (now (w .entry)) ⌝ }
+{
+    stops_place(w) + STOP_WORDS * table::size(w[STOPS_AT])
+}
+
+// ---- services
+
+// Where the record of the i-th service begins.
+fn service_place(w: &[u32], i: u32) -> usize
+    requires { ⌜ JustTable (now w) × (i < services# (now w)) ⌝ }
+    ensures { λ r. ⌜ r ≡ servicePlace (now (w .entry)) i ⌝ }
+{
+    let mut p = table::size(w[FIRST_SERVICE_AT]);
+    let mut k = i;
+    while 0 < k {
+        p += table::size(w[p]);
+        k -= 1;
+    }
+    p
+}
+
+// The words from the record of the i-th service on.
+pub fn service_words(w: &[u32], i: u32) -> &[u32]
+    requires { ⌜ JustTable (now w) × (i < services# (now w)) ⌝ }
+    ensures { λ r. ⌜ now r ≡ drop (servicePlace (now (w .entry)) i) (now (w .entry)) ⌝ }
+{
+    &w[service_place(w, i)..]
+}
+
+// ---- the search
+
+// The first of n records of a size from place `at` on that begins with the key.
+fn find(w: &[u32], at: usize, n: u32, size: usize, key: u32) -> Found
+    requires { ⌜ (1 ≤ size) × (at + size * n ≤ length (now w)) ⌝ }
+    ensures { λ r. ⌜ r ≡ placeOf (now (w .entry)) key size at n ⌝ }
+{
+    let mut p = at;
+    let mut k = n;
+    while 0 < k {
+        if w[p] == key {
+            return Found::At(p);
+        }
+        p += size;
+        k -= 1;
+    }
+    Found::Nothing
+}

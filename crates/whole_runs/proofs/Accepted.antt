@@ -1,0 +1,191 @@
+-- The table of a delivery without an offence is a table (`table-is`), and every question is answered from it as from the delivery itself:
+-- `walk-accepted`, `day-accepted`, `interchange-accepted`. Assumes nothing.
+use mathlib.Core.Path.{_≡_, refl, sym, ap, _∙_}
+use mathlib.Core.List.{List, _++_}
+use mathlib.Core.Bool.{Bool, true, false, cond, _&&_}
+use mathlib.Core.Option.{Option, none, some}
+use Prim.Native.Nat.{ℕ, zero, suc, _+_, _≤_}
+use native.Mathlib.Omega.{arith}
+use lib.ListN.{length, drop, length-append}
+use lib.Seq.{drop-at}
+use lib.Dec.{ltb, leb, eqb}
+use borrow.Author.Tests.{le-leb, ltb-false, eqb-false, eq-eqb}
+use Rattle.base.specs.Lists.{All, nil, cons, gathered}
+use Rattle.base.proofs.Laws.{apart}
+use Rattle.calendar.specs.Calendar.{lastDay}
+use Rattle.lines.specs.Lines.{linesOf}
+use Rattle.timetable.specs.Delivery.{Files, Service, Delivery}
+use Rattle.timetable.specs.Files.{hasStop, held-in, interchangeOf, interchangesFirst}
+use Rattle.timetable.specs.Load.{Where, delivered, offence, onto, loadedBy, loaded, writtenBy, written}
+use Rattle.timetable.specs.Layout.{headerSize, serviceHead, firstService, mostPeriodDays, mostCalls, mostCategories, mostDays, mostExtras}
+use Rattle.timetable.specs.Table.{serviceSize, serviceWords, sections, tableWords}
+use Rattle.timetable.specs.Table.{recordWords, calls#, categories#, days#, extras#, usedWords, firstDay, periodDays, bitFields#, stops#, interchanges#, services#, servicesPlace}
+use Rattle.timetable.specs.Table.{tableOf, recordSound, recordsSound, headSound, isTable}
+use Rattle.timetable.specs.Questions.{dateOf, dayBy, dayAsked, minutesFor, interchangeAtStop, interchangeAsked, journey, walkOf}
+use Rattle.timetable.specs.declared.InterchangeAnswer.the-variants.{Minutes, Refused as InterchangeRefused}
+use Rattle.timetable.specs.declared.Loaded.{Loaded}
+use Rattle.timetable.specs.declared.Loaded.the-variants.{Accepted, Refused}
+use Rattle.timetable.proofs.Offences.{then-none, given-none}
+use Rattle.timetable.proofs.Records.{twelve, service-length, service-back}
+use Rattle.whole_runs.proofs.Back.{words-length, used-back, to-services, sections-length, fields-twelve, table-back}
+use Rattle.whole_runs.proofs.Clear.{Clear, clear}
+use Rattle.whole_runs.proofs.Period.{PeriodSound, period-sound}
+use Rattle.whole_runs.proofs.Right.{Right, services-right}
+
+-- ---- the services are the records of a table
+
+head-words : (s : Service) (r : List ℕ) → (recordWords (serviceWords s ++ r) ≡ serviceSize s) × (calls# (serviceWords s ++ r) ≡ length (s .calls)) × (categories# (serviceWords s ++ r) ≡ length (s .categories)) × (days# (serviceWords s ++ r) ≡ length (s .days)) × (extras# (serviceWords s ++ r) ≡ length (s .extras))
+unfolding serviceWords
+head-words s r = (refl, refl, refl, refl, refl)
+
+record-sound : (d : Delivery) (s : Service) → Right d s → (r : List ℕ) → recordSound (serviceWords s ++ r) ≡ true
+unfolding recordSound
+record-sound d s h r =
+    let q = head-words s r in
+    let l : length (serviceWords s ++ r) ≡ serviceSize s + length r = length-append (serviceWords s) r ∙ rw (service-length s) in
+    rw (
+      q .0,
+      q .1,
+      q .2,
+      q .3,
+      q .4,
+      l,
+      service-back s r,
+      le-leb serviceHead (serviceSize s + length r) (omega arith),
+      le-leb 2 (length (s .calls)) (h .two),
+      le-leb (length (s .calls)) mostCalls (h .most-calls),
+      le-leb (length (s .categories)) mostCategories (h .most-categories),
+      le-leb (length (s .days)) mostDays (h .most-days),
+      le-leb (length (s .extras)) mostExtras (h .most-extras),
+      eq-eqb (serviceSize s) (serviceSize s) refl,
+      le-leb (serviceSize s) (serviceSize s + length r) (omega arith),
+      h .sound,
+    )
+
+records-sound : (d : Delivery) {ss : List Service} → All (Right d) ss → recordsSound (length ss) (gathered serviceWords ss) ≡ true
+unfolding recordsSound gathered
+records-sound d nil = refl
+records-sound d (cons {x = s} {xs = ss} h t) =
+    let r = gathered serviceWords ss in
+    rw (record-sound d s h r, head-words s r .0, drop-at (serviceWords s) r (serviceSize s) (service-length s)) (records-sound d t)
+
+-- ---- the table
+
+-- what a table keeps, of a delivery
+pub record Sound (d : Delivery) : Type 0 where
+  pub twelves : All twelve (d .fields)
+  pub period : PeriodSound (d .period)
+  pub interchanges : 1 ≤ length (d .interchanges)
+  pub services : All (Right d) (d .services)
+
+header-words : (d : Delivery) (r : List ℕ) → (usedWords (tableWords d ++ r) ≡ headerSize + length (sections d)) × (firstDay (tableWords d ++ r) ≡ d .period .start) × (periodDays (tableWords d ++ r) ≡ d .period .days) × (bitFields# (tableWords d ++ r) ≡ length (d .fields)) × (stops# (tableWords d ++ r) ≡ length (d .stops)) × (interchanges# (tableWords d ++ r) ≡ length (d .interchanges)) × (services# (tableWords d ++ r) ≡ length (d .services)) × (servicesPlace (tableWords d ++ r) ≡ firstService (length (d .fields)) (length (d .stops)) (length (d .interchanges)))
+unfolding tableWords
+header-words d r = (refl, refl, refl, refl, refl, refl, refl, refl)
+
+pub sound-table : (d : Delivery) → Sound d → (rest : List ℕ) → isTable (tableWords d ++ rest) ≡ true
+unfolding isTable headSound
+sound-table d h rest =
+    let q = header-words d rest in
+    let u = headerSize + length (sections d) in
+    let p = h .period in
+    let at = firstService (length (d .fields)) (length (d .stops)) (length (d .interchanges)) in
+    let l : length (tableWords d ++ rest) ≡ u + length rest = length-append (tableWords d) rest ∙ rw (words-length d) in
+    let z = sections-length d (h .twelves) in
+    rw (
+      used-back d rest,
+      q .0,
+      q .1,
+      q .2,
+      q .3,
+      q .4,
+      q .5,
+      q .6,
+      q .7,
+      l,
+      to-services d (h .twelves),
+      le-leb headerSize (u + length rest) (omega arith),
+      le-leb headerSize u (omega arith),
+      le-leb u (u + length rest) (omega arith),
+      le-leb 1 (d .period .days) (p .one),
+      le-leb (d .period .days) mostPeriodDays (p .most),
+      le-leb (d .period .start + d .period .days) (lastDay + 1) (p .last),
+      le-leb 1 (length (d .interchanges)) (h .interchanges),
+      eq-eqb at at refl,
+      le-leb at u (omega (arith, z)),
+    )
+    (records-sound d (h .services))
+
+some-record : (n : ℕ) → eqb n 0 ≡ false → 1 ≤ n
+some-record zero q = absurd (eqb-false 0 0 q refl)
+some-record (suc n) q = omega arith
+
+pub clear-sound : (f : Files) → Clear f → Sound (delivered f)
+unfolding delivered interchangesFirst
+clear-sound f h = record {
+  twelves = fields-twelve (linesOf (f .bitfeld));
+  period = period-sound (linesOf (f .eckdaten)) (h .period);
+  interchanges = some-record (length (held-in interchangeOf (linesOf (f .umsteigb)))) (given-none _ 2 _ (then-none _ _ (h .interchanges) .1));
+  services = services-right f h;
+}
+
+-- The words of a delivery without an offence are a table, whatever words follow.
+pub words-table : (f : Files) → offence f ≡ none → (rest : List ℕ) → isTable (tableWords (delivered f) ++ rest) ≡ true
+words-table f e rest = sound-table (delivered f) (clear-sound f (clear f e)) rest
+
+-- ---- acceptance
+
+pub accepted-none : (o : Option Where) (needed room u : ℕ) → loadedBy o needed room ≡ Accepted u → (o ≡ none) × (needed ≤ room) × (u ≡ needed)
+accepted-none (some x) needed room u e = apart (cc)
+accepted-none none needed room u e = go (ltb room needed) refl e
+  where
+    go : (t : Bool) → ltb room needed ≡ t → cond t (Refused 20 0 0 0 needed) (Accepted needed) ≡ Accepted u → (_≡_ {A = Option Where} none none) × (needed ≤ room) × (u ≡ needed)
+    go true q e = apart (cc)
+    go false q e = (refl, ltb-false room needed q, let z : needed ≡ u = cc in sym z)
+
+module _ (f : Files) (t : List ℕ) (u : ℕ) (e : loaded f (length t) ≡ Accepted u) where
+  pub no-offence : offence f ≡ none
+  unfolding loaded
+  no-offence = accepted-none (offence f) (length (tableWords (delivered f))) (length t) u e .0
+
+  -- the table holds the delivery's words, and the words lent after them
+  pub written-is : written f t ≡ tableWords (delivered f) ++ drop (length (tableWords (delivered f))) t
+  unfolding written onto
+  written-is = ap (λ (a : Loaded). writtenBy a (tableWords (delivered f)) t) e
+
+  -- the words used are the delivery's, and no more
+  pub used-words : u ≡ length (tableWords (delivered f))
+  unfolding loaded
+  used-words = accepted-none (offence f) (length (tableWords (delivered f))) (length t) u e .2
+
+  -- The table of an accepted delivery is a table, and holds that delivery.
+  pub table-is : isTable (written f t) ≡ true
+  table-is = ap isTable written-is ∙ words-table f no-offence (drop (length (tableWords (delivered f))) t)
+
+  pub table-holds : tableOf (written f t) ≡ delivered f
+  table-holds = ap tableOf written-is ∙ table-back f (drop (length (tableWords (delivered f))) t)
+
+-- ---- questions of words that are a table and hold a delivery are questions of that delivery
+
+module _ (w : List ℕ) (d : Delivery) (is : isTable w ≡ true) (holds : tableOf w ≡ d) where
+  pub walk-held : (i r day month year : ℕ) → walkOf w i r day month year ≡ journey d i r day month year
+  unfolding walkOf
+  walk-held i r day month year = rw (is, holds)
+
+  pub day-held : (day month year b : ℕ) → dayAsked w day month year b ≡ dayBy d b (dateOf d day month year)
+  unfolding dayAsked
+  day-held day month year b = rw (is, holds)
+
+  pub interchange-held : (n a b : ℕ) → interchangeAsked w n a b ≡ cond (leb a 13 && leb b 13) (cond (hasStop n (d .stops)) (Minutes (minutesFor (interchangeAtStop d n) a b)) (InterchangeRefused 27)) (InterchangeRefused 26)
+  unfolding interchangeAsked
+  interchange-held n a b = rw (is, holds)
+
+-- of an accepted delivery's table
+module _ (f : Files) (t : List ℕ) (u : ℕ) (e : loaded f (length t) ≡ Accepted u) where
+  pub walk-accepted : (i r day month year : ℕ) → walkOf (written f t) i r day month year ≡ journey (delivered f) i r day month year
+  walk-accepted = walk-held (written f t) (delivered f) (table-is f t u e) (table-holds f t u e)
+
+  pub day-accepted : (day month year b : ℕ) → dayAsked (written f t) day month year b ≡ dayBy (delivered f) b (dateOf (delivered f) day month year)
+  day-accepted = day-held (written f t) (delivered f) (table-is f t u e) (table-holds f t u e)
+
+  pub interchange-accepted : (n a b : ℕ) → interchangeAsked (written f t) n a b ≡ cond (leb a 13 && leb b 13) (cond (hasStop n (delivered f .stops)) (Minutes (minutesFor (interchangeAtStop (delivered f) n) a b)) (InterchangeRefused 27)) (InterchangeRefused 26)
+  interchange-accepted = interchange-held (written f t) (delivered f) (table-is f t u e) (table-holds f t u e)

@@ -1,0 +1,289 @@
+-- Every refusal has a number of at least 1: across the boundary a number of 0 says that nothing was refused. And a load's refusal has a column exactly
+-- if it is 4. Assumes nothing.
+use mathlib.Core.Path.{_≡_, refl, subst}
+use mathlib.Core.List.{List, [], _∷_, _++_}
+use mathlib.Core.Bool.{Bool, true, false, cond, not, _&&_, _||_}
+use mathlib.Core.Option.{Option, none, some}
+use Prim.Native.Nat.{ℕ, _+_, _%_, _≤_}
+use native.Mathlib.Omega.{arith}
+use lib.ListN.{length}
+use lib.Dec.{ltb, leb, eqb}
+use borrow.Author.Tests.{leb-true, eqb-false, not-true}
+use Rattle.base.proofs.Laws.{apart}
+use Rattle.base.proofs.Loops.{and-true}
+use Rattle.bitfield.specs.BitField.{framed}
+use Rattle.calendar.specs.Calendar.{dayOf, dateIn, periodOf}
+use Rattle.forms.specs.Form.{formOf}
+use Rattle.forms.specs.Columns.{dateColumns, columnsOf}
+use Rattle.forms.specs.Kinds.{kindOf}
+use Rattle.forms.specs.declared.Kind.{Kind}
+use Rattle.forms.specs.declared.Kind.the-variants.{Opening as OpeningKind, Category as CategoryKind, Attribute as AttributeKind, Schedule as ScheduleKind, Other as OtherKind}
+use Rattle.forms.specs.declared.LineKind.{LineKind}
+use Rattle.forms.specs.declared.LineKind.the-variants.{Date, BitField, Stop, Interchange, Opening, Category, Attribute, Schedule}
+use Rattle.forms.proofs.Leftmost.{broken-from-1}
+use Rattle.forms.specs.declared.Form.{Form}
+use Rattle.forms.specs.declared.Form.the-variants.{Fits, Broken}
+use Rattle.lines.specs.Lines.{Line, linesOf, skipped}
+use Rattle.timetable.specs.Delivery.{Files, BitField as BitFieldRecord, StopRecord, Interchange as InterchangeRecord, CategoryRange, DayRange, Service}
+use Rattle.timetable.specs.declared.Offence.{Offence}
+use Rattle.timetable.specs.Offences.{given, formOffence, _<|>_, first}
+use Rattle.timetable.specs.Files.{skip, held-in, heldBy, heldOffence, noDate, noPeriod, dayNumber, dateLineOffence, periodLineOffence, periodFirst}
+use Rattle.timetable.specs.Files.{hasField, bitFieldOf, bitFieldOffence, bitFieldLineOffence, bitFieldsFirst, hasStop, stopOf, stopOffence, stopLineOffence, stopsFirst}
+use Rattle.timetable.specs.Files.{hasInterchange, interchangeOf, interchangeOffence, interchangeLineOffence, interchangesFirst}
+use Rattle.timetable.specs.Table.{tableOf, isTable}
+use Rattle.timetable.specs.Plan.{openingIn, categoryIn, attributeIn, callIn, formed, toldBy, toldIn, asCall, asRange, callsOf, partLines, saidOn}
+use Rattle.timetable.specs.Service.{headLines, blocks, firstLine, legsOn, serviceOf}
+use Rattle.timetable.specs.Legs.{fieldKnown, fieldRuns, legCount}
+use Rattle.timetable.specs.Checks.{most, toldOffence, isNone, eachOnce, torn, timesStated, timesRise, lastStated, timesFirst, endsFirst, legsFirst, serviceChecks, serviceFirst, servicesFirst, planFirst}
+use Rattle.timetable.specs.Load.{delivered, Where, inFile, tooLong, offence, loadedBy, loaded}
+use Rattle.timetable.specs.Layout.{mostFileBytes, mostCalls}
+use Rattle.timetable.specs.Questions.{minutesFor, interchangeAtStop, dateOf, Dated, undated, dated, dayBy, dayAsked, interchangeAsked, walked}
+use Rattle.timetable.specs.declared.Call.{Call}
+use Rattle.timetable.specs.declared.RangeLine.{RangeLine}
+use Rattle.timetable.specs.declared.Told.{Told}
+use Rattle.timetable.specs.declared.Told.the-variants.{Skip, Other, Broken as ToldBroken, Opens, Ranges, Calls}
+use Rattle.timetable.specs.declared.Loaded.the-variants.{Accepted, Refused}
+use Rattle.timetable.specs.declared.DayAnswer.the-variants.{Runs, Idle, Refused as DayRefused}
+use Rattle.timetable.specs.declared.InterchangeAnswer.the-variants.{Minutes, Refused as InterchangeRefused}
+use Rattle.timetable.specs.declared.Walked.{Walked}
+use Rattle.timetable.specs.declared.Walked.the-variants.{Refused as WalkRefused}
+use Rattle.timetable.proofs.Offences.{one-of}
+use Rattle.whole_runs.specs.Promise.{AnyWalk, lists, short, nowhere, refuses}
+use Rattle.whole_runs.proofs.Any.{date-refusal, any-walk}
+
+-- ---- the offences of a delivery
+
+-- an offence has a number of at least 1, and a column exactly if it is 4
+record Sound (number column : ℕ) : Type 0 where
+  pub numbered : 1 ≤ number
+  pub placed : number ≡ 4 → 1 ≤ column
+  pub unplaced : (number ≡ 4 → ⊥) → column ≡ 0
+
+-- an offence, if there is one, is so
+abbrev Numbered : Option Offence → Type 0
+Numbered x = (o : Offence) → x ≡ some o → Sound (o .number) (o .column)
+
+it : (number line column : ℕ) → Sound number column → Numbered (some (record { number = number; line = line; column = column }))
+it number line column h o e = let z : number ≡ o .number = cc in let w : column ≡ o .column = cc in subst (λ (c : ℕ). Sound (o .number) c) w (subst (λ (n : ℕ). Sound n column) z h)
+
+-- a number that is neither 0 nor 4
+abbrev other : ℕ → Bool
+other n = leb 1 n && not (eqb n 4)
+
+without : (number : ℕ) → other number ≡ true → Sound number 0
+without number h =
+    let p = and-true (leb 1 number) (not (eqb number 4)) h in
+    record { numbered = leb-true 1 number (p .0); placed = λ e. absurd (eqb-false number 4 (not-true (eqb number 4) (p .1)) e); unplaced = λ e. refl }
+
+by-given : (t : Bool) (number line : ℕ) → other number ≡ true → Numbered (given t number line)
+by-given true number line h o e = it number line 0 (without number h) o e
+by-given false number line h o e = apart (cc)
+
+by-form : (f : Form) (line : ℕ) → ((c : ℕ) → f ≡ Broken c → 1 ≤ c) → Numbered (formOffence f line)
+by-form Fits line h o e = apart (cc)
+by-form (Broken c) line h o e = it 4 line c (record { numbered = omega arith; placed = λ z. h c refl; unplaced = λ z. absurd (z refl) }) o e
+
+either : (a b : Option Offence) → Numbered a → Numbered b → Numbered (a <|> b)
+either a b p q o e = one-of a b e (p o) (q o)
+
+by-line : (off : List Line → Line → Option Offence) → ((before : List Line) (l : Line) → Numbered (off before l)) → (before ls : List Line) → Numbered (first off before ls)
+unfolding first
+by-line off h before [] o e = apart (cc)
+by-line off h before (l ∷ ls) o e = either (off before l) (first off (before ++ (l ∷ [])) ls) (h before l) (by-line off h (before ++ (l ∷ [])) ls) o e
+
+-- files 1 to 4
+
+by-date : (l : Line) → Numbered (dateLineOffence l)
+by-date l = either _ _ (by-form (formOf dateColumns (l .text)) (l .no) (broken-from-1 Date (l .text))) (by-given (noDate (dateIn (l .text))) 5 (l .no) refl)
+
+by-period-line : (before : List Line) (l : Line) → Numbered (periodLineOffence before l)
+by-period-line [] l o e = by-date l o e
+by-period-line (s ∷ []) l o e = either _ _ (by-date l) (by-given (noPeriod (periodOf (dayNumber (dateIn (s .text))) (dayNumber (dateIn (l .text))))) 5 (l .no) refl) o e
+by-period-line (s ∷ t ∷ []) l o e = apart (cc)
+by-period-line (s ∷ t ∷ u ∷ before) l o e = it 3 (l .no) 0 (without 3 refl) o e
+
+by-period : (ls : List Line) → Numbered (periodFirst ls)
+unfolding periodFirst
+by-period ls = either _ _ (by-line _ by-period-line [] ls) (by-given (ltb (length ls) 3) 2 (length ls + 1) refl)
+
+-- a line of a kind that holds x if it is not skipped and has the form
+by-held : {X : Type 0} (own : X → Option Offence) → ((x : X) → Numbered (own x)) → (kind : LineKind) (line : ℕ) (text : List ℕ) (x : X)
+    → Numbered (heldOffence own line (cond (skipped text) skip (heldBy (formOf (columnsOf kind) text) x)))
+by-held own k kind line text x = go (skipped text) (formOf (columnsOf kind) text) (broken-from-1 kind text)
+  where
+    go : (t : Bool) (f : Form) → ((c : ℕ) → f ≡ Broken c → 1 ≤ c) → Numbered (heldOffence own line (cond t skip (heldBy f x)))
+    go true f h o e = apart (cc)
+    go false Fits h o e = k x o e
+    go false (Broken c) h o e = by-form (Broken c) line h o e
+
+by-field : (n : ℕ) (before : List Line) (l : Line) → Numbered (bitFieldLineOffence n before l)
+by-field n before l =
+    by-held (bitFieldOffence n (held-in bitFieldOf before) (l .no)) (λ f.
+    either _ _ (by-given (eqb (f .number) 0) 7 (l .no) refl)
+    (either _ _ (by-given (hasField (f .number) (held-in bitFieldOf before)) 6 (l .no) refl) (by-given (not (framed n (f .words))) 8 (l .no) refl)))
+    BitField (l .no) (l .text) _
+
+by-stop : (before : List Line) (l : Line) → Numbered (stopLineOffence before l)
+by-stop before l =
+    by-held (stopOffence (held-in stopOf before) (l .no)) (λ s.
+    either _ _ (by-given (eqb (s .number) 9999999 || eqb (s .number % 100000) 0) 7 (l .no) refl) (by-given (hasStop (s .number) (held-in stopOf before)) 6 (l .no) refl))
+    Stop (l .no) (l .text) _
+
+module _ (stops : List StopRecord) where
+  by-record : (earlier : List InterchangeRecord) (line : ℕ) (c : InterchangeRecord) → Numbered (interchangeOffence stops earlier line c)
+  by-record [] line c = by-given (not (eqb (c .number) 9999999)) 7 line refl
+  by-record (x ∷ earlier) line c = either _ _ (by-given (hasInterchange (c .number) (x ∷ earlier)) 6 line refl) (by-given (not (hasStop (c .number) stops)) 9 line refl)
+
+  by-interchange : (before : List Line) (l : Line) → Numbered (interchangeLineOffence stops before l)
+  by-interchange before l = by-held (interchangeOffence stops (held-in interchangeOf before) (l .no)) (by-record (held-in interchangeOf before) (l .no)) Interchange (l .no) (l .text) _
+
+  by-interchanges : (ls : List Line) → Numbered (interchangesFirst stops ls)
+  unfolding interchangesFirst
+  by-interchanges ls = either _ _ (by-line _ by-interchange [] ls) (by-given (eqb (length (held-in interchangeOf ls)) 0) 2 (length ls + 1) refl)
+
+-- FPLAN
+
+-- what a line of FPLAN says, where its form is broken at a column
+told-from-1 : (text : List ℕ) (c : ℕ) → toldIn text ≡ ToldBroken c → 1 ≤ c
+unfolding toldIn
+told-from-1 text c e = go (skipped text) (kindOf text) e
+  where
+    by : (kind : LineKind) (t : Told) → ((d : ℕ) → t ≡ ToldBroken d → ⊥) → formed (formOf (columnsOf kind) text) t ≡ ToldBroken c → 1 ≤ c
+    by kind t n e = on (formOf (columnsOf kind) text) refl e
+      where
+        on : (f : Form) → formOf (columnsOf kind) text ≡ f → formed f t ≡ ToldBroken c → 1 ≤ c
+        on Fits q e = absurd (n c e)
+        on (Broken d) q e = let z : d ≡ c = cc in let p = broken-from-1 kind text d q in omega (arith, z, p)
+
+    go : (t : Bool) (k : Kind) → cond t Skip (toldBy k text) ≡ ToldBroken c → 1 ≤ c
+    go true k e = apart (cc)
+    go false OpeningKind e = by Opening (Opens (openingIn text)) (λ d z. apart (cc)) e
+    go false CategoryKind e = by Category (Ranges (categoryIn text)) (λ d z. apart (cc)) e
+    go false AttributeKind e = by Attribute (Ranges (attributeIn text)) (λ d z. apart (cc)) e
+    go false ScheduleKind e = by Schedule (Calls (callIn text)) (λ d z. apart (cc)) e
+    go false OtherKind e = apart (cc)
+
+by-call : (n i before : ℕ) (cs : List (ℕ × Call)) → Numbered (timesFirst n i before cs)
+unfolding timesFirst
+by-call n i before [] o e = apart (cc)
+by-call n i before (c ∷ cs) o e = either _ _ (by-given (not (timesStated n i (c .1) && timesRise before (c .1))) 15 (c .0) refl) (by-call n (i + 1) (lastStated before (c .1)) cs) o e
+
+by-ends : (cs : List Call) (rs : List (ℕ × RangeLine)) → Numbered (endsFirst cs rs)
+unfolding endsFirst
+by-ends cs [] o e = apart (cc)
+by-ends cs (r ∷ rs) o e = either _ _ (by-given (isNone (legsOn cs (r .1))) 16 (r .0) refl) (by-ends cs rs) o e
+
+module _ (fields : List BitFieldRecord) (stops : List StopRecord) (n : ℕ) where
+  by-told : (before : List Line) (line : ℕ) (t : Told) → ((c : ℕ) → t ≡ ToldBroken c → 1 ≤ c) → Numbered (toldOffence fields stops before line t)
+  by-told before line Skip h o e = apart (cc)
+  by-told before line Other h o e = it 11 line 0 (without 11 refl) o e
+  by-told before line (ToldBroken c) h o e = by-form (Broken c) line (λ d z. let w : c ≡ d = cc in omega (arith, w, h c refl)) o e
+  by-told before line (Opens y) h o e = apart (cc)
+  by-told before line (Ranges r) h o e =
+      either _ _ (by-given (leb (most (r .part)) (length (partLines (r .part) before))) 13 line refl) (by-given (not (fieldKnown (r .field) fields)) 10 line refl) o e
+  by-told before line (Calls c) h o e =
+      either _ _ (by-given (leb mostCalls (length (callsOf before))) 13 line refl) (by-given (not (hasStop (c .stop) stops)) 9 line refl) o e
+
+  by-legs : (line : ℕ) (s : Service) → Numbered (legsFirst fields n line s)
+  by-legs line s =
+      either _ _ (by-given (not (eachOnce (λ (r : CategoryRange). r .legs) (legCount s) (s .categories))) 17 line refl)
+      (either _ _ (by-given (not (eachOnce (λ (r : DayRange). r .legs) (legCount s) (s .days))) 18 line refl) (by-given (torn fields n s) 19 line refl))
+
+  by-check : (ls : List Line) → Numbered (serviceChecks fields n ls)
+  unfolding serviceChecks
+  by-check ls =
+      either _ _ (by-given (ltb (length (callsOf ls)) 2) 14 (firstLine ls .no) refl)
+      (either _ _ (by-call (length (callsOf ls)) 0 0 (saidOn asCall ls))
+      (either _ _ (by-ends (callsOf ls) (saidOn asRange ls)) (by-legs (firstLine ls .no) (serviceOf ls))))
+
+  by-service : (bs : List (List Line)) → Numbered (servicesFirst fields stops n bs)
+  unfolding servicesFirst serviceFirst
+  by-service [] o e = apart (cc)
+  by-service (b ∷ bs) o e = either _ _ (either _ _ (by-line _ (λ before l. by-told before (l .no) (toldIn (l .text)) (told-from-1 (l .text))) [] b) (by-check b)) (by-service bs) o e
+
+  by-plan : (ls : List Line) → Numbered (planFirst fields stops n ls)
+  unfolding planFirst
+  by-plan ls = either _ _ (by-line _ (λ before l. by-given (not (skipped (l .text))) 12 (l .no) refl) [] (headLines ls)) (by-service (blocks ls))
+
+module _ {w : Where} where
+  -- what an offence of a file says is its number and its column
+  by-file : (f : ℕ) (o : Option Offence) → Numbered o → inFile f o ≡ some w → Sound (w .offence .number) (w .offence .column)
+  by-file f none h e = apart (cc)
+  by-file f (some x) h e = let z : x ≡ w .offence = cc in let p = h x refl in subst (λ (y : Offence). Sound (y .number) (y .column)) z p
+
+  by-length : (f : ℕ) (s : List ℕ) → tooLong f s ≡ some w → Sound (w .offence .number) (w .offence .column)
+  by-length f s = by-file f (given (ltb mostFileBytes (length s)) 1 0) (by-given (ltb mostFileBytes (length s)) 1 0 refl)
+
+  offence-sound : (f : Files) → offence f ≡ some w → Sound (w .offence .number) (w .offence .column)
+  unfolding offence bitFieldsFirst stopsFirst
+  offence-sound f e =
+      one-of _ _ e (by-length 1 (f .eckdaten)) (λ e. one-of _ _ e (by-length 2 (f .bitfeld)) (λ e. one-of _ _ e (by-length 3 (f .bahnhof))
+      (λ e. one-of _ _ e (by-length 4 (f .umsteigb)) (λ e. one-of _ _ e (by-length 5 (f .fplan))
+      (λ e. one-of _ _ e (by-file 1 _ (by-period (linesOf (f .eckdaten))))
+      (λ e. one-of _ _ e (by-file 2 _ (by-line _ (by-field (delivered f .period .days)) [] (linesOf (f .bitfeld))))
+      (λ e. one-of _ _ e (by-file 3 _ (by-line _ by-stop [] (linesOf (f .bahnhof))))
+      (λ e. one-of _ _ e (by-file 4 _ (by-interchanges (delivered f .stops) (linesOf (f .umsteigb))))
+      (by-file 5 _ (by-plan (delivered f .fields) (delivered f .stops) (delivered f .period .days) (linesOf (f .fplan))))))))))))
+
+-- ---- the answers
+
+module _ (f : Files) (room number file line column needed : ℕ) (e : loaded f room ≡ Refused number file line column needed) where
+  load-sound : Sound number column
+  unfolding loaded
+  load-sound = go (offence f) refl _ e
+    where
+      short : (t : Bool) (n : ℕ) → cond t (Refused 20 0 0 0 n) (Accepted n) ≡ Refused number file line column needed → Sound number column
+      short true n e = let z : _≡_ {A = ℕ} 20 number = cc in let w : _≡_ {A = ℕ} 0 column = cc in subst (λ (c : ℕ). Sound number c) w (subst (λ (n : ℕ). Sound n 0) z (without 20 refl))
+      short false n e = apart (cc)
+
+      go : (o : Option Where) → offence f ≡ o → (n : ℕ) → loadedBy o n room ≡ Refused number file line column needed → Sound number column
+      go none q n e = short (ltb room n) n e
+      go (some x) q n e =
+          let z : x .offence .number ≡ number = cc in
+          let w : x .offence .column ≡ column = cc in
+          subst (λ (c : ℕ). Sound number c) w (subst (λ (n : ℕ). Sound n (x .offence .column)) z (offence-sound {w = x} f q))
+
+  pub load-numbered : 1 ≤ number
+  load-numbered = load-sound .numbered
+
+  -- "A refusal 4 also returns the column ..; all other refusals return 0 there."
+  pub load-columned : (number ≡ 4 → 1 ≤ column) × ((number ≡ 4 → ⊥) → column ≡ 0)
+  load-columned = (load-sound .placed, load-sound .unplaced)
+
+pub day-numbered : (w : List ℕ) (d m y b number : ℕ) → dayAsked w d m y b ≡ DayRefused number → 1 ≤ number
+unfolding dayAsked
+day-numbered w d m y b number e = go (isTable w) e
+  where
+    known : (t u : Bool) → cond t (cond u Runs Idle) (DayRefused 28) ≡ DayRefused number → 1 ≤ number
+    known true true e = apart (cc)
+    known true false e = apart (cc)
+    known false u e = let z : _≡_ {A = ℕ} 28 number = cc in omega (arith, z)
+
+    on : (t : Dated) → dateOf (tableOf w) d m y ≡ t → dayBy (tableOf w) b t ≡ DayRefused number → 1 ≤ number
+    on (undated n) q e = let z : n ≡ number = cc in let p = date-refusal (tableOf w .period) (dayOf d m y) n q .0 in omega (arith, z, p)
+    on (dated k) q e = known (fieldKnown b (tableOf w .fields)) (fieldRuns (tableOf w .fields) b k) e
+
+    go : (t : Bool) → cond t (dayBy (tableOf w) b (dateOf (tableOf w) d m y)) (DayRefused 21) ≡ DayRefused number → 1 ≤ number
+    go true e = on (dateOf (tableOf w) d m y) refl e
+    go false e = let z : _≡_ {A = ℕ} 21 number = cc in omega (arith, z)
+
+pub interchange-numbered : (w : List ℕ) (n a b number : ℕ) → interchangeAsked w n a b ≡ InterchangeRefused number → 1 ≤ number
+unfolding interchangeAsked
+interchange-numbered w n a b number e = go (isTable w) (leb a 13 && leb b 13) (hasStop n (tableOf w .stops)) e
+  where
+    go : (t u v : Bool)
+        → cond t (cond u (cond v (Minutes (minutesFor (interchangeAtStop (tableOf w) n) a b)) (InterchangeRefused 27)) (InterchangeRefused 26)) (InterchangeRefused 21) ≡ InterchangeRefused number
+        → 1 ≤ number
+    go true true true e = apart (cc)
+    go true true false e = let z : _≡_ {A = ℕ} 27 number = cc in omega (arith, z)
+    go true false v e = let z : _≡_ {A = ℕ} 26 number = cc in omega (arith, z)
+    go false u v e = let z : _≡_ {A = ℕ} 21 number = cc in omega (arith, z)
+
+pub walk-numbered : (w : List ℕ) (i r d m y room number needed : ℕ) → walked w i r d m y room ≡ WalkRefused number needed → 1 ≤ number
+walk-numbered w i r d m y room number needed e = go (any-walk w i r d m y room) e
+  where
+    go : {a : Walked} → AnyWalk (tableOf w) i (dateOf (tableOf w) d m y) room a → a ≡ WalkRefused number needed → 1 ≤ number
+    go (lists s k u h) e = apart (cc)
+    go (short s k u h) e = let z : _≡_ {A = ℕ} 29 number = cc in omega (arith, z)
+    go (nowhere s k u) e = apart (cc)
+    go (refuses n h k) e = let z : n ≡ number = cc in omega (arith, z)

@@ -1,0 +1,136 @@
+-- Whatever its lines, a service's calls and ranges are sound: times, flags, repeats and range ends stay within what a table allows.
+-- Assumes nothing.
+use mathlib.Core.Path.{_≡_, refl, subst}
+use mathlib.Core.List.{List, [], _∷_}
+use mathlib.Core.Bool.{Bool, true, false, cond}
+use Prim.Native.Nat.{ℕ, suc, _+_, _-_, _*_, _/_, _%_, _^_, _<_, _≤_}
+use native.Mathlib.Omega.{arith}
+use lib.ListN.{length, getD, drop}
+use lib.Dec.{eqb}
+use borrow.Author.Tests.{le-leb}
+use Rattle.base.specs.Lists.{All, nil, cons, every, gathered}
+use Rattle.base.proofs.Laws.{by-leb}
+use Rattle.columns.specs.Columns.{padTo, columns, isBlank, blank, digits, number}
+use Rattle.columns.proofs.Laws.{length-pad, number-lt}
+use Rattle.fields.specs.Fields.{clock, timeIn, time}
+use Rattle.fields.specs.declared.Time.{Time}
+use Rattle.fields.specs.declared.Time.the-variants.{Absent, Stated, NoTime}
+use Rattle.forms.specs.Form.{formOf}
+use Rattle.forms.specs.declared.Form.{Form}
+use Rattle.forms.specs.declared.Form.the-variants.{Fits, Broken as BrokenForm}
+use Rattle.forms.specs.Columns.{serviceColumns, categoryColumns, attributeColumns, callColumns}
+use Rattle.forms.specs.Kinds.{kindOf}
+use Rattle.forms.specs.declared.Kind.{Kind}
+use Rattle.forms.specs.declared.Kind.the-variants.{Opening as OpeningKind, Category as CategoryKind, Attribute, Schedule, Other as OtherKind}
+use Rattle.lines.specs.Lines.{Line, skipped}
+use Rattle.timetable.specs.Layout.{mostRepeats, latestTime, allFlags}
+use Rattle.timetable.specs.Delivery.{Legs, CategoryRange, DayRange, ExtraRange}
+use Rattle.timetable.specs.Plan.{openingIn, categoryIn, attributeIn, minutesOf, flagsOf, callIn, formed, toldBy, toldIn, tolds, asOpening, asCall, callsOf, partLines}
+use Rattle.timetable.specs.Service.{loose, legsOn, categoryRange, dayRange, extraRange, firstLine, firstOpening, serviceOf}
+use Rattle.timetable.specs.Table.{callSound, legsSound, serviceSound}
+use Rattle.timetable.specs.declared.Call.{Call}
+use Rattle.timetable.specs.declared.Part.{Part}
+use Rattle.timetable.specs.declared.Part.the-variants.{Category, Days, Extra}
+use Rattle.timetable.specs.declared.RangeLine.{RangeLine}
+use Rattle.timetable.specs.declared.Told.{Told}
+use Rattle.timetable.specs.declared.Told.the-variants.{Skip, Other, Broken, Opens, Ranges, Calls}
+use Rattle.timetable.proofs.Lines.{flags-le}
+use Rattle.whole_runs.proofs.Ends.{legs-sound, with-sound}
+use Rattle.whole_runs.proofs.Parts.{part-lines}
+use Rattle.whole_runs.proofs.Lists.{cond-all, all-append, all-gathered, every-all}
+
+-- ---- numbers of so many columns, and times
+
+pub columns-lt : (a b : ℕ) (text : List ℕ) → number (columns a b text) < 10 ^ (b - (a - 1))
+unfolding columns
+columns-lt a b text =
+    let n = number-lt 0 (padTo (b - (a - 1)) (drop (a - 1) text)) in
+    let e = length-pad (b - (a - 1)) (drop (a - 1) text) in
+    let m : number (padTo (b - (a - 1)) (drop (a - 1) text)) < (0 + 1) * 10 ^ (b - (a - 1)) = rw e at n in
+    omega (arith, m)
+
+-- five digits behind the sign, so at most 999 hours and 59 minutes
+clock-le : (barred : Bool) (p : List ℕ) → length p ≡ 5 → minutesOf (clock barred p) ≤ latestTime
+clock-le barred p e =
+    let n : number p < (0 + 1) * 10 ^ 5 = rw e at (number-lt 0 p) in
+    cond-all (λ (t : Time). minutesOf t ≤ latestTime) (digits p) _ NoTime
+    (by-leb (λ t. minutesOf (cond t (Stated (number p / 100 * 60 + number p % 100) barred) NoTime) ≤ latestTime) (number p % 100) 59 (λ h. omega (arith, n)) (λ h. omega arith))
+    (omega arith)
+
+drop-one : (p : List ℕ) (n : ℕ) → length p ≡ suc n → length (drop 1 p) ≡ n
+drop-one [] n e = absurd (omega arith)
+drop-one (b ∷ p) n e = omega arith
+
+pub minutes-le : (p : List ℕ) → minutesOf (time p) ≤ latestTime
+unfolding timeIn
+minutes-le p =
+    let q = padTo 6 p in
+    let e = drop-one q 5 (length-pad 6 p) in
+    cond-all (λ (t : Time). minutesOf t ≤ latestTime) (blank q) Absent _ (omega arith)
+    (cond-all (λ (t : Time). minutesOf t ≤ latestTime) (isBlank (getD q 0 32)) (clock false (drop 1 q)) _ (clock-le false (drop 1 q) e)
+    (cond-all (λ (t : Time). minutesOf t ≤ latestTime) (eqb (getD q 0 32) 45) (clock true (drop 1 q)) NoTime (clock-le true (drop 1 q) e) (omega arith)))
+
+call-sound : (text : List ℕ) → callSound (callIn text) ≡ true
+call-sound text =
+    let a = time (columns 30 35 text) in
+    let d = time (columns 37 42 text) in
+    rw (
+      le-leb (minutesOf a) latestTime (minutes-le (columns 30 35 text)),
+      le-leb (minutesOf d) latestTime (minutes-le (columns 37 42 text)),
+      le-leb (flagsOf 1 a + flagsOf 2 d) allFlags (omega (arith, flags-le 1 a, flags-le 2 d)),
+    )
+
+-- ---- what holds of all that a line may say holds of what it says
+
+module _ (P : Told → Type 0) where
+  formed-all : (f : Form) (t : Told) → ((c : ℕ) → P (Broken c)) → P t → P (formed f t)
+  formed-all Fits t p q = q
+  formed-all (BrokenForm c) t p q = p c
+
+  pub told-all : (text : List ℕ) → P Skip → P Other → ((c : ℕ) → P (Broken c)) → P (Opens (openingIn text)) → ((r : RangeLine) → P (Ranges r)) → P (Calls (callIn text)) → P (toldIn text)
+  unfolding toldIn
+  told-all text skip other broken o r c = cond-all P (skipped text) Skip (toldBy (kindOf text) text) skip (kind (kindOf text))
+    where
+      kind : (k : Kind) → P (toldBy k text)
+      kind OpeningKind = formed-all (formOf serviceColumns text) (Opens (openingIn text)) broken o
+      kind CategoryKind = formed-all (formOf categoryColumns text) (Ranges (categoryIn text)) broken (r _)
+      kind Attribute = formed-all (formOf attributeColumns text) (Ranges (attributeIn text)) broken (r _)
+      kind Schedule = formed-all (formOf callColumns text) (Calls (callIn text)) broken c
+      kind OtherKind = other
+
+-- the calls of lines
+pub calls-sound : (ls : List Line) → All (λ (c : Call). callSound c ≡ true) (callsOf ls)
+unfolding tolds gathered
+calls-sound [] = nil
+calls-sound (l ∷ ls) =
+    all-append (λ (c : Call). callSound c ≡ true)
+    (told-all (λ (t : Told). All (λ (c : Call). callSound c ≡ true) (asCall t)) (l .text) nil nil (λ c. nil) nil (λ r. nil) (cons {x = callIn (l .text)} (call-sound (l .text)) nil))
+    (calls-sound ls)
+
+-- "repeats or offset over 999": three columns each
+opening-le : (text : List ℕ) → (firstOpening (asOpening (toldIn text)) .repeats ≤ mostRepeats) × (firstOpening (asOpening (toldIn text)) .offset ≤ mostRepeats)
+opening-le text =
+    told-all (λ (t : Told). (firstOpening (asOpening t) .repeats ≤ mostRepeats) × (firstOpening (asOpening t) .offset ≤ mostRepeats)) text
+    (omega arith) (omega arith) (λ c. omega arith) (omega (arith, columns-lt 23 25 text, columns-lt 27 29 text)) (λ r. omega arith) (omega arith)
+
+-- ---- a service, whatever its lines
+
+-- the ranges of one kind: those that are found lie on the route, in the order that their kind asks for
+ranges-sound : {X : Type 0} (range : RangeLine → List X) (legs : X → Legs) (cs : List Call) (p : Part) (ls : List Line)
+    → ((r : RangeLine) → All (λ x. legsSound (loose (r .part)) (length cs) (legs x) ≡ true) (range r))
+    → every (λ x. legsSound (loose p) (length cs) (legs x)) (gathered range (partLines p ls)) ≡ true
+ranges-sound range legs cs p ls one =
+    every-all (λ x. legsSound (loose p) (length cs) (legs x))
+    (all-gathered (λ x. legsSound (loose p) (length cs) (legs x) ≡ true) range
+    (λ r e. subst (λ (q : Part). All (λ x. legsSound (loose q) (length cs) (legs x) ≡ true) (range r)) e (one r)) (part-lines p ls))
+
+pub service-sound : (ls : List Line) → serviceSound (serviceOf ls) ≡ true
+unfolding serviceOf
+service-sound ls =
+    let cs = callsOf ls in
+    let o = opening-le (firstLine ls .text) in
+    let c = every-all callSound (calls-sound ls) in
+    let g = ranges-sound (categoryRange cs) (λ (r : CategoryRange). r .legs) cs Category ls (λ x. with-sound (loose (x .part)) cs _ (λ (r : CategoryRange). r .legs) (λ g. refl) (legsOn cs x) (legs-sound (loose (x .part)) cs (x .ends))) in
+    let v = ranges-sound (dayRange cs) (λ (r : DayRange). r .legs) cs Days ls (λ x. with-sound (loose (x .part)) cs _ (λ (r : DayRange). r .legs) (λ g. refl) (legsOn cs x) (legs-sound (loose (x .part)) cs (x .ends))) in
+    let a = ranges-sound (extraRange cs) (λ (r : ExtraRange). r .legs) cs Extra ls (λ x. with-sound (loose (x .part)) cs _ (λ (r : ExtraRange). r .legs) (λ g. refl) (legsOn cs x) (legs-sound (loose (x .part)) cs (x .ends))) in
+    rw (le-leb _ mostRepeats (o .0), le-leb _ mostRepeats (o .1), c, g, v, a)

@@ -1,0 +1,93 @@
+-- Demand 3. "Take a delivery that was accepted and its table unaltered. For any service in it, any repeat the service has and any date in the
+-- period, a walk of that run, given enough room, either says it does not run that day or lists one unbroken stretch of calls, none missing,
+-- whose stated times never fall, and one category for each leg. It never meets a number it cannot resolve. The days, calls and categories are
+-- those of that same delivery's text, and 'does not run' is said exactly when its text says so."
+-- Proved in proofs/Demand3.antt: `demand3` (what the walk is), `demand3-rows` (its answer and the rows afterwards, with any room); in
+-- proofs/Slack.antt: `no-slack`; of any words, in proofs/Any.antt: `any-walk`, `two-rows`. Assumes nothing.
+use mathlib.Core.Path.{_≡_}
+use mathlib.Core.List.{List}
+use mathlib.Core.Bool.{true}
+use mathlib.Core.Option.{some}
+use Prim.Native.Nat.{ℕ, _+_, _*_, _/_, _<_, _≤_}
+use lib.ListN.{length, getElem?}
+use Rattle.base.specs.Lists.{All}
+use Rattle.calendar.specs.Calendar.{dayOf}
+use Rattle.calendar.specs.declared.Date.the-variants.{Day}
+use Rattle.lines.specs.Lines.{linesOf}
+use Rattle.timetable.specs.Layout.{rowSize}
+use Rattle.timetable.specs.Delivery.{Files, DayRange, Service, Delivery}
+use Rattle.timetable.specs.Service.{blocks}
+use Rattle.timetable.specs.Legs.{fieldKnown, covers, covering, operated, fieldRuns, legCount}
+use Rattle.timetable.specs.Load.{delivered, onto}
+use Rattle.timetable.specs.Questions.{Dated, dated, Journey, refused, idle, rows, walkedBy}
+use Rattle.timetable.specs.declared.Walked.{Walked}
+use Rattle.timetable.specs.declared.Walked.the-variants.{Listed, NotRunning, Refused}
+use Rattle.whole_runs.specs.Text.{FromText, OwnText}
+use Rattle.whole_runs.specs.Rows.{RunsNowhere, Unbroken, Stretched}
+
+-- what is asked: a service of the delivery, a repeat that it has, and a date in the period
+pub record Asked (f : Files) (i r d m y : ℕ) (s : Service) (day : ℕ) : Type 0 where
+  pub service : getElem? (delivered f .services) i ≡ some s
+  pub repeat : r ≤ s .opening .repeats
+  pub date : dayOf d m y ≡ Day day
+  pub from : delivered f .period .start ≤ day
+  pub until : day < delivered f .period .start + delivered f .period .days
+
+-- "The days, calls and categories are those of that same delivery's text": of the i-th service on day k of the period
+pub record OwnRun (f : Files) (i : ℕ) (s : Service) (k : ℕ) : Type 0 where
+  pub delivery : OwnText f
+  pub service : FromText (blocks (linesOf (f .fplan))) i s
+  -- each leg has exactly one operating-day range, and each such range a bit field that is 000000 or in BITFELD
+  pub one-range : (leg : ℕ) → leg < legCount s → covering (λ (g : DayRange). g .legs) (s .days) leg ≡ 1
+  pub fields-known : All (λ (g : DayRange). fieldKnown (g .field) (delivered f .fields) ≡ true) (s .days)
+  -- a leg operates exactly when the bit field of its range runs
+  pub leg-days : (leg : ℕ) → leg < legCount s
+      → All (λ (g : DayRange). covers leg (g .legs) ≡ true
+      → operated (delivered f .fields) (s .days) k leg ≡ fieldRuns (delivered f .fields) (g .field) k) (s .days)
+
+-- ---- what the walk is, before the room is looked at
+
+-- it says "not running", or lists a stretch
+pub data Outcome (d : Delivery) (s : Service) (r k : ℕ) : Journey → Type 0 where
+  not-running : RunsNowhere d s k → Outcome d s r k idle
+  runs : {ws : List ℕ} → Stretched d s r k ws → Outcome d s r k (rows ws)
+
+pub record Demand3 (f : Files) (i : ℕ) (s : Service) (r k : ℕ) (j : Journey) : Type 0 where
+  pub outcome : Outcome (delivered f) s r k j
+  -- "It never meets a number it cannot resolve."
+  pub never-refused : (number : ℕ) → j ≡ refused number → ⊥
+  -- "'does not run' is said exactly when its text says so"
+  pub idle-only : j ≡ idle → RunsNowhere (delivered f) s k
+  pub idle-always : RunsNowhere (delivered f) s k → j ≡ idle
+  pub own : OwnRun f i s k
+
+-- ---- its answer and the rows afterwards, from the rows as lent: "Then 29 row slice too short." exactly if fewer words are lent than one row for
+-- each call of the stretch takes, and it names these
+
+pub data Walk (d : Delivery) (s : Service) (r k : ℕ) (lent : List ℕ) : Walked → List ℕ → Type 0 where
+  not-running : RunsNowhere d s k → Walk d s r k lent NotRunning lent
+  short : {ws : List ℕ} (x : Stretched d s r k ws) → length lent < rowSize * (x .legs + 1) → Walk d s r k lent (Refused 29 (rowSize * (x .legs + 1))) lent
+  runs : {ws : List ℕ} (x : Stretched d s r k ws) → rowSize * (x .legs + 1) ≤ length lent → Walk d s r k lent (Listed (x .legs + 1)) (onto ws lent)
+
+-- a walk refused for want of room: only by 29, and with the words that it names it lists its rows
+pub record Short (s : Service) (j : Journey) (room number needed : ℕ) : Type 0 where
+  pub only : number ≡ 29
+  pub lacking : room < needed
+  pub enough : walkedBy j needed ≡ Listed (needed / rowSize)
+  pub most : needed ≤ rowSize * length (s .calls)
+
+-- ---- of any words: what a walk of service i on a date may answer, d being what the words hold
+
+pub data AnyWalk (d : Delivery) (i : ℕ) (on : Dated) (room : ℕ) : Walked → Type 0 where
+  lists : {s : Service} {k start legs : ℕ} → getElem? (d .services) i ≡ some s → on ≡ dated k → Unbroken d s k start legs
+      → rowSize * (legs + 1) ≤ room → AnyWalk d i on room (Listed (legs + 1))
+  short : {s : Service} {k start legs : ℕ} → getElem? (d .services) i ≡ some s → on ≡ dated k → Unbroken d s k start legs
+      → room < rowSize * (legs + 1) → AnyWalk d i on room (Refused 29 (rowSize * (legs + 1)))
+  nowhere : {s : Service} {k : ℕ} → getElem? (d .services) i ≡ some s → on ≡ dated k → RunsNowhere d s k → AnyWalk d i on room NotRunning
+  refuses : (number : ℕ) → 1 ≤ number → (number ≡ 29 → ⊥) → AnyWalk d i on room (Refused number 0)
+
+-- "A walk that lists rows returns how many": at least two, so that 0 rows say "not running"
+abbrev pub TwoRows : Walked → Type 0
+TwoRows (Listed n) = 2 ≤ n
+TwoRows NotRunning = Unit {0}
+TwoRows (Refused number needed) = Unit {0}
