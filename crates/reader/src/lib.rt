@@ -1,8 +1,8 @@
 // The reader of a file: it holds the file, its place and its line number, and cuts the next line. Thin over `lines::line_at`.
 ghost use mathlib.Core.Path.{_≡_};
-ghost use Prim.Native.Nat.{_≤_, _<_};
+ghost use Prim.Native.Nat.{_+_, _≤_, _<_, _^_};
 ghost use lib.ListN.{length};
-ghost use Rattle.lines.specs.Lines.{cutAt};
+ghost use Rattle.lines.specs.Lines.{cutAt, linesOf};
 use lines::Cut;
 
 // A file, the place where its next line starts, and that line's number.
@@ -30,4 +30,19 @@ pub fn line_from(file: &[u8], at: usize, no: u32) -> Cut
     ensures { λ r. ⌜ r ≡ cutAt (now (file .entry)) at no ⌝ }
 {
     Reader { file, at, no }.next_line()
+}
+
+// How many lines a file has: a number below it for each that the reader has passed.
+pub fn lines_in(f: &[u8]) -> u32
+    requires { ⌜ length (now f) + 1 < 2 ^ 32 ⌝ }
+    ensures { λ r. ⌜ r ≡ length (linesOf (now (f .entry))) ⌝ }
+{
+    let mut at: usize = 0;
+    let mut no: u32 = 1;
+    while at < f.len() {
+        let cut = line_from(f, at, no);
+        at = cut.next;
+        no = cut.no;
+    }
+    no - 1
 }
