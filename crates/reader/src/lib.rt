@@ -1,8 +1,9 @@
-// The reader of a file: it holds the file, its place and its line number, and cuts the next line. Thin over `lines::line_at`.
+// The reader of a file: it holds the file, its place and its line number, cuts the next line and stands behind it. Thin over `lines::line_at`.
 ghost use mathlib.Core.Path.{_≡_};
 ghost use Prim.Native.Nat.{_+_, _≤_, _<_, _^_};
 ghost use lib.ListN.{length};
 ghost use Rattle.lines.specs.Lines.{cutAt, linesOf};
+ghost use Rattle.reader.specs.Past.{past};
 use lines::Cut;
 
 // A file, the place where its next line starts, and that line's number.
@@ -13,13 +14,16 @@ pub struct Reader<'a> {
 }
 
 impl<'a> Reader<'a> {
-    // The next line.
-    pub fn next_line(self) -> Cut
-        requires { ⌜ self .at ≤ length (now (self .file)) ⌝ }
-        requires { ⌜ self .no < 4294967295 ⌝ }
-        ensures { λ r. ⌜ r ≡ cutAt (now (self .entry .file)) (self .entry .at) (self .entry .no) ⌝ }
+    // The next line. The reader goes behind it and keeps its number.
+    pub fn next_line(&mut self) -> Cut
+        requires { ⌜ now self .at ≤ length (now (now self .file)) ⌝ }
+        requires { ⌜ now self .no < 4294967295 ⌝ }
+        ensures { λ r. ⌜ (r ≡ cutAt (now (now (self .entry) .file)) (now (self .entry) .at) (now (self .entry) .no)) × (now (self .exit) ≡ past (now (self .entry)) r) ⌝ }
     {
-        lines::line_at(self.file, self.at, self.no)
+        let cut = lines::line_at(self.file, self.at, self.no);
+        self.at = cut.next;
+        self.no = cut.no;
+        cut
     }
 }
 
@@ -29,20 +33,22 @@ pub fn line_from(file: &[u8], at: usize, no: u32) -> Cut
     requires { ⌜ no < 4294967295 ⌝ }
     ensures { λ r. ⌜ r ≡ cutAt (now (file .entry)) at no ⌝ }
 {
-    Reader { file, at, no }.next_line()
+    let mut reader = Reader { file, at, no };
+    reader.next_line()
 }
 
-// How many lines a file has: a number below it for each that the reader has passed.
+// How many lines a file has: one reader passes them all, and its line number counts them from 1.
 pub fn lines_in(f: &[u8]) -> u32
     requires { ⌜ length (now f) + 1 < 2 ^ 32 ⌝ }
     ensures { λ r. ⌜ r ≡ length (linesOf (now (f .entry))) ⌝ }
 {
-    let mut at: usize = 0;
-    let mut no: u32 = 1;
-    while at < f.len() {
-        let cut = line_from(f, at, no);
-        at = cut.next;
-        no = cut.no;
+    let mut reader = Reader {
+        file: f,
+        at: 0,
+        no: 1,
+    };
+    while reader.at < f.len() {
+        reader.next_line();
     }
-    no - 1
+    reader.no - 1
 }
