@@ -1,5 +1,5 @@
 -- What the definitions say bit by bit: `bit-of-digit`, `bit-of-column` (which hex digit bit k comes from), `bits-determine` (the 384 bits are all there is to
--- twelve words), `frame-each` (what a right frame says of bit k). Assumes nothing.
+-- twelve words), `frame-each` (what a right frame says of bit k), `frame-all` (and back). Assumes nothing.
 use mathlib.Core.Path.{_≡_, refl, sym, ap, _∙_}
 use mathlib.Core.List.{List, [], _∷_}
 use mathlib.Core.Bool.{true}
@@ -11,12 +11,17 @@ use lib.Pow.{pow-add}
 use lib.Seq.{getD-take, getD-drop, ext-getD, length-take-le}
 use lib.Dec.{eqb}
 use borrow.Author.Tests.{eqb-true}
-use Rattle.base.proofs.Loops.{every-at}
+use Rattle.base.proofs.Loops.{every-at, every-one}
 use Rattle.columns.specs.Columns.{padTo, columns, column, hexValue}
 use Rattle.columns.proofs.Laws.{length-pad, getD-pad}
 use Rattle.bitfield.specs.BitField.{hexFrom, hexWords, bitsIn, bit, frameBit, framed}
 use Rattle.bitfield.proofs.Sets.{digit, digit-two}
 use Rattle.bitfield.proofs.Hex.{hex-le, word-at}
+
+-- "bit 0 the highest of the first word"
+pub bit-of-word : (ws : List ℕ) (k : ℕ) → bit ws k ≡ eqb (digit (getD ws (k / 32) 0) (31 - k % 32)) 1
+unfolding bit
+bit-of-word ws k = refl
 
 -- ---- "first hex digit's high bit first"
 
@@ -120,3 +125,7 @@ bits-determine a b la lb wa wb e =
 pub frame-each : (n : ℕ) (ws : List ℕ) (k : ℕ) → framed n ws ≡ true → k < 384 → frameBit n k (bit ws k) ≡ true
 unfolding framed
 frame-each n ws k e h = every-at (λ (k : ℕ). frameBit n k (bit ws k)) 384 0 k e (omega arith) (omega arith)
+
+pub frame-all : (n : ℕ) (ws : List ℕ) → ((k : ℕ) → k < 384 → frameBit n k (bit ws k) ≡ true) → framed n ws ≡ true
+unfolding framed
+frame-all n ws e = every-one (λ (k : ℕ). frameBit n k (bit ws k)) 384 0 (λ k a h. e k (omega arith))

@@ -1,5 +1,6 @@
 -- How large the calendar's numbers get: a day number is at most 31.12.2199. Assumes nothing.
 use mathlib.Core.Path.{_≡_, refl, ap}
+use mathlib.Core.List.{List}
 use mathlib.Core.Bool.{Bool, true, false, cond, not, _&&_, false≢true}
 use Prim.Native.Nat.{ℕ, zero, suc, _+_, _-_, _≤_}
 use native.Mathlib.Nat.{add-zero, add-suc}
@@ -7,7 +8,8 @@ use native.Mathlib.Omega.{arith}
 use lib.Dec.{ltb, leb}
 use borrow.Author.Tests.{ltb-false, leb-true}
 use Rattle.base.proofs.Laws.{apart}
-use Rattle.calendar.specs.Calendar.{isLeap, yearDays, monthDays, yearsBefore, monthsBefore, exists, dayOf, lastDay, periodOf}
+use Rattle.columns.specs.Columns.{columns, number}
+use Rattle.calendar.specs.Calendar.{isLeap, yearDays, monthDays, yearsBefore, monthsBefore, exists, dayOf, lastDay, dateIn, periodOf}
 use Rattle.calendar.specs.declared.Date.{Date}
 use Rattle.calendar.specs.declared.Date.the-variants.{Day, NoSuchDate}
 use Rattle.calendar.specs.declared.Period.{Period}
@@ -105,6 +107,10 @@ day-le-last d m y k e =
         let r = ranges d m y h in
         omega (arith, r, months-within y m (r .month-low) (r .month-high), years-within y (r .year-low) (r .year-high))
     go false h = omega arith
+
+pub date-le-last : (line : List ℕ) (k : ℕ) → dateIn line ≡ Day k → k ≤ lastDay
+unfolding dateIn
+date-le-last line k e = day-le-last (number (columns 1 2 line)) (number (columns 4 5 line)) (number (columns 7 10 line)) k e
 
 -- "A period of n days has 1 to 380."
 pub days-le : (a b n : ℕ) → periodOf a b ≡ Days n → n ≤ 380

@@ -1,5 +1,5 @@
 -- Laws of columns. For callers: `pad-take`, `pad-pad`, `part-columns` (a part reads as its columns), `next-column`, `no-column` (a turn and the end
--- of a loop over columns), `number-lt`. Assumes nothing.
+-- of a loop over columns), `number-lt`, `columns-lt`. Assumes nothing.
 use mathlib.Core.Path.{_≡_, refl, ap, _∙_, sym}
 use mathlib.Core.List.{List, [], _∷_}
 use mathlib.Core.Bool.{Bool, true, false, cond, not, _&&_, _||_, false≢true}
@@ -124,6 +124,12 @@ number-lt n (b ∷ l) =
   where
     le-mul : (x y z : ℕ) → x ≤ y * 10 → x * z ≤ y * (10 * z)
     le-mul x y z h = rw (← (mul-assoc y 10 z)) (mul-le-mul-right z h)
+
+-- a number of so many columns
+pub columns-lt : (a b : ℕ) (line : List ℕ) → number (columns a b line) < 10 ^ (b - (a - 1))
+columns-lt a b line =
+    let n : number (columns a b line) < (0 + 1) * 10 ^ (b - (a - 1)) = rw (length-columns a b line) at (number-lt 0 (columns a b line)) in
+    omega (arith, n)
 
 -- ---- the needs of the loops over the w columns of p, for `search turns`: b was read at place i
 

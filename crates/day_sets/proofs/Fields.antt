@@ -8,12 +8,12 @@ use native.Mathlib.Omega.{arith}
 use lib.ListN.{length, getD}
 use lib.Dec.{eqb, ltb}
 use borrow.Author.Tests.{lt-ltb, le-ltb, not-true}
-use Rattle.base.specs.Lists.{every, upto}
+use Rattle.base.specs.Lists.{upto}
 use Rattle.base.proofs.Laws.{by-ltb}
 use Rattle.base.proofs.Lists.{length-map-upto}
 use Rattle.bitfield.specs.BitField.{bit, runsOn, frameBit, framed}
 use Rattle.bitfield.proofs.Sets.{digit}
-use Rattle.bitfield.proofs.Meaning.{bits-determine, frame-each}
+use Rattle.bitfield.proofs.Meaning.{bit-of-word, bits-determine, frame-each, frame-all}
 use Rattle.day_sets.specs.DaySets.{framedBit, bitsFrom, wordOf, fieldOf}
 use Rattle.day_sets.specs.Algebra.{Field}
 
@@ -23,11 +23,6 @@ pub map-same : {X : Type 0} (f g : ℕ → X) (m k : ℕ) → ((i : ℕ) → k �
 unfolding upto
 map-same f g zero k e = refl
 map-same f g (suc m) k e = ap₂ (λ (x : _) (xs : List _). x ∷ xs) (e k (omega arith) (omega arith)) (map-same f g m (k + 1) (λ i a b. e i (omega arith) (omega arith)))
-
-pub every-one : (f : ℕ → Bool) (m k : ℕ) → ((i : ℕ) → k ≤ i → i < k + m → f i ≡ true) → every f (upto m k) ≡ true
-unfolding every upto
-every-one f zero k e = refl
-every-one f (suc m) k e = rw (e k (omega arith) (omega arith), every-one f m (k + 1) (λ i a b. e i (omega arith) (omega arith)))
 
 pub getD-map : (f : ℕ → ℕ) (m k i : ℕ) → i < m → getD (map f (upto m k)) i 0 ≡ f (k + i)
 unfolding upto
@@ -89,11 +84,11 @@ module _ (n : ℕ) (days : ℕ → Bool) where
   field-fit i h = rw (field-word i h) (bits-fit said 32 (i * 32))
 
   pub field-bit : (k : ℕ) → k < 384 → bit (fieldOf n days) k ≡ said k
-  unfolding bit wordOf
+  unfolding wordOf
   field-bit k h =
       let e : 31 - k % 32 ≡ 32 - 1 - k % 32 = omega arith in
       let z : k / 32 * 32 + k % 32 ≡ k = omega arith in
-      rw (field-word (k / 32) (omega arith), e) (bits-digit said 32 (k / 32 * 32) 0 (k % 32) (omega arith) ∙ ap said z)
+      bit-of-word (fieldOf n days) k ∙ rw (field-word (k / 32) (omega arith), e) (bits-digit said 32 (k / 32 * 32) 0 (k % 32) (omega arith) ∙ ap said z)
 
   -- it has the days that are said of it, and a proper frame
   pub field-days : n ≤ 380 → (d : ℕ) → d < n → runsOn (fieldOf n days) d ≡ days d
@@ -111,8 +106,7 @@ module _ (n : ℕ) (days : ℕ → Bool) where
       go false false false = refl
 
   pub field-framed : framed n (fieldOf n days) ≡ true
-  unfolding framed
-  field-framed = every-one (λ (k : ℕ). frameBit n k (bit (fieldOf n days) k)) 384 0 (λ k a h. ap (frameBit n k) (field-bit k h) ∙ framed-bit-fits k (days (k - 2)))
+  field-framed = frame-all n (fieldOf n days) (λ k h. ap (frameBit n k) (field-bit k h) ∙ framed-bit-fits k (days (k - 2)))
 
   pub field-is : Field n (fieldOf n days)
   field-is = record { twelve = field-length; fit = field-fit; frame = field-framed }

@@ -1,14 +1,12 @@
 -- A walk of a file that keeps its line number: what a place and a number say of the lines that are left. Assumes nothing.
-use mathlib.Core.Path.{_≡_, refl, ap, _∙_, sym}
-use mathlib.Core.List.{List, [], _∷_}
+use mathlib.Core.Path.{_≡_, ap}
+use mathlib.Core.List.{List}
 use Prim.Native.Nat.{ℕ, _+_, _-_, _≤_, _<_, _^_}
 use native.Mathlib.Omega.{arith}
 use lib.ListN.{length, drop}
-use lib.Dec.{lit<}
-use Rattle.base.proofs.Laws.{tests}
 use Rattle.lines.specs.Lines.{linesFrom, linesOf, cutAt}
 use Rattle.lines.specs.declared.Cut.{Cut}
-use Rattle.lines.proofs.Laws.{cutting, cut-less, lines-none}
+use Rattle.lines.proofs.Laws.{cutting, lines-none}
 
 -- the next line starts at `at` and is line n: with the lines that are left, n counts them all, from 1
 pub record Kept (f : List ℕ) (at n : ℕ) : Type 0 where
@@ -34,5 +32,3 @@ module _ (f : List ℕ) (at n : ℕ) (k : Kept f at n) where
   -- where lines are left the number has room
   pub kept-small : length f + 1 < 2 ^ 32 → at < length f → n < 4294967295
   kept-small s h = omega (arith, k .ahead)
-
-pub ruleset counts = (tests, kept-first, kept-next, kept-last, kept-small, cut-less)

@@ -23,7 +23,7 @@ use types.Kit.{Given, ‵, raw, _⊛_, some, later, _$_, _∵_, !, qed, move, ke
 use types.Tokens.{lft-new}
 use types.SemTy.{Body}
 use borrow.Within.Token.{Rest, within-token, within-end}
-use denote.RattleType.{RattleType, owns}
+use denote.RattleType.{RattleType}
 use denote.Laws.{Is, shows}
 use denote.Memory.{cellAt, mem, partOf}
 use denote.Ref.{RefT, NamedLft, MutRef, now}

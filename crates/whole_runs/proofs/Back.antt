@@ -10,7 +10,7 @@ use lib.Seq.{take-at}
 use Rattle.base.specs.Lists.{All, nil, cons, gathered}
 use Rattle.columns.specs.Columns.{columns, number}
 use Rattle.bitfield.specs.BitField.{bitsIn}
-use Rattle.bitfield.proofs.Hex.{length-words}
+use Rattle.bitfield.proofs.Hex.{length-bits}
 use Rattle.lines.specs.Lines.{Line, linesOf, skipped}
 use Rattle.forms.specs.Form.{formOf}
 use Rattle.forms.specs.declared.Form.{Form}
@@ -84,12 +84,11 @@ module _ (d : Delivery) (h : All twelve (d .fields)) where
 
 -- a bit field has twelve words, whatever its line
 line-twelve : (l : Line) → All twelve (listed (bitFieldOf l))
-unfolding bitsIn
 line-twelve l = go (skipped (l .text)) (formOf bitFieldColumns (l .text))
   where
     go : (s : Bool) (t : Form) → All twelve (listed (cond s skip (heldBy t (record { number = number (columns 1 6 (l .text)); words = bitsIn (l .text) }))))
     go true t = nil
-    go false Fits = cons (length-words 12 (columns 8 103 (l .text))) nil
+    go false Fits = cons (length-bits (l .text)) nil
     go false (Broken c) = nil
 
 pub fields-twelve : (ls : List Line) → All twelve (held-in bitFieldOf ls)

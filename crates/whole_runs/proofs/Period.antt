@@ -7,13 +7,12 @@ use mathlib.Core.Option.{Option, none}
 use Prim.Native.Nat.{ℕ, _+_, _-_, _≤_}
 use native.Mathlib.Omega.{arith}
 use Rattle.base.proofs.Laws.{apart, clash, by-ltb}
-use Rattle.columns.specs.Columns.{columns, number}
-use Rattle.calendar.specs.Calendar.{dayOf, lastDay, dateIn, periodOf}
+use Rattle.calendar.specs.Calendar.{lastDay, dateIn, periodOf}
 use Rattle.calendar.specs.declared.Date.{Date}
 use Rattle.calendar.specs.declared.Date.the-variants.{Day, NoSuchDate}
 use Rattle.calendar.specs.declared.Period.{Period as PeriodOf}
 use Rattle.calendar.specs.declared.Period.the-variants.{NoPeriod}
-use Rattle.calendar.proofs.Bounds.{day-le-last}
+use Rattle.calendar.proofs.Bounds.{date-le-last}
 use Rattle.calendar.proofs.Laws.{none-before, days-in, days-over}
 use Rattle.forms.specs.Form.{formOf, isFit, fits}
 use Rattle.forms.specs.Columns.{dateColumns}
@@ -28,11 +27,11 @@ use Rattle.whole_runs.specs.Text.{ThreeLines}
 
 -- ---- no date is after the last day
 
-pub day-le : (d m y : ℕ) → dayNumber (dayOf d m y) ≤ lastDay
-day-le d m y = go (dayOf d m y) refl
+date-le : (text : List ℕ) → dayNumber (dateIn text) ≤ lastDay
+date-le text = go (dateIn text) refl
   where
-    go : (o : Date) → dayOf d m y ≡ o → dayNumber o ≤ lastDay
-    go (Day k) e = day-le-last d m y k e
+    go : (o : Date) → dateIn text ≡ o → dayNumber o ≤ lastDay
+    go (Day k) e = date-le-last text k e
     go NoSuchDate e = omega arith
 
 -- ---- the period
@@ -60,10 +59,6 @@ days-of s e h =
 
 too-few : (o : Option Offence) (line : ℕ) → (o <|> given true 2 line) ≡ none → ⊥
 too-few o line e = let n = then-none o (given true 2 line) e in apart (cc (n .1))
-
-date-le : (text : List ℕ) → dayNumber (dateIn text) ≤ lastDay
-unfolding dateIn
-date-le text = day-le (number (columns 1 2 text)) (number (columns 4 5 text)) (number (columns 7 10 text))
 
 pub period-sound : (ls : List Line) → periodFirst ls ≡ none → PeriodSound (periodIn ls)
 unfolding periodFirst

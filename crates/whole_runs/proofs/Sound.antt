@@ -2,17 +2,16 @@
 -- Assumes nothing.
 use mathlib.Core.Path.{_≡_, refl, subst}
 use mathlib.Core.List.{List, [], _∷_}
-use mathlib.Core.Bool.{Bool, true, false, cond}
-use Prim.Native.Nat.{ℕ, suc, _+_, _-_, _*_, _/_, _%_, _^_, _<_, _≤_}
+use mathlib.Core.Bool.{true}
+use Prim.Native.Nat.{ℕ, _+_, _-_, _≤_}
 use native.Mathlib.Omega.{arith}
-use lib.ListN.{length, getD, drop}
-use lib.Dec.{eqb}
+use lib.ListN.{length}
 use borrow.Author.Tests.{le-leb}
 use Rattle.base.specs.Lists.{All, nil, cons, every, gathered}
-use Rattle.base.proofs.Laws.{by-leb}
-use Rattle.columns.specs.Columns.{padTo, columns, isBlank, blank, digits, number}
-use Rattle.columns.proofs.Laws.{length-pad, number-lt}
-use Rattle.fields.specs.Fields.{clock, timeIn, time}
+use Rattle.columns.specs.Columns.{columns}
+use Rattle.columns.proofs.Laws.{columns-lt}
+use Rattle.fields.proofs.Bounds.{stated-le}
+use Rattle.fields.specs.Fields.{time}
 use Rattle.fields.specs.declared.Time.{Time}
 use Rattle.fields.specs.declared.Time.the-variants.{Absent, Stated, NoTime}
 use Rattle.forms.specs.Form.{formOf}
@@ -39,36 +38,15 @@ use Rattle.whole_runs.proofs.Ends.{legs-sound, with-sound}
 use Rattle.whole_runs.proofs.Parts.{part-lines}
 use Rattle.whole_runs.proofs.Lists.{cond-all, all-append, all-gathered, every-all}
 
--- ---- numbers of so many columns, and times
-
-pub columns-lt : (a b : ℕ) (text : List ℕ) → number (columns a b text) < 10 ^ (b - (a - 1))
-unfolding columns
-columns-lt a b text =
-    let n = number-lt 0 (padTo (b - (a - 1)) (drop (a - 1) text)) in
-    let e = length-pad (b - (a - 1)) (drop (a - 1) text) in
-    let m : number (padTo (b - (a - 1)) (drop (a - 1) text)) < (0 + 1) * 10 ^ (b - (a - 1)) = rw e at n in
-    omega (arith, m)
-
--- five digits behind the sign, so at most 999 hours and 59 minutes
-clock-le : (barred : Bool) (p : List ℕ) → length p ≡ 5 → minutesOf (clock barred p) ≤ latestTime
-clock-le barred p e =
-    let n : number p < (0 + 1) * 10 ^ 5 = rw e at (number-lt 0 p) in
-    cond-all (λ (t : Time). minutesOf t ≤ latestTime) (digits p) _ NoTime
-    (by-leb (λ t. minutesOf (cond t (Stated (number p / 100 * 60 + number p % 100) barred) NoTime) ≤ latestTime) (number p % 100) 59 (λ h. omega (arith, n)) (λ h. omega arith))
-    (omega arith)
-
-drop-one : (p : List ℕ) (n : ℕ) → length p ≡ suc n → length (drop 1 p) ≡ n
-drop-one [] n e = absurd (omega arith)
-drop-one (b ∷ p) n e = omega arith
+-- ---- times
 
 pub minutes-le : (p : List ℕ) → minutesOf (time p) ≤ latestTime
-unfolding timeIn
-minutes-le p =
-    let q = padTo 6 p in
-    let e = drop-one q 5 (length-pad 6 p) in
-    cond-all (λ (t : Time). minutesOf t ≤ latestTime) (blank q) Absent _ (omega arith)
-    (cond-all (λ (t : Time). minutesOf t ≤ latestTime) (isBlank (getD q 0 32)) (clock false (drop 1 q)) _ (clock-le false (drop 1 q) e)
-    (cond-all (λ (t : Time). minutesOf t ≤ latestTime) (eqb (getD q 0 32) 45) (clock true (drop 1 q)) NoTime (clock-le true (drop 1 q) e) (omega arith)))
+minutes-le p = go (time p) refl
+  where
+    go : (t : Time) → time p ≡ t → minutesOf t ≤ latestTime
+    go Absent e = omega arith
+    go (Stated m barred) e = stated-le p m barred e
+    go NoTime e = omega arith
 
 call-sound : (text : List ℕ) → callSound (callIn text) ≡ true
 call-sound text =
