@@ -7,6 +7,7 @@ use native.Mathlib.Omega.{arith}
 use lib.ListN.{length, getD, take, drop, set, length-drop, length-set}
 use lib.Seq.{getD-drop, getD-take, getD-set-same, getD-set-other, ext-getD, length-take-le}
 use borrow.Author.Count.{below-more}
+use Rattle.base.proofs.Laws.{tests}
 
 -- the first i of the twelve words of r
 pub record Filled (f : ℕ → ℕ) (r : List ℕ) (i : ℕ) : Type 0 where
@@ -25,7 +26,7 @@ filled-next f r i x h e v =
       each = below-more _ _ (λ k lt. getD-set-other r i k x 0 (λ q. omega arith) ∙ v .each k lt) (getD-set-same r i x 0 (omega arith) ∙ e);
     }
 
--- ---- twelve words copied from a place on
+-- ---- twelve words copied from a place on, for `search copies`
 
 -- the word k places on
 abbrev pub wordFrom : List ℕ → ℕ → ℕ → ℕ
@@ -39,3 +40,5 @@ twelve-done w r p i l h v =
     ext-getD 0 r (take 12 (drop p w)) (v .twelve ∙ sym (length-take-le 12 (drop p w) (rw length-drop (omega arith)))) (λ k lt.
     let b : k < 12 = omega (arith, v .twelve) in
     v .each k (omega arith) ∙ sym (getD-take 12 (drop p w) k 0 b ∙ getD-drop p w k 0))
+
+pub ruleset copies = (tests, filled-none, twelve-next, twelve-done)

@@ -1,7 +1,8 @@
 // Bit fields: 384 bits, held as twelve words by value; bit 0 is the highest of the first word, bit d + 2 is day d.
 ghost use mathlib.Core.Path.{_≡_};
 ghost use mathlib.Core.Bool.{not, true, false, _&&_, _||_};
-ghost use Prim.Native.Nat.{ℕ, _≤_, _<_};
+ghost use Prim.Native.Nat.{ℕ, _+_, _≤_, _<_};
+ghost use lib.ListN.{length, take, drop};
 ghost use Rattle.columns.specs.Columns.{padTo};
 ghost use Rattle.bitfield.specs.BitField.{hexFrom, bitsIn, bit, runsOn, frameBit, framed, someDay};
 
@@ -13,6 +14,20 @@ pub fn bits_in(line: &[u8]) -> [u32; 12]
     let mut i: usize = 0;
     while i < 12 {
         r[i] = hex_word(columns::part(line, 8 * i + 8, 8 * i + 15));
+        i += 1;
+    }
+    r
+}
+
+// Twelve words of a slice as one value.
+pub fn words_at(words: &[u32], at: usize) -> [u32; 12]
+    requires { ⌜ at + 12 ≤ length (now words) ⌝ }
+    ensures { λ r. ⌜ r ≡ take 12 (drop at (now (words .entry))) ⌝ }
+{
+    let mut r = [0u32; 12];
+    let mut i: usize = 0;
+    while i < 12 {
+        r[i] = words[at + i];
         i += 1;
     }
     r

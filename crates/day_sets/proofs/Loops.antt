@@ -5,8 +5,8 @@ use mathlib.Core.Bool.{Bool, true, false, cond}
 use Prim.Native.Nat.{ℕ, suc, _+_, _-_, _*_, _^_, _≤_, _<_}
 use native.Mathlib.Nat.{pow-suc, pow-le-pow-right, one-le-pow, zero-add, add-zero}
 use native.Mathlib.Omega.{arith}
-use lib.ListN.{length, getD}
-use lib.Seq.{ext-getD}
+use lib.ListN.{length, take, drop}
+use lib.Seq.{ext-getD, take-all}
 use lib.Dec.{lit<}
 use Rattle.base.specs.Lists.{countIf, upto, below}
 use Rattle.base.proofs.Laws.{tests}
@@ -102,8 +102,13 @@ field-done n ws r i h v =
         ap (bitsFrom 0) (map-same _ _ 32 (j * 32) (λ k a b.
         bit-same n k (runsOn ws (k - 2)) (bit ws k) (λ l m. ap (bit ws) (omega arith))))
 
--- words copied
-pub copied : (w r : List ℕ) (i : ℕ) → length w ≡ 12 → 12 ≤ i → Filled (λ (k : ℕ). getD w k 0) r i → r ≡ w
-copied w r i e h v = ext-getD 0 r w (v .twelve ∙ sym e) (λ k l. v .each k (omega (arith, v .twelve)))
+pub ruleset words = (tests, filled-none, filled-next, field-done)
 
-pub ruleset words = (tests, filled-none, filled-next, field-done, copied)
+-- twelve lent words are all of them
+pub all-twelve : (w r : List ℕ) → length w ≡ 12 → r ≡ take 12 (drop 0 w) → r ≡ w
+all-twelve w r h e = e ∙ take-all 12 w (omega arith)
+
+pub twelve-room : (w : List ℕ) → length w ≡ 12 → 0 + 12 ≤ length w
+twelve-room w h = omega arith
+
+pub ruleset lent-words = (tests, all-twelve, twelve-room)

@@ -109,13 +109,7 @@ fn field_in(words: &[u32]) -> [u32; 12]
     requires { ⌜ length (now words) ≡ 12 ⌝ }
     ensures { λ r. ⌜ r ≡ now (words .entry) ⌝ }
 {
-    let mut r = [0u32; 12];
-    let mut i: usize = 0;
-    while i < BIT_WORDS {
-        r[i] = words[i];
-        i += 1;
-    }
-    r
+    bitfield::words_at(words, 0)
 }
 
 // ---- on fields by value

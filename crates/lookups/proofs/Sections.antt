@@ -1,4 +1,4 @@
--- The needs of the look-ups in the sections of a whole table, a ruleset for each: `words`, `fields`, `stops`, `interchanges`. Assumes nothing.
+-- The needs of the look-ups in the sections of a whole table, a ruleset for each: `fields`, `stops`, `interchanges`. Assumes nothing.
 use mathlib.Core.Path.{_≡_, refl, ap, _∙_, sym}
 use mathlib.Core.List.{List}
 use mathlib.Core.Bool.{true, false}
@@ -12,7 +12,6 @@ use borrow.Author.Tests.{eq-eqb, ne-eqb}
 use Rattle.base.specs.Lists.{find}
 use Rattle.base.proofs.Laws.{tests}
 use Rattle.bitfield.specs.BitField.{bit, runsOn}
-use Rattle.bitfield.proofs.Fill.{filled-none, twelve-next, twelve-done}
 use Rattle.timetable.specs.Delivery.{BitField, StopRecord, Interchange}
 use Rattle.timetable.specs.Files.{hasStop}
 use Rattle.timetable.specs.Legs.{fieldKnown, runsBy, fieldRuns}
@@ -26,10 +25,6 @@ use Rattle.lookups.specs.declared.Found.{Found}
 use Rattle.lookups.specs.declared.Found.the-variants.{At, Nothing}
 use Rattle.lookups.specs.declared.Times.{Times}
 use Rattle.lookups.proofs.Search.{readAt, isAt, find-there, some-there, place-inside}
-
--- ---- twelve words from a place on, for `search words`
-
-pub ruleset words = (tests, filled-none, twelve-next, twelve-done)
 
 -- ---- the header of a whole table, and where its sections begin
 

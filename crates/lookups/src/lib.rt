@@ -14,7 +14,7 @@ use timetable::STOP_WORDS;
 use timetable::STOPS_AT;
 ghost use mathlib.Core.Path.{_≡_};
 ghost use Prim.Native.Nat.{ℕ, _+_, _*_, _≤_, _<_};
-ghost use lib.ListN.{length, drop, take};
+ghost use lib.ListN.{length, drop};
 ghost use Rattle.bitfield.specs.BitField.{runsOn};
 ghost use Rattle.timetable.specs.Files.{hasStop};
 ghost use Rattle.timetable.specs.Legs.{fieldKnown, fieldRuns};
@@ -100,7 +100,7 @@ pub fn field_words(w: &[u32], number: u32) -> Field
             words,
         };
     };
-    let words = words_at(w, p + 1);
+    let words = bitfield::words_at(w, p + 1);
     Field { known: true, words }
 }
 
@@ -111,20 +111,6 @@ pub fn field_runs(field: Field, d: u32) -> bool
 {
     let words = field.words;
     bitfield::runs_on(words, d)
-}
-
-// The twelve words from a place on.
-fn words_at(w: &[u32], p: usize) -> [u32; BIT_WORDS]
-    requires { ⌜ p + 12 ≤ length (now w) ⌝ }
-    ensures { λ r. ⌜ r ≡ take 12 (drop p (now (w .entry))) ⌝ }
-{
-    let mut r = [0u32; BIT_WORDS];
-    let mut i: usize = 0;
-    while i < BIT_WORDS {
-        r[i] = w[p + i];
-        i += 1;
-    }
-    r
 }
 
 // ---- stops and interchange records
