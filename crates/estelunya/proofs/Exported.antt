@@ -6,9 +6,9 @@ use Prim.Native.Nat.{ℕ, _-_, _*_, _≤_}
 use native.Mathlib.Omega.{arith}
 use lib.ListN.{length}
 use Rattle.timetable.specs.Delivery.{Files, Service, Delivery}
-use Rattle.timetable.specs.Load.{delivered, loaded, written}
+use Rattle.timetable.specs.Load.{delivered, loaded}
 use Rattle.timetable.specs.Layout.{rowSize}
-use Rattle.timetable.specs.Questions.{dayAsked, interchangeAsked, walked, walkRows}
+use Rattle.timetable.specs.Questions.{dayAsked, interchangeAsked, walked}
 use Rattle.timetable.specs.declared.DayAnswer.{DayAnswer}
 use Rattle.timetable.specs.declared.DayAnswer.the-variants.{Refused as DayRefused}
 use Rattle.timetable.specs.declared.InterchangeAnswer.{InterchangeAnswer}
@@ -18,7 +18,7 @@ use Rattle.timetable.specs.declared.Loaded.the-variants.{Accepted, Refused}
 use Rattle.timetable.specs.declared.Walked.{Walked}
 use Rattle.timetable.specs.declared.Walked.the-variants.{Listed, NotRunning, Refused as WalkRefused}
 use Rattle.whole_runs.specs.Rows.{RunsNowhere}
-use Rattle.whole_runs.specs.Promise.{Asked, Walk, not-running, short, runs, TwoRows}
+use Rattle.whole_runs.specs.Promise.{Walk, not-running, short, runs, TwoRows}
 use Rattle.whole_runs.proofs.Any.{two-rows}
 use Rattle.whole_runs.proofs.Slack.{never-both}
 use Rattle.whole_runs.proofs.Demand3.{demand3-promised}
@@ -26,7 +26,7 @@ use Rattle.whole_runs.proofs.Numbers.{load-numbered, load-columned, day-numbere
 use Rattle.estelunya.specs.declared.LoadResult.{LoadResult}
 use Rattle.estelunya.specs.declared.WalkResult.{WalkResult}
 use Rattle.estelunya.specs.Answers.{loadResult, dayResult, interchangeResult, walkResult}
-use Rattle.estelunya.specs.Promise.{Answered, not-running, short, runs, Walks, Decoded}
+use Rattle.estelunya.specs.Promise.{Answered, not-running, short, runs, WholeRuns, Decoded}
 
 -- an answer numbered 0 is an acceptance, with the words used
 pub accepted : (f : Files) (room : ℕ) → loadResult (loaded f room) .number ≡ 0 → loaded f room ≡ Accepted (loadResult (loaded f room) .words)
@@ -89,13 +89,8 @@ module _ {d : Delivery} {s : Service} {r k : ℕ} {lent : List ℕ} where
   none-run (short x l) w = absurd (never-both d s k w (x .unbroken))
   none-run (runs x l) w = absurd (never-both d s k w (x .unbroken))
 
--- the words w that `estelunya_load` left, where it answered number 0 (a), and what `estelunya_walk` answers of them (x) and leaves in the rows (v)
-pub demand3-exported : (f : Files) (t : List ℕ) {a : LoadResult} {w : List ℕ} → a ≡ loadResult (loaded f (length t)) → w ≡ written f t → a .number ≡ 0
-    → (i r d m y day : ℕ) (s : Service) → Asked f i r d m y s day
-    → (lent : List ℕ)
-    → {x : WalkResult} {v : List ℕ} → x ≡ walkResult (walked w i r d m y (length lent)) → v ≡ walkRows w i r d m y lent
-    → Walks f i s r (day - delivered f .period .start) lent x v
-demand3-exported f t {a} {w} b q e i r d m y day s h lent {x} {v} z k =
+pub demand3-exported : WholeRuns
+demand3-exported f t a w b q e i r d m y day s h lent x v z k =
     let promised = demand3-promised f t refl q (loadResult (loaded f (length t)) .words) (accepted f (length t) (sym (ap (λ (c : LoadResult). c .number) b) ∙ e)) i r d m y day s h lent refl k in
     let answered = subst (λ (y : WalkResult). Answered (delivered f) s r (day - delivered f .period .start) lent y v) (sym z) (in-numbers (promised .1)) in
     record {

@@ -1,16 +1,19 @@
 -- Demand 3 at the boundary, in the numbers that a caller holds: what `estelunya_walk` answers and leaves in the rows, of the table that
--- `estelunya_load` left where its number was 0. Proved in proofs/Exported.antt: `demand3-exported`, and of any words `decoded`. Assumes nothing.
+-- `estelunya_load` left where its number was 0. Whole it is `WholeRuns`. Proved in proofs/Exported.antt: `demand3-exported`, and of any words `decoded`. Assumes nothing.
 use mathlib.Core.Path.{_≡_}
 use mathlib.Core.List.{List}
-use Prim.Native.Nat.{ℕ, _+_, _*_, _<_, _≤_}
+use Prim.Native.Nat.{ℕ, _+_, _-_, _*_, _<_, _≤_}
 use lib.ListN.{length}
 use Rattle.timetable.specs.Layout.{rowSize}
 use Rattle.timetable.specs.Delivery.{Files, Service, Delivery}
-use Rattle.timetable.specs.Load.{delivered, onto}
+use Rattle.timetable.specs.Load.{delivered, loaded, written, onto}
+use Rattle.timetable.specs.Questions.{walked, walkRows}
 use Rattle.timetable.specs.declared.Walked.{Walked}
 use Rattle.timetable.specs.declared.Walked.the-variants.{Listed, NotRunning, Refused}
 use Rattle.whole_runs.specs.Rows.{RunsNowhere, Stretched}
-use Rattle.whole_runs.specs.Promise.{OwnRun}
+use Rattle.whole_runs.specs.Promise.{Asked, OwnRun}
+use Rattle.estelunya.specs.Answers.{loadResult, walkResult}
+use Rattle.estelunya.specs.declared.LoadResult.{LoadResult}
 use Rattle.estelunya.specs.declared.WalkResult.{WalkResult}
 
 -- the answer as numbers, and the rows afterwards, from the rows as lent: "not running", or 29 exactly if fewer words are lent than one row for each call
@@ -32,6 +35,16 @@ pub record Walks (f : Files) (i : ℕ) (s : Service) (r k : ℕ) (lent : List �
   -- "'does not run' is said exactly when its text says so": by 0 rows
   pub idle-only : x .number ≡ 0 → x .rows ≡ 0 → RunsNowhere (delivered f) s k
   pub idle-always : RunsNowhere (delivered f) s k → (x .number ≡ 0) × (x .rows ≡ 0)
+
+-- Demand 3, whole. "Take a delivery that was accepted": `estelunya_load` answered a with number 0; "and its table unaltered": the words w that it left.
+-- "For any service in it, any repeat the service has and any date in the period" (`Asked`), "a walk of that run" with any rows lent: x is what `estelunya_walk`
+-- answers, and v are the rows afterwards.
+abbrev pub WholeRuns : Type 0
+WholeRuns =
+    (f : Files) (t : List ℕ) (a : LoadResult) (w : List ℕ) → a ≡ loadResult (loaded f (length t)) → w ≡ written f t → a .number ≡ 0
+    → (i r d m y day : ℕ) (s : Service) → Asked f i r d m y s day
+    → (lent : List ℕ) (x : WalkResult) (v : List ℕ) → x ≡ walkResult (walked w i r d m y (length lent)) → v ≡ walkRows w i r d m y lent
+    → Walks f i s r (day - delivered f .period .start) lent x v
 
 -- of any words, table or not: what an answer a is, told from its numbers
 pub record Decoded (a : Walked) (x : WalkResult) : Type 0 where
