@@ -1,6 +1,6 @@
 -- The own checks of a service's lines, one after the other. Assumes nothing.
 use mathlib.Core.Path.{_≡_, refl, sym, ap, _∙_}
-use mathlib.Core.List.{List, [], _∷_, _++_}
+use mathlib.Core.List.{List, [], _∷_, _++_, append-assoc, append-nil}
 use mathlib.Core.Bool.{Bool, true, false}
 use mathlib.Core.Option.{Option, none, some}
 use Prim.Native.Nat.{ℕ, _+_, _-_, _≤_, _<_}
@@ -27,9 +27,10 @@ use Rattle.timetable.specs.declared.Told.{Told}
 use Rattle.timetable.specs.declared.Told.the-variants.{Skip, Other, Broken, Opens, Ranges, Calls}
 use Rattle.timetable.specs.declared.Verdict.{Verdict}
 use Rattle.timetable.specs.declared.Verdict.the-variants.{Fine, Offends}
-use Rattle.timetable.proofs.Offences.{then-none, given-none, verdict-fine, verdict-offends}
+use Rattle.timetable.proofs.Offences.{then-none, given-none, first-none, verdict-fine, verdict-offends}
 use Rattle.draft.specs.Draft.{callsLent, rangesLent, callsOn, rangesOn, onLine, countsOf, countPart, ranges#, noCounts, counted, Within}
 use Rattle.draft.specs.declared.Counts.{Counts}
+use Rattle.draft.proofs.Drafts.{counts-more}
 use Rattle.reading.specs.Reading.{serviceAt, Boundary, NextLine, NextAs, countOf, rangeAfter, callAfter, offenceAfter}
 use Rattle.reading.specs.declared.Next.{Next}
 use Rattle.reading.specs.declared.Next.the-variants.{Line as LineTold, End}
@@ -73,6 +74,19 @@ within-more fields stops k line (Broken c) w e = w
 within-more fields stops k line (Opens o) w e = w
 within-more fields stops k line (Ranges r) w e = part-within fields k line (r .field) (r .part) w e
 within-more fields stops k line (Calls c) w e = record { calls = omega (arith, limit (k .calls) mostCalls line _ e); categories = w .categories; days = w .days; extras = w .extras }
+
+module _ (fields : List BitField) (stops : List StopRecord) where
+  own-after : (before ls : List Line) → first (ownOffence fields stops) before ls ≡ none → Within (countsOf before) → Within (countsOf (before ++ ls))
+  own-after before [] e w = rw append-nil w
+  own-after before (l ∷ ls) e w =
+      let o = first-none (ownOffence fields stops) before l ls e in
+      let k : Within (countsOf (before ++ (l ∷ []))) = rw (counts-more before l) (within-more fields stops (countsOf before) (l .no) (toldIn (l .text)) w (offence-same fields stops before (l .no) (toldIn (l .text)) ∙ o .0)) in
+      rw append-assoc at (own-after (before ++ (l ∷ [])) ls (o .1) k)
+
+  -- so lines without an own offence are within them
+  pub own-within : (ls : List Line) → first (ownOffence fields stops) [] ls ≡ none → Within (countsOf ls)
+  unfolding tolds gathered
+  own-within ls e = own-after [] ls e (record { calls = omega arith; categories = omega arith; days = omega arith; extras = omega arith })
 
 -- the first offence of lines, at the first of them and after it
 first-cons : (off : List Line → Line → Option Offence) (before : List Line) (l : Line) (ls : List Line) → first off before (l ∷ ls) ≡ (off before l <|> first off (before ++ (l ∷ [])) ls)
