@@ -1,4 +1,4 @@
--- Dates: the needs of `dated` and `in_period` (for `search dates`), and what an answer says: `by-dated`, `dated-table`, `dated-day`. Assumes nothing.
+-- Dates: the needs of `dated` and `in_period` (for `search dates`), and what an answer says: `by-dated`, `on-a-day`. Assumes nothing.
 use mathlib.Core.Path.{_≡_, refl, ap, _∙_, sym}
 use mathlib.Core.List.{List}
 use mathlib.Core.Bool.{Bool, true, false, cond, not, _&&_}
@@ -11,9 +11,11 @@ use Rattle.base.proofs.Laws.{tests}
 use Rattle.calendar.specs.Calendar.{dayOf}
 use Rattle.calendar.specs.declared.Date.{Date}
 use Rattle.calendar.specs.declared.Date.the-variants.{Day, NoSuchDate}
-use Rattle.timetable.specs.Table.{tableOf, isTable}
+use Rattle.timetable.specs.Table.{used, tableOf, isTable}
 use Rattle.timetable.specs.Questions.{Dated, undated, dated, datedBy, dateOf}
+use Rattle.table.specs.JustTable.{JustTable}
 use Rattle.table.proofs.Says.{table-says}
+use Rattle.table.proofs.JustTable.{used-whole, used-word}
 use Rattle.lookups.specs.Lookups.{periodDay, datedAsked}
 use Rattle.lookups.specs.declared.PeriodDay.{PeriodDay}
 use Rattle.lookups.specs.declared.PeriodDay.the-variants.{On, Refused}
@@ -101,5 +103,13 @@ module _ (w : List ℕ) (day month year k : ℕ) (x : PeriodDay) (e : x ≡ date
   pub dated-table : isTable w ≡ true
   dated-table = said .0
 
-  pub dated-day : k < getD w 2 0
-  dated-day = said .1
+  -- u is the part of the words that is used
+  module _ (u : List ℕ) (p : u ≡ used w) where
+    pub dated-whole : JustTable u
+    dated-whole = rw p (used-whole w dated-table)
+
+    pub dated-within : k < getD u 2 0
+    dated-within = rw (p, used-word w dated-table 2 (omega arith)) (said .1)
+
+-- for the `search` of a question that goes by a date
+pub ruleset on-a-day = (dated-table, dated-whole, dated-within)

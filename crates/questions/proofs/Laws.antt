@@ -17,12 +17,12 @@ use Rattle.timetable.specs.declared.DayAnswer.{DayAnswer}
 use Rattle.timetable.specs.declared.DayAnswer.the-variants.{Runs, Idle, Refused as DayRefused}
 use Rattle.timetable.specs.declared.InterchangeAnswer.the-variants.{Minutes, Refused as InterchangeRefused}
 use Rattle.table.specs.JustTable.{JustTable}
-use Rattle.table.proofs.JustTable.{used-whole, used-word, used-same, whole-says}
+use Rattle.table.proofs.JustTable.{used-whole, used-same, whole-says}
 use Rattle.lookups.specs.Lookups.{timesOf, datedAsked}
 use Rattle.lookups.specs.declared.PeriodDay.{PeriodDay}
 use Rattle.lookups.specs.declared.PeriodDay.the-variants.{On, Refused}
 use Rattle.lookups.specs.declared.Times.{Times}
-use Rattle.lookups.proofs.Dates.{asDated, by-dated, dated-table, dated-day}
+use Rattle.lookups.proofs.Dates.{asDated, by-dated, dated-table, on-a-day}
 
 -- ---- day k of a whole table; known and ws are what the look-up of bit field b gave
 
@@ -53,21 +53,10 @@ module _ (w : List ℕ) (day month year : ℕ) (x : PeriodDay) (e : x ≡ datedA
   pub day-refused : (b number : ℕ) → x ≡ Refused number → DayRefused number ≡ dayAsked w day month year b
   day-refused b number g = sym (asked b ∙ rw g)
 
-  module _ (k : ℕ) (g : x ≡ On k) where
-    pub day-table : isTable w ≡ true
-    day-table = dated-table w day month year k x e g
+  pub day-on : (k : ℕ) → x ≡ On k → (u : List ℕ) → u ≡ used w → (b : ℕ) (r : DayAnswer) → r ≡ dayBy (tableOf u) b (dated k) → r ≡ dayAsked w day month year b
+  day-on k g u p b r f = f ∙ sym (asked b ∙ rw (g, p, used-same w (dated-table w day month year k x e g)))
 
-    module _ (u : List ℕ) (p : u ≡ used w) where
-      pub day-whole : JustTable u
-      day-whole = rw p (used-whole w day-table)
-
-      pub day-within : k < getD u 2 0
-      day-within = rw (p, used-word w day-table 2 (omega arith)) (dated-day w day month year k x e g)
-
-      pub day-on : (b : ℕ) (r : DayAnswer) → r ≡ dayBy (tableOf u) b (dated k) → r ≡ dayAsked w day month year b
-      day-on b r f = f ∙ sym (asked b ∙ rw (g, p, used-same w day-table))
-
-pub ruleset days = (tests, day-below, day-unknown, day-runs, day-idle, day-refused, day-table, day-whole, day-within, day-on)
+pub ruleset days = (tests, day-below, day-unknown, day-runs, day-idle, day-refused, on-a-day, day-on)
 
 -- ---- an interchange; x says whether the words are a table, y whether the classes are known, z whether the stop is
 

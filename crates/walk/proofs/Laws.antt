@@ -6,20 +6,19 @@ use mathlib.Core.Option.{Option, none, some}
 use Prim.Native.Nat.{ℕ, _+_, _*_, _≤_, _<_}
 use native.Mathlib.Omega.{arith}
 use lib.ListN.{getD, drop, getElem?}
-use lib.Dec.{leb}
 use Rattle.base.proofs.Laws.{tests, apart, by-leb}
 use Rattle.timetable.specs.Delivery.{Service, Delivery}
-use Rattle.timetable.specs.Table.{used, serviceAt, tableOf, isTable, recordSound}
+use Rattle.timetable.specs.Table.{used, serviceAt, tableOf, recordSound}
 use Rattle.timetable.specs.Questions.{Journey, refused, idle, datedJourney, journey, walkOf, walkedBy, rowsBy}
 use Rattle.timetable.specs.declared.Walked.{Walked}
 use Rattle.timetable.specs.declared.Walked.the-variants.{Refused, NotRunning}
 use Rattle.table.specs.JustTable.{JustTable}
 use Rattle.table.proofs.Says.{record-says}
-use Rattle.table.proofs.JustTable.{used-whole, used-word, used-same}
+use Rattle.table.proofs.JustTable.{used-same}
 use Rattle.lookups.specs.Lookups.{servicePlace, datedAsked}
 use Rattle.lookups.specs.declared.PeriodDay.{PeriodDay}
 use Rattle.lookups.specs.declared.PeriodDay.the-variants.{On, Refused as Undated}
-use Rattle.lookups.proofs.Dates.{asDated, by-dated, dated-table, dated-day}
+use Rattle.lookups.proofs.Dates.{asDated, by-dated, dated-table, on-a-day}
 use Rattle.lookups.proofs.Services.{service-none, service-is, service-sound}
 use Rattle.course.specs.Course.{indexedCourse, courseOf, rowsAlong}
 use Rattle.course.specs.declared.Course.{Course}
@@ -144,15 +143,4 @@ module _ (w : List ℕ) (i r day month year : ℕ) (x : PeriodDay) (e : x ≡ da
     pub dated-listed : (t v : List ℕ) → v ≡ rowsBy (indexWalk (tableOf u) i r k) t → v ≡ rowsBy (walkOf w i r day month year) t
     dated-listed t v f = same-rows (indexWalk (tableOf u) i r k) (walkOf w i r day month year) dated-is t v f
 
-module _ (w : List ℕ) (day month year : ℕ) (x : PeriodDay) (e : x ≡ datedAsked w day month year) (k : ℕ) (g : x ≡ On k) where
-  pub walk-table : isTable w ≡ true
-  walk-table = dated-table w day month year k x e g
-
-  module _ (u : List ℕ) (p : u ≡ used w) where
-    pub walk-whole : JustTable u
-    walk-whole = rw p (used-whole w walk-table)
-
-    pub walk-within : k < getD u 2 0
-    walk-within = rw (p, used-word w walk-table 2 (omega arith)) (dated-day w day month year k x e g)
-
-pub ruleset walks = (tests, undated-answer, undated-kept, dated-answer, dated-listed, walk-table, walk-whole, walk-within)
+pub ruleset walks = (tests, on-a-day, undated-answer, undated-kept, dated-answer, dated-listed)
