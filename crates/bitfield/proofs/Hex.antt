@@ -92,7 +92,7 @@ word-at (suc n) (suc j) p h =
 abbrev pub wordIn : List ℕ → ℕ → ℕ
 wordIn line j = getD (bitsIn line) j 0
 
-word-in : (line : List ℕ) (j : ℕ) → j < 12 → wordIn line j ≡ hexFrom 0 (padTo 8 (drop (8 * j + 7) line))
+pub word-in : (line : List ℕ) (j : ℕ) → j < 12 → wordIn line j ≡ hexFrom 0 (padTo 8 (drop (8 * j + 7) line))
 unfolding bitsIn columns
 word-in line j h =
     let e : 7 + 8 * j ≡ 8 * j + 7 = omega arith in

@@ -42,3 +42,17 @@ framed n ws = every (λ (k : ℕ). frameBit n k (bit ws k)) (below 384)
 -- some day of n days is in the set (for the contract of `some_day` only)
 abbrev pub someDay : ℕ → List ℕ → Bool
 someDay n ws = some-of (runsOn ws) (below n)
+
+-- ---- nobody has to believe what follows: it is for contracts of inner functions
+
+-- the next bit after bit k that the frame of n days binds
+abbrev pub nextBound : ℕ → ℕ → ℕ
+nextBound n k = cond (ltb k 1) (k + 1) (cond (ltb k (n + 2)) (n + 2) (k + 1))
+
+-- word i is 0
+abbrev pub zeroAt : List ℕ → ℕ → Bool
+zeroAt ws i = eqb (getD ws i 0) 0
+
+-- no bit is set
+abbrev pub noBit : List ℕ → Bool
+noBit ws = every (zeroAt ws) (below 12)

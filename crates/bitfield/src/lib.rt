@@ -1,22 +1,19 @@
 // Bit fields: 384 bits, held as twelve words by value; bit 0 is the highest of the first word, bit d + 2 is day d.
 ghost use mathlib.Core.Path.{_≡_};
 ghost use mathlib.Core.Bool.{not, true, false, _&&_, _||_};
-ghost use Prim.Native.Nat.{ℕ, _+_, _≤_, _<_};
-ghost use lib.ListN.{length, take, drop};
-ghost use Rattle.columns.specs.Columns.{padTo};
-ghost use Rattle.bitfield.specs.BitField.{hexFrom, bitsIn, bit, runsOn, frameBit, framed, someDay};
+ghost use Prim.Native.Nat.{ℕ, _+_, _*_, _≤_, _<_};
+ghost use lib.ListN.{length, take, drop, getD};
+ghost use Rattle.columns.specs.Columns.{padTo, hexValue};
 
 // The bit field whose 96 hex digits stand in columns 8 to 103 of a line.
 pub fn bits_in(line: &[u8]) -> [u32; 12]
     ensures { λ r. ⌜ r ≡ bitsIn (now (line .entry)) ⌝ }
 {
-    let mut r = [0u32; 12];
-    let mut i: usize = 0;
-    while i < 12 {
-        r[i] = hex_word(columns::part(line, 8 * i + 8, 8 * i + 15));
-        i += 1;
+    if line.len() < 103 {
+        return bits_by_words(line);
     }
-    r
+    let digits = digit_values(line);
+    packed(line, &digits)
 }
 
 // Twelve words of a slice as one value.
@@ -58,7 +55,7 @@ pub fn is_framed(b: [u32; 12], n: u32) -> bool
     let mut k: u32 = 0;
     while k < 384 {
         if fits_frame(n, k, bit_of(b, k)) {
-            k += 1;
+            k = next_bound(n, k);
         } else {
             return false;
         }
@@ -66,8 +63,33 @@ pub fn is_framed(b: [u32; 12], n: u32) -> bool
     true
 }
 
-// Whether some of the first n days is in the set.
+// Whether some of the first n days is in the set. Mostly there is no bit at all, which is sooner seen.
 pub fn some_day(b: [u32; 12], n: u32) -> bool
+    requires { ⌜ n ≤ 380 ⌝ }
+    ensures { λ r. ⌜ r ≡ someDay n b ⌝ }
+{
+    if has_no_bit(b) {
+        return false;
+    }
+    day_by_day(b, n)
+}
+
+// Whether no bit is set.
+fn has_no_bit(b: [u32; 12]) -> bool
+    ensures { λ r. ⌜ r ≡ noBit b ⌝ }
+{
+    let mut i: usize = 0;
+    while i < 12 {
+        if b[i] != 0 {
+            return false;
+        }
+        i += 1;
+    }
+    true
+}
+
+// Whether some of the first n days is in the set, day by day.
+fn day_by_day(b: [u32; 12], n: u32) -> bool
     requires { ⌜ n ≤ 380 ⌝ }
     ensures { λ r. ⌜ r ≡ someDay n b ⌝ }
 {
@@ -138,6 +160,85 @@ pub fn without(a: [u32; 12], b: [u32; 12]) -> [u32; 12]
 
 // ---- inner functions
 
+// The values of the 96 hex digits, found for many at once.
+fn digit_values(line: &[u8]) -> [u8; 96]
+    requires { ⌜ 103 ≤ length (now line) ⌝ }
+    ensures { λ r. ⌜ Digits (now (line .entry)) r 96 ⌝ }
+{
+    let mut r = [0u8; 96];
+    let mut i: usize = 0;
+    while i < 96 {
+        r[i] = digit_of(line[i + 7]);
+        i += 1;
+    }
+    r
+}
+
+// The twelve words of the 96 digits of a line, whose values are v.
+fn packed(line: &[u8], v: &[u8]) -> [u32; 12]
+    requires { ⌜ 103 ≤ length (now line) ⌝ }
+    requires { ⌜ Digits (now line) (now v) 96 ⌝ }
+    ensures { λ r. ⌜ r ≡ bitsIn (now (line .entry)) ⌝ }
+{
+    let mut r = [0u32; 12];
+    let mut i: usize = 0;
+    while i < 12 {
+        r[i] = eight_digits(line, v, i);
+        i += 1;
+    }
+    r
+}
+
+// Word i of them.
+fn eight_digits(line: &[u8], v: &[u8], i: usize) -> u32
+    requires { ⌜ 103 ≤ length (now line) ⌝ }
+    requires { ⌜ Digits (now line) (now v) 96 ⌝ }
+    requires { ⌜ i < 12 ⌝ }
+    ensures { λ r. ⌜ r ≡ getD (bitsIn (now (line .entry))) i 0 ⌝ }
+{
+    four_digits(v, 8 * i) * 65536 + four_digits(v, 8 * i + 4)
+}
+
+fn four_digits(v: &[u8], at: usize) -> u32
+    requires { ⌜ at + 4 ≤ length (now v) ⌝ }
+    ensures { λ r. ⌜ r ≡ fourDigits (now (v .entry)) at ⌝ }
+{
+    four_of(v[at], v[at + 1], v[at + 2], v[at + 3])
+}
+
+fn four_of(a: u8, b: u8, c: u8, d: u8) -> u32
+    ensures { λ r. ⌜ r ≡ a * 4096 + b * 256 + c * 16 + d ⌝ }
+{
+    a as u32 * 4096 + b as u32 * 256 + c as u32 * 16 + d as u32
+}
+
+// The value of a hex digit, 0 for another byte.
+fn digit_of(b: u8) -> u8
+    ensures { λ r. ⌜ r ≡ hexValue b ⌝ }
+{
+    match b {
+        b'0'..=b'9' => b - b'0',
+        b'A'..=b'F' => b - TEN_BEFORE_A,
+        _ => 0,
+    }
+}
+
+// What is taken from "A" to "F" for their values 10 to 15.
+const TEN_BEFORE_A: u8 = b'A' - 10;
+
+// The bit field of a line that may be short, word by word.
+fn bits_by_words(line: &[u8]) -> [u32; 12]
+    ensures { λ r. ⌜ r ≡ bitsIn (now (line .entry)) ⌝ }
+{
+    let mut r = [0u32; 12];
+    let mut i: usize = 0;
+    while i < 12 {
+        r[i] = hex_word(columns::part(line, 8 * i + 8, 8 * i + 15));
+        i += 1;
+    }
+    r
+}
+
 // The word of eight hex digits.
 fn hex_word(p: &[u8]) -> u32
     ensures { λ r. ⌜ r ≡ hexFrom 0 (padTo 8 (now (p .entry))) ⌝ }
@@ -149,6 +250,20 @@ fn hex_word(p: &[u8]) -> u32
         i += 1;
     }
     n
+}
+
+// The next bit after bit k that the frame of n days binds: the days may be any.
+fn next_bound(n: u32, k: u32) -> u32
+    requires { ⌜ (n ≤ 380) × (k < 384) ⌝ }
+    ensures { λ r. ⌜ r ≡ nextBound n k ⌝ }
+{
+    if k < 1 {
+        return k + 1;
+    }
+    if k < n + 2 {
+        return n + 2;
+    }
+    k + 1
 }
 
 // Whether bit k may be b in a frame of n days.

@@ -7,7 +7,7 @@ use Prim.Native.Nat.{ℕ, zero, suc, _+_, _-_, _*_, _≤_, _<_, _^_}
 use native.Mathlib.Omega.{arith}
 use native.Mathlib.Nat.{add-sub-cancel-left, mul-assoc, mul-comm, mul-le-mul-right, pow-le-pow-right, pow-suc, one-le-pow}
 use native.Mathlib.Numerals.{add-one}
-use lib.ListN.{length, getD, take, drop, drop-of-length-le, length-drop}
+use lib.ListN.{length, getD, take, drop, drop-of-length-le, length-drop, length-take}
 use lib.Seq.{take-nil, take-all}
 use lib.Dec.{leb, eqb, lit<}
 use borrow.Author.Tests.{eq-eqb, ne-eqb, le-leb, lt-leb}
@@ -207,6 +207,36 @@ module _ (a b w : ℕ) (line p : List ℕ) (e : w ≡ b - (a - 1)) (q : p ≡ ta
   pub count-columns : (t : Bool) → t ≡ count (padTo w p) → t ≡ true → (m : ℕ) (r : Bool) → r ≡ leb (number (padTo w p)) m → r ≡ countTo m (columns a b line)
   count-columns t d y m r z = rw (← (part-columns a b w line p e q), sym d ∙ y) z
 
-pub ruleset parts = (tests, part-none, part-whole, part-short, every-columns, number-columns, no-count, count-columns)
+  -- where the line reaches over them, the part is the columns
+  pub all-columns : (k : Class) (r : Bool) → w ≤ length p → r ≡ every (isOf k) p → r ≡ every (isOf k) (columns a b line)
+  all-columns k r h d =
+      let n : length p ≡ w = rw (q, length-take) (omega (arith, rw (q, length-take) at h)) in
+      d ∙ ap (every (isOf k)) (sym (rw n at (pad-length p)) ∙ part-columns a b w line p e q)
+
+pub ruleset parts = (tests, part-none, part-whole, part-short, every-columns, all-columns, number-columns, no-count, count-columns)
+
+-- ---- the needs of `all_of`, for `search alls`: b was read at place i, and u is what `both` answered
+
+pub all-start : (k : Class) (p : List ℕ) → (true && every (isOf k) (drop 0 p)) ≡ every (isOf k) p
+all-start k p = refl
+
+pub all-again : (p : List ℕ) (i b : ℕ) (k : Class) (all t u r : Bool) → i < length p → b ≡ getD p i 0 → t ≡ isOf k b → u ≡ (all && t)
+    → (all && every (isOf k) (drop i p)) ≡ r → (u && every (isOf k) (drop (i + 1) p)) ≡ r
+unfolding every
+all-again p i b k all t u r h e d y v = rw (y, d) (go all (rw (drop-next p i b h e) at v))
+  where
+    go : (x : Bool) → (x && (isOf k b && every (isOf k) (drop (i + 1) p))) ≡ r → ((x && isOf k b) && every (isOf k) (drop (i + 1) p)) ≡ r
+    go true w = w
+    go false w = w
+
+pub all-done : (p : List ℕ) (i : ℕ) (k : Class) (all r : Bool) → length p ≤ i → (all && every (isOf k) (drop i p)) ≡ r → all ≡ r
+unfolding every
+all-done p i k all r h v = go all (rw (drop-of-length-le p h) at v)
+  where
+    go : (x : Bool) → (x && true) ≡ r → x ≡ r
+    go true w = w
+    go false w = w
+
+pub ruleset alls = (tests, all-start, all-again, all-done)
 
 pub ruleset turns = (tests, every-again, every-out, every-done, count-again, count-out, count-done, number-again, number-done, number-next, number-fits, tens-fit, power)

@@ -1,6 +1,7 @@
 // The columns of a line: its bytes, parts of it, and what the bytes of a field say.
 // A column is one byte, counted from 1; columns past the line's end read as blank (byte 32).
 ghost use mathlib.Core.Path.{_≡_};
+ghost use mathlib.Core.Bool.{_&&_};
 ghost use Prim.Native.Nat.{_-_, _≤_};
 ghost use lib.ListN.{getD, take, drop};
 ghost use lib.Dec.{leb};
@@ -22,6 +23,18 @@ pub fn every_in(line: &[u8], a: usize, b: usize, class: Class) -> bool
     ensures { λ r. ⌜ r ≡ every (isOf class) (columns a b (now (line .entry))) ⌝ }
 {
     every_of(part(line, a, b), width(a, b), class)
+}
+
+// The same, for many columns: each byte is tested, whatever those before it were, so that the machine tests many at once.
+pub fn all_in(line: &[u8], a: usize, b: usize, class: Class) -> bool
+    ensures { λ r. ⌜ r ≡ every (isOf class) (columns a b (now (line .entry))) ⌝ }
+{
+    let p = part(line, a, b);
+    let w = width(a, b);
+    if p.len() < w {
+        return every_of(p, w, class);
+    }
+    all_of(p, class)
 }
 
 // The number that digits or a count say.
@@ -88,6 +101,26 @@ pub fn every_of(p: &[u8], w: usize, class: Class) -> bool
     ensures { λ r. ⌜ r ≡ every (isOf class) (padTo w (now (p .entry))) ⌝ }
 {
     every_from(p, 0, w, class)
+}
+
+// Whether every byte is of the class.
+fn all_of(p: &[u8], class: Class) -> bool
+    ensures { λ r. ⌜ r ≡ every (isOf class) (now (p .entry)) ⌝ }
+{
+    let mut all = true;
+    let mut i = 0;
+    while i < p.len() {
+        all = both(all, is_of(class, p[i]));
+        i += 1;
+    }
+    all
+}
+
+// Without a way out before b is known.
+fn both(a: bool, b: bool) -> bool
+    ensures { λ r. ⌜ r ≡ (a && b) ⌝ }
+{
+    a && b
 }
 
 // Whether every one of the w bytes from place `from` on is of the class.
@@ -187,7 +220,7 @@ pub fn digit_value(b: u8) -> u32
     ensures { λ r. ⌜ r ≡ digitValue b ⌝ }
 {
     match b {
-        b'0'..=b'9' => (b - b'0') as u32,
+        b'0'..=b'9' => b as u32 - b'0' as u32,
         _ => 0,
     }
 }

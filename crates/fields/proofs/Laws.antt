@@ -1,14 +1,14 @@
 -- Laws of fields, as the functions' needs ask them. For callers: `part-read` (a part reads as its columns do). Assumes nothing.
 use mathlib.Core.Path.{_≡_, refl, ap, _∙_, sym}
 use mathlib.Core.List.{List, [], _∷_}
-use mathlib.Core.Bool.{Bool, true, false, cond}
+use mathlib.Core.Bool.{Bool, true, false, cond, _&&_}
 use Prim.Native.Nat.{ℕ, _+_, _-_, _*_, _/_, _%_, _≤_, _<_}
 use lib.ListN.{getD, take, drop}
-use lib.Dec.{lit<}
+use lib.Dec.{eqb, lit<}
 use borrow.Author.Tests.{eq-eqb, ne-eqb, le-leb, lt-leb}
 use Rattle.base.specs.Lists.{every}
-use Rattle.base.proofs.Laws.{tests}
-use Rattle.columns.specs.Columns.{padTo, columns, isDigit, digitValue, isOf, blank, digits, number}
+use Rattle.base.proofs.Laws.{tests, clash}
+use Rattle.columns.specs.Columns.{padTo, columns, isBlank, isDigit, digitValue, isOf, blank, digits, number}
 use Rattle.columns.specs.declared.Class.the-variants.{Digit, Byte}
 use Rattle.columns.proofs.Laws.{pad-take, pad-pad, getD-pad, next-column, no-column, number-next, number-fits, tens-fit, power}
 use Rattle.fields.specs.declared.Hash.{Hash}
@@ -18,6 +18,7 @@ use Rattle.fields.specs.declared.Time.the-variants.{Absent, Stated, NoTi
 use Rattle.fields.specs.declared.RangeEnd.{RangeEnd}
 use Rattle.fields.specs.declared.RangeEnd.the-variants.{Outer, Stop}
 use Rattle.fields.specs.declared.Detail.{Detail}
+use Rattle.fields.specs.declared.Detail.the-variants.{Plain}
 use Rattle.fields.specs.Fields.{blankEnd, hashDigits, afterHash, hash, clock, timeIn, indexBy, rangeEndIn, timedBy, nthBy, detailIn}
 
 -- a reader f of v columns says of a part what it says of the part's columns
@@ -157,4 +158,21 @@ pub detail-read : (p : List ℕ) (h : Hash) (t : Time) (d r : Detail) → h ≡ 
 unfolding detailIn
 detail-read p h t d r eh et ed er = rw (er, ed, et, eh)
 
-pub ruleset readers = (tests, clock-none, clock-late, clock-said, time-absent, time-none, time-plain, time-barred, end-outer, end-stop, end-index, detail-read)
+-- blank columns have no "#"
+blank-hash : (p : List ℕ) → blank p ≡ true → hash p ≡ NoNumber
+unfolding hash every
+blank-hash [] e = refl
+blank-hash (b ∷ p) e = go (isBlank b) e (blank-hash p)
+  where
+    go : (t : Bool) → (t && blank p) ≡ true → (blank p ≡ true → hash p ≡ NoNumber) → cond t (hash p) (cond (eqb b 35) (afterHash p) NoNumber) ≡ NoNumber
+    go true y ih = ih y
+    go false y ih = clash y
+
+-- t says whether all six are blank
+pub detail-blank : (p : List ℕ) (t : Bool) → t ≡ every (isOf (Byte 32)) (padTo 6 p) → t ≡ true → Plain ≡ detailIn (padTo 6 p)
+unfolding detailIn timeIn
+detail-blank p t e y =
+    let z : blank (padTo 6 p) ≡ true = sym e ∙ y in
+    rw (blank-hash (padTo 6 p) z, z)
+
+pub ruleset readers = (detail-blank, tests, clock-none, clock-late, clock-said, time-absent, time-none, time-plain, time-barred, end-outer, end-stop, end-index, detail-read)

@@ -124,6 +124,9 @@ fn index_of(h: Hash) -> RangeEnd
 fn detail_of(p: &[u8]) -> Detail
     ensures { λ r. ⌜ r ≡ detail (now (p .entry)) ⌝ }
 {
+    if columns::every_of(p, 6, Class::Byte(b' ')) {
+        return Detail::Plain;
+    }
     nth_of(hash_of(p, 6), timed_of(time_of(p)))
 }
 

@@ -1,4 +1,5 @@
 pub mod Laws
+pub mod Straight
 pub mod Rules
 pub mod Examples
 pub mod Leftmost

@@ -3,3 +3,4 @@ pub mod Columns
 pub mod Rows
 pub mod Kinds
 pub mod Leftmost
+pub mod Usual

@@ -5,15 +5,17 @@ use fields::Detail;
 use fields::RangeEnd;
 use fields::Time;
 ghost use mathlib.Core.Path.{_≡_};
-ghost use mathlib.Core.Bool.{not, _||_};
+ghost use mathlib.Core.Bool.{true, not, _||_};
 ghost use Prim.Native.Nat.{_-_, _<_};
 ghost use lib.ListN.{getD};
 ghost use Rattle.base.specs.Lists.{every};
 ghost use Rattle.columns.specs.Columns as C;
-ghost use Rattle.columns.specs.Columns.{isOf, blank};
+ghost use Rattle.columns.specs.Columns.{isOf, isBlank, blank};
 ghost use Rattle.forms.specs.Form.{date, isTime, isEnd, isStop, isDetail, detailOf, offsetOf, unnamed, rowForm, formOf};
 ghost use Rattle.forms.specs.Rows.{ruleOf, toOf, rowOf, rowsOf};
-ghost use Rattle.forms.specs.Columns.{columnsOf};
+ghost use Rattle.forms.specs.Columns.{bitFieldColumns, stopColumns, interchangeColumns, columnsOf};
+ghost use Rattle.forms.specs.declared.Form.the-variants.{Fits};
+ghost use Rattle.forms.specs.Usual.{bitFieldFits, stopFits, interchangeFits};
 ghost use Rattle.forms.specs.Kinds.{starred, kindOf};
 
 // Which kind a line of FPLAN is.
@@ -53,6 +55,8 @@ const WITH: u64 = 256;
 
 // To the line's end: no file is longer.
 const END: u64 = 16777216 * TO;
+
+const LONGEST: usize = 16777216;
 
 // The rules.
 const FREE: u64 = 0;
@@ -161,10 +165,8 @@ pub fn kind_of(line: &[u8]) -> Kind
     ensures { λ r. ⌜ r ≡ kindOf (now (line .entry)) ⌝ }
 {
     let a = columns::column_at(line, 1);
-    let b = columns::column_at(line, 2);
-    let c = columns::column_at(line, 3);
     match a {
-        b'*' => starred_kind(b, c),
+        b'*' => starred_kind(columns::column_at(line, 2), columns::column_at(line, 3)),
         b'0'..=b'9' => Kind::Schedule,
         _ => Kind::Other,
     }
@@ -191,6 +193,16 @@ fn starred_kind(b: u8, c: u8) -> Kind
 pub fn line_form(kind: LineKind, line: &[u8]) -> Form
     ensures { λ r. ⌜ r ≡ formOf (columnsOf kind) (now (line .entry)) ⌝ }
 {
+    if usual_form(kind, line) {
+        return Form::Fits;
+    }
+    tabled_form(kind, line)
+}
+
+// By the kind's table.
+fn tabled_form(kind: LineKind, line: &[u8]) -> Form
+    ensures { λ r. ⌜ r ≡ formOf (columnsOf kind) (now (line .entry)) ⌝ }
+{
     match kind {
         LineKind::Date => form_of(line, &DATE_LINE),
         LineKind::BitField => form_of(line, &BIT_FIELD),
@@ -201,6 +213,112 @@ pub fn line_form(kind: LineKind, line: &[u8]) -> Form
         LineKind::Attribute => form_of(line, &ATTRIBUTE),
         LineKind::Schedule => form_of(line, &CALL),
     }
+}
+
+// ---- usual lines of BITFELD, BAHNHOF and UMSTEIGB are tested column by column: with the length known, each test is a few loads at fixed places.
+// Where a test fails, the table of columns says which column is broken. Lines of FPLAN are read so in `told`.
+
+// Whether a line is seen to have the form of a kind without its table.
+fn usual_form(kind: LineKind, line: &[u8]) -> bool
+    ensures { λ r. ⌜ (r ≡ true → formOf (columnsOf kind) (now (line .entry)) ≡ Fits) ⌝ }
+{
+    match kind {
+        LineKind::Date => false,
+        LineKind::BitField => usual_bit_field(line),
+        LineKind::Stop => usual_stop(line),
+        LineKind::Interchange => usual_interchange(line),
+        LineKind::Opening => false,
+        LineKind::Category => false,
+        LineKind::Attribute => false,
+        LineKind::Schedule => false,
+    }
+}
+
+fn usual_bit_field(line: &[u8]) -> bool
+    ensures { λ r. ⌜ (r ≡ true → formOf bitFieldColumns (now (line .entry)) ≡ Fits) ⌝ }
+{
+    if line.len() == 103 {
+        return bit_field_fits(line);
+    }
+    false
+}
+
+fn bit_field_fits(line: &[u8]) -> bool
+    ensures { λ r. ⌜ r ≡ bitFieldFits (now (line .entry)) ⌝ }
+{
+    if columns::every_in(line, 1, 6, Class::Digit) {
+        if blank_at(line, 7) {
+            return columns::all_in(line, 8, 103, Class::Hex);
+        }
+    }
+    false
+}
+
+fn usual_stop(line: &[u8]) -> bool
+    ensures { λ r. ⌜ (r ≡ true → formOf stopColumns (now (line .entry)) ≡ Fits) ⌝ }
+{
+    if line.len() < 13 {
+        return false;
+    }
+    if line.len() <= LONGEST {
+        return stop_fits(line);
+    }
+    false
+}
+
+fn stop_fits(line: &[u8]) -> bool
+    ensures { λ r. ⌜ r ≡ stopFits (now (line .entry)) ⌝ }
+{
+    if columns::every_in(line, 1, 7, Class::Digit) {
+        if blank_at(line, 8) {
+            if blank_at(line, 12) {
+                return is_filled(line, 13, 62);
+            }
+        }
+    }
+    false
+}
+
+fn usual_interchange(line: &[u8]) -> bool
+    ensures { λ r. ⌜ (r ≡ true → formOf interchangeColumns (now (line .entry)) ≡ Fits) ⌝ }
+{
+    if line.len() < 13 {
+        return false;
+    }
+    if line.len() <= LONGEST {
+        return interchange_fits(line);
+    }
+    false
+}
+
+fn interchange_fits(line: &[u8]) -> bool
+    ensures { λ r. ⌜ r ≡ interchangeFits (now (line .entry)) ⌝ }
+{
+    if columns::every_in(line, 1, 7, Class::Digit) {
+        if blank_at(line, 8) {
+            if columns::count_in(line, 9, 10, 60) {
+                if blank_at(line, 11) {
+                    if columns::count_in(line, 12, 13, 99) {
+                        return blank_at(line, 14);
+                    }
+                }
+            }
+        }
+    }
+    false
+}
+
+fn blank_at(line: &[u8], c: usize) -> bool
+    ensures { λ r. ⌜ r ≡ isBlank (C.column c (now (line .entry))) ⌝ }
+{
+    columns::column_at(line, c) == b' '
+}
+
+// Whether columns a to b are not all blank.
+fn is_filled(line: &[u8], a: usize, b: usize) -> bool
+    ensures { λ r. ⌜ r ≡ not (blank (C.columns a b (now (line .entry)))) ⌝ }
+{
+    !columns::every_in(line, a, b, Class::Byte(b' '))
 }
 
 // ---- the form that a table says, row by row
@@ -292,7 +410,7 @@ fn fits_rule(line: &[u8], a: usize, b: usize, k: u64, m: u32) -> bool
         FREE => true,
         DIGITS => columns::every_in(line, a, b, Class::Digit),
         DIGITS_OR_BLANK => blank_or(line, a, b, Class::Digit),
-        HEX_DIGITS => columns::every_in(line, a, b, Class::Hex),
+        HEX_DIGITS => columns::all_in(line, a, b, Class::Hex),
         NOT_ALL_BLANK => !columns::every_in(line, a, b, Class::Byte(b' ')),
         FIRST_NOT_BLANK => first_filled(line, a, b),
         NON_BLANK => columns::every_in(line, a, b, Class::Filled),
@@ -320,7 +438,7 @@ fn blank_or(line: &[u8], a: usize, b: usize, class: Class) -> bool
 }
 
 // Whether the first of the columns is not blank.
-fn first_filled(line: &[u8], a: usize, b: usize) -> bool
+pub fn first_filled(line: &[u8], a: usize, b: usize) -> bool
     ensures { λ r. ⌜ r ≡ not (C.isBlank (getD (C.columns a b (now (line .entry))) 0 32)) ⌝ }
 {
     columns::byte_at(columns::part(line, a, b), 0) != b' '
@@ -360,7 +478,7 @@ fn fits_detail(line: &[u8], a: usize, b: usize, c: u32) -> bool
 }
 
 // The offset beside the repeats in the three columns from column c.
-fn fits_offset(line: &[u8], a: usize, b: usize, c: u32) -> bool
+pub fn fits_offset(line: &[u8], a: usize, b: usize, c: u32) -> bool
     requires { ⌜ c < 256 ⌝ }
     ensures { λ r. ⌜ r ≡ offsetOf c (now (line .entry)) (C.columns a b (now (line .entry))) ⌝ }
 {
@@ -388,7 +506,7 @@ fn is_time(t: Time) -> bool
     }
 }
 
-fn is_end(e: RangeEnd) -> bool
+pub fn is_end(e: RangeEnd) -> bool
     ensures { λ r. ⌜ r ≡ isEnd e ⌝ }
 {
     match e {
@@ -399,7 +517,7 @@ fn is_end(e: RangeEnd) -> bool
     }
 }
 
-fn is_stop(e: RangeEnd) -> bool
+pub fn is_stop(e: RangeEnd) -> bool
     ensures { λ r. ⌜ r ≡ isStop e ⌝ }
 {
     match e {
@@ -410,7 +528,7 @@ fn is_stop(e: RangeEnd) -> bool
     }
 }
 
-fn is_detail(d: Detail) -> bool
+pub fn is_detail(d: Detail) -> bool
     ensures { λ r. ⌜ r ≡ isDetail d ⌝ }
 {
     match d {

@@ -1,15 +1,16 @@
 -- The first LF of a text, the piece before it and the pieces after it, and the needs of the functions of src. Assumes nothing.
 use mathlib.Core.Path.{_≡_, refl, ap, sym, _∙_}
 use mathlib.Core.List.{List, [], _∷_}
-use mathlib.Core.Bool.{Bool, true, false, cond}
-use Prim.Native.Nat.{ℕ, suc, _+_, _-_, _≤_, _<_}
+use mathlib.Core.Bool.{Bool, true, false, cond, not, _&&_}
+use Prim.Native.Nat.{ℕ, zero, suc, _+_, _-_, _≤_, _<_}
 use native.Mathlib.Numerals.{add-one}
 use native.Mathlib.Omega.{arith}
+use native.Mathlib.Decide.{decLt}
 use lib.ListN.{length, getD, take, drop, drop-of-length-le, length-drop}
-use lib.Seq.{drop-cons, getD-drop, getD-take, length-take-le, take-all}
-use lib.Dec.{eqb, lit≤}
-use borrow.Author.Tests.{eq-eqb, ne-eqb, eqb-true}
-use Rattle.base.proofs.Laws.{tests}
+use lib.Seq.{drop-cons, drop-drop, getD-drop, getD-take, length-take-le, take-all}
+use lib.Dec.{eqb, leb, lit≤}
+use borrow.Author.Tests.{eq-eqb, ne-eqb, eqb-true, le-leb, lt-leb, leb-true}
+use Rattle.base.proofs.Laws.{tests, by-eqb, by-leb}
 use Rattle.base.specs.Lists.{every}
 use Rattle.columns.specs.Columns.{column, padTo, isOf}
 use Rattle.columns.specs.declared.Class.the-variants.{Byte}
@@ -49,6 +50,28 @@ toLF-is (b ∷ s) h = go (eqb b 10) refl h (toLF-is s)
     go : (t : Bool) → eqb b 10 ≡ t → cond t 0 (suc (toLF s)) < suc (length s) → (toLF s < length s → getD s (toLF s) 0 ≡ 10) → getD (b ∷ s) (cond t 0 (suc (toLF s))) 0 ≡ 10
     go true e l ih = eqb-true b 10 e
     go false e l ih = ih (omega arith)
+
+-- an LF is no later than any that is seen
+toLF-before : (s : List ℕ) (k : ℕ) → k < length s → getD s k 0 ≡ 10 → toLF s ≤ k
+unfolding toLF
+toLF-before [] k h e = absurd (omega arith)
+toLF-before (b ∷ s) zero h e = rw (eq-eqb b 10 e) (omega arith)
+toLF-before (b ∷ s) (suc k) h e = go (eqb b 10) (toLF-before s k (omega arith) e)
+  where
+    go : (t : Bool) → toLF s ≤ k → cond t 0 (suc (toLF s)) ≤ suc k
+    go true v = omega arith
+    go false v = omega arith
+
+-- bytes before it may be passed over
+toLF-past : (s : List ℕ) (n : ℕ) → n ≤ toLF s → n + toLF (drop n s) ≡ toLF s
+unfolding toLF
+toLF-past s zero h = omega arith
+toLF-past [] (suc n) h = absurd (omega arith)
+toLF-past (b ∷ s) (suc n) h = go (eqb b 10) h (toLF-past s n)
+  where
+    go : (t : Bool) → suc n ≤ cond t 0 (suc (toLF s)) → (n ≤ toLF s → n + toLF (drop n s) ≡ toLF s) → suc n + toLF (drop n s) ≡ cond t 0 (suc (toLF s))
+    go true v ih = absurd (omega arith)
+    go false v ih = omega (arith, ih (omega arith))
 
 -- ---- the first piece, and the rest
 
@@ -94,7 +117,51 @@ noCR-take p = go (eqb (getD p (length p - 1) 0) 13)
     go true = let e : length (take (length p - 1) p) ≡ length p - 1 = length-take-le (length p - 1) p (omega arith) in (rw e refl, omega arith)
     go false = (sym (take-all (length p) p (omega arith)), omega arith)
 
--- ---- the needs of `piece_end`, `before_cr` and `line_at`, for `search cuts`
+-- ---- the needs of `past_blocks`, `past_half` and `no_lf`, for `search blocks`
+
+module _ (f : List ℕ) (at : ℕ) where
+  pub none-first : true ≡ leb 0 (toLF (drop at f))
+  none-first = sym (le-leb 0 (toLF (drop at f)) (omega arith))
+
+  -- b was read at i, after i bytes
+  pub none-again : (i n b : ℕ) (none r : Bool) → at + n ≤ length f → i < n → b ≡ getD f (at + i) 0 → r ≡ (not (eqb b 10) && none)
+      → none ≡ leb i (toLF (drop at f)) → r ≡ leb (i + 1) (toLF (drop at f))
+  none-again i n b none r h l e s v =
+      s ∙ by-eqb (λ t. (not t && none) ≡ leb (i + 1) (toLF (drop at f))) b 10
+      (λ t. sym (lt-leb (i + 1) (toLF (drop at f)) (omega (arith, toLF-before (drop at f) i inside (here ∙ t)))))
+      (λ t. v ∙ by-leb (λ x. x ≡ leb (i + 1) (toLF (drop at f))) i (toLF (drop at f))
+      (λ k. sym (le-leb (i + 1) (toLF (drop at f)) (further t k)))
+      (λ k. sym (lt-leb (i + 1) (toLF (drop at f)) (omega arith))))
+    where
+      inside : i < length (drop at f)
+      inside = simp length-drop (omega arith)
+
+      here : getD (drop at f) i 0 ≡ b
+      here = getD-drop at f i 0 ∙ sym e
+
+      further : (b ≡ 10 → ⊥) → i ≤ toLF (drop at f) → i + 1 ≤ toLF (drop at f)
+      further t k = elim (decLt i (toLF (drop at f))) [
+        | yes x ↦ omega arith
+        | no x ↦ let same : toLF (drop at f) ≡ i = omega arith in
+            absurd (t (sym here ∙ ap (λ (k : ℕ). getD (drop at f) k 0) (sym same) ∙ toLF-is (drop at f) (omega (arith, inside))))
+      ]
+
+  -- i is where the loop stands
+  pub none-done : (i n : ℕ) (none : Bool) → n ≤ i → i ≤ n → none ≡ leb i (toLF (drop at f)) → none ≡ leb n (toLF (drop at f))
+  none-done i n none h l v = let e : i ≡ n = omega arith in rw e at v
+
+  pub past-block : (n : ℕ) (t : Bool) → t ≡ leb n (toLF (drop at f)) → t ≡ true → at + n + toLF (drop (at + n) f) ≡ at + toLF (drop at f)
+  past-block n t e v =
+      let w : n + toLF (drop n (drop at f)) ≡ toLF (drop at f) = toLF-past (drop at f) n (leb-true n (toLF (drop at f)) (sym e ∙ v)) in
+      omega (arith, rw (drop-drop n at f) at w)
+
+  -- m is the place that is sought
+  pub block-again : (n m : ℕ) (t : Bool) → t ≡ leb n (toLF (drop at f)) → t ≡ true → at + toLF (drop at f) ≡ m → at + n + toLF (drop (at + n) f) ≡ m
+  block-again n m t e v w = past-block n t e v ∙ w
+
+pub ruleset blocks = (tests, none-first, none-again, none-done, past-block, block-again)
+
+-- ---- the needs of `first_lf`, `before_cr` and `line_at`, for `search cuts`
 
 module _ (f : List ℕ) (i n : ℕ) where
   pub end-again : i < length f → (getD f i 0 ≡ 10 → ⊥) → i + toLF (drop i f) ≡ n → i + 1 + toLF (drop (i + 1) f) ≡ n

@@ -1,7 +1,9 @@
 // Walks a file line by line, by place and line number, without copying: a line is the part of its file from a place to a stop.
 ghost use mathlib.Core.Path.{_≡_};
+ghost use mathlib.Core.Bool.{not, _&&_};
 ghost use Prim.Native.Nat.{_+_, _-_, _≤_, _<_};
 ghost use lib.ListN.{length, take, drop};
+ghost use lib.Dec.{eqb, leb};
 ghost use Rattle.lines.specs.Lines.{noCR, toLF, pastLF, cutAt, skipped};
 use columns::Class;
 
@@ -38,8 +40,77 @@ pub fn skips(line: &[u8]) -> bool
     columns::every_of(line, line.len(), Class::Byte(b' '))
 }
 
+// ---- the first LF. A block whose bytes are all tested, with no way out between them, is tested by the machine at once.
+
+const BLOCK: usize = 16;
+
+const HALF_BLOCK: usize = 8;
+
 // The place of the first LF at or after `at`, or the file's length.
 fn piece_end(file: &[u8], at: usize) -> usize
+    requires { ⌜ at ≤ length (now file) ⌝ }
+    ensures { λ r. ⌜ r ≡ at + toLF (drop at (now (file .entry))) ⌝ }
+{
+    let block = past_blocks(file, at);
+    let half = past_half(file, block);
+    first_lf(file, half)
+}
+
+// The place past the blocks from `at` on that hold no LF: what is sought is the same from there.
+fn past_blocks(file: &[u8], at: usize) -> usize
+    requires { ⌜ at ≤ length (now file) ⌝ }
+    ensures { λ r. ⌜ (r ≤ length (now (file .entry))) × (r + toLF (drop r (now (file .entry))) ≡ at + toLF (drop at (now (file .entry)))) ⌝ }
+{
+    let mut i = at;
+    while BLOCK <= file.len() - i {
+        if no_lf(file, i, BLOCK) {
+            i += BLOCK;
+        } else {
+            return i;
+        }
+    }
+    i
+}
+
+// The same of half a block.
+fn past_half(file: &[u8], at: usize) -> usize
+    requires { ⌜ at ≤ length (now file) ⌝ }
+    ensures { λ r. ⌜ (r ≤ length (now (file .entry))) × (r + toLF (drop r (now (file .entry))) ≡ at + toLF (drop at (now (file .entry)))) ⌝ }
+{
+    if HALF_BLOCK <= file.len() - at {
+        if no_lf(file, at, HALF_BLOCK) {
+            return at + HALF_BLOCK;
+        }
+    }
+    at
+}
+
+// Whether the n bytes from `at` on hold no LF.
+fn no_lf(file: &[u8], at: usize, n: usize) -> bool
+    requires { ⌜ at + n ≤ length (now file) ⌝ }
+    ensures { λ r. ⌜ r ≡ leb n (toLF (drop at (now (file .entry)))) ⌝ }
+{
+    let mut none = true;
+    let mut i = 0;
+    while i < n {
+        none = none_with(none, file[at + i]);
+        i += 1;
+    }
+    none
+}
+
+// Whether there is still none with one byte more.
+fn none_with(none: bool, b: u8) -> bool
+    ensures { λ r. ⌜ r ≡ (not (eqb b 10) && none) ⌝ }
+{
+    if b == b'\n' {
+        return false;
+    }
+    none
+}
+
+// The place of the first LF at or after `at`, byte by byte.
+fn first_lf(file: &[u8], at: usize) -> usize
     requires { ⌜ at ≤ length (now file) ⌝ }
     ensures { λ r. ⌜ r ≡ at + toLF (drop at (now (file .entry))) ⌝ }
 {

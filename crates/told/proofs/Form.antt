@@ -15,6 +15,7 @@ use Rattle.fields.specs.declared.Time.{Time}
 use Rattle.forms.specs.Form.{Row, fits, formOf, isFit, before, named, strayFrom, unnamed, rowForm, formFrom}
 use Rattle.forms.specs.Form as Fm
 use Rattle.forms.specs.Columns.{callColumns}
+use Rattle.forms.proofs.Straight.{and-one, end-fit, fit, step-gap, step-next}
 use Rattle.forms.specs.declared.Form.{Form}
 use Rattle.forms.specs.declared.Form.the-variants.{Fits, Broken as BrokenForm}
 use Rattle.timetable.specs.Layout.{mostFileBytes}
@@ -46,62 +47,6 @@ pub byte-test : (x v m : ℕ) → x ≡ v → eqb x m ≡ eqb v m
 byte-test x v m e = rw e
 
 -- ---- the form of schedule lines, column by column
-
-fit-before : (f g : Form) → isFit (before f g) ≡ (isFit f && isFit g)
-fit-before Fits g = refl
-fit-before (BrokenForm c) g = refl
-
-fit-named : (a : ℕ) (t : Bool) → isFit (named a t) ≡ t
-fit-named a true = refl
-fit-named a false = refl
-
--- one column that no field names, and none
-one-gap : (c e : ℕ) (l : List ℕ) → e - c ≡ 1 → isFit (unnamed c e l) ≡ isBlank (getD l c 32)
-unfolding unnamed strayFrom
-one-gap c e l h = rw h (go (drop c l) ∙ ap isBlank (at c l))
-  where
-    bit : (b : Bool) → isFit (cond b Fits (BrokenForm (c + 1))) ≡ b
-    bit true = refl
-    bit false = refl
-
-    go : (m : List ℕ) → isFit (strayFrom (c + 1) 1 m) ≡ isBlank (getD m 0 32)
-    go [] = refl
-    go (b ∷ m) = bit (isBlank b)
-
-    at : (i : ℕ) (l : List ℕ) → getD (drop i l) 0 32 ≡ getD l i 32
-    at zero l = refl
-    at (suc i) [] = refl
-    at (suc i) (b ∷ l) = at i l
-
-no-gap : (c e : ℕ) (l : List ℕ) → e - c ≡ 0 → isFit (unnamed c e l) ≡ true
-unfolding unnamed strayFrom
-no-gap c e l h = rw h
-
-row-fit : (c : ℕ) (x : Row) (xs : List Row) (l : List ℕ) → isFit (formFrom c (x ∷ xs) l) ≡ (isFit (unnamed c (x .from - 1) l) && (x .rule l (columns (x .from) (x .to) l) && isFit (formFrom (x .to) xs l)))
-unfolding formFrom rowForm
-row-fit c x xs l = rw (fit-before, fit-before, fit-named) (assoc (isFit (unnamed c (x .from - 1) l)) (x .rule l (columns (x .from) (x .to) l)) (isFit (formFrom (x .to) xs l)))
-  where
-    assoc : (a b d : Bool) → ((a && b) && d) ≡ (a && (b && d))
-    assoc true b d = refl
-    assoc false b d = refl
-
-end-fit : (c : ℕ) (l : List ℕ) → length l ≤ c → isFit (formFrom c [] l) ≡ true
-unfolding formFrom
-end-fit c l h = no-gap c (length l) l (omega arith)
-
-module _ (c : ℕ) (x : Row) (xs : List Row) (l : List ℕ) where
-  abbrev asked : Bool
-  asked = x .rule l (columns (x .from) (x .to) l)
-
-  step-gap : (y : Bool) → x .from - 1 - c ≡ 1 → isFit (formFrom (x .to) xs l) ≡ y → isFit (formFrom c (x ∷ xs) l) ≡ (isBlank (getD l c 32) && (asked && y))
-  step-gap y h e = rw (row-fit, one-gap c (x .from - 1) l h, e)
-
-  step-next : (y : Bool) → x .from - 1 - c ≡ 0 → isFit (formFrom (x .to) xs l) ≡ y → isFit (formFrom c (x ∷ xs) l) ≡ (asked && y)
-  step-next y h e = rw (row-fit, no-gap c (x .from - 1) l h, e)
-
-and-one : (b : Bool) → (b && true) ≡ b
-and-one true = refl
-and-one false = refl
 
 abbrev r9 : List Row
 r9 = Fm.fromColumn 60 Fm.free ∷ []
@@ -147,10 +92,6 @@ call-fits l h =
     (step-gap 35 (Fm.columns 37 42 Fm.time) r5 l _ refl (tail-fits l h))))
 
 -- ---- for `search usual`: a and d are a line's times, t what its columns 43 to 59 say, f whether all its columns fit
-
-fit : (g : Form) → isFit g ≡ true → g ≡ Fits
-fit Fits e = refl
-fit (BrokenForm c) e = clash e
 
 module _ (l : List ℕ) (a d : Time) (t f : Bool) (h : length l ≤ mostFileBytes) (ea : a ≡ time (columns 30 35 l)) (ed : d ≡ time (columns 37 42 l)) (et : t ≡ tailFits l) (ef : f ≡ headFits l a d t) where
   same : fits callColumns l ≡ f

@@ -25,6 +25,7 @@ ghost use Rattle.forms.specs.Kinds.{kindOf};
 ghost use Rattle.timetable.specs.Plan.{twoBytes, threeBytes, openingIn, categoryIn, attributePart, attributeIn, minutesOf, flagsOf, callIn, formed, toldBy, toldIn, isOpening};
 ghost use Rattle.timetable.specs.Layout.{mostFileBytes};
 ghost use Rattle.timetable.specs.declared.Told.the-variants.{Opens, Ranges, Calls};
+ghost use Rattle.told.specs.Marked.{openingFits, repeatsFit, blankToEnd, endsFit, detailsFit, detailFits, fieldFits};
 ghost use Rattle.told.specs.Calls.{headFits, tailFits, endFits, callWith};
 
 // "VE" as two bytes: operating days.
@@ -74,13 +75,71 @@ fn is_opening(kind: Kind) -> bool
 
 // ---- *Z
 
+// A line that reaches column 59, and is no longer than a file, is tested column by column: with the length known, each test is a few loads at
+// fixed places. Where a test fails, the table of columns says which column is broken. So with *G, *A and schedule lines.
 fn opening_told(text: &[u8]) -> Told
+    ensures { λ r. ⌜ r ≡ formed (formOf serviceColumns (now (text .entry))) (Opens (openingIn (now (text .entry)))) ⌝ }
+{
+    if text.len() < 59 {
+        return tabled_opening(text);
+    }
+    if timetable::MOST_FILE_BYTES < text.len() {
+        return tabled_opening(text);
+    }
+    if opening_fits(text) {
+        return Told::Opens(opening_in(text));
+    }
+    tabled_opening(text)
+}
+
+// By the table of columns.
+fn tabled_opening(text: &[u8]) -> Told
     ensures { λ r. ⌜ r ≡ formed (formOf serviceColumns (now (text .entry))) (Opens (openingIn (now (text .entry)))) ⌝ }
 {
     match forms::line_form(LineKind::Opening, text) {
         Form::Fits => Told::Opens(opening_in(text)),
         Form::Broken(column) => Told::Broken(column),
     }
+}
+
+// Columns 4 to 22, and then the rest.
+fn opening_fits(text: &[u8]) -> bool
+    ensures { λ r. ⌜ r ≡ openingFits (now (text .entry)) ⌝ }
+{
+    if columns::every_in(text, 4, 8, Class::Digit) {
+        if blank_at(text, 9) {
+            if columns::every_in(text, 10, 15, Class::Filled) {
+                if columns::every_in(text, 16, 22, Class::Byte(b' ')) {
+                    return repeats_fit(text);
+                }
+            }
+        }
+    }
+    false
+}
+
+// Columns 23 to 59.
+fn repeats_fit(text: &[u8]) -> bool
+    ensures { λ r. ⌜ r ≡ repeatsFit (now (text .entry)) ⌝ }
+{
+    if blank_or(text, 23, 25, Class::Digit) {
+        if blank_at(text, 26) {
+            if forms::fits_offset(text, 27, 29, 23) {
+                return blank_to_end(text, 30);
+            }
+        }
+    }
+    false
+}
+
+// Columns c to 58 are blank, and column 59 is "%".
+fn blank_to_end(text: &[u8], c: usize) -> bool
+    ensures { λ r. ⌜ r ≡ blankToEnd c (now (text .entry)) ⌝ }
+{
+    if columns::all_in(text, c, 58, Class::Byte(b' ')) {
+        return columns::every_in(text, 59, 59, Class::Byte(b'%'));
+    }
+    false
 }
 
 fn opening_in(text: &[u8]) -> Opening
@@ -100,10 +159,35 @@ fn opening_in(text: &[u8]) -> Opening
 fn category_told(text: &[u8]) -> Told
     ensures { λ r. ⌜ r ≡ formed (formOf categoryColumns (now (text .entry))) (Ranges (categoryIn (now (text .entry)))) ⌝ }
 {
+    if text.len() < 59 {
+        return tabled_category(text);
+    }
+    if timetable::MOST_FILE_BYTES < text.len() {
+        return tabled_category(text);
+    }
+    usual_category(text)
+}
+
+// By the table of columns.
+fn tabled_category(text: &[u8]) -> Told
+    ensures { λ r. ⌜ r ≡ formed (formOf categoryColumns (now (text .entry))) (Ranges (categoryIn (now (text .entry)))) ⌝ }
+{
     match forms::line_form(LineKind::Category, text) {
         Form::Fits => Told::Ranges(category_in(text)),
         Form::Broken(column) => Told::Broken(column),
     }
+}
+
+fn usual_category(text: &[u8]) -> Told
+    requires { ⌜ length (now text) ≤ mostFileBytes ⌝ }
+    ensures { λ r. ⌜ r ≡ formed (formOf categoryColumns (now (text .entry))) (Ranges (categoryIn (now (text .entry)))) ⌝ }
+{
+    let range = category_in(text);
+    let ends = range.ends;
+    if ends_fit(text, 6, ends, details_fit(text, 23, ends)) {
+        return Told::Ranges(range);
+    }
+    tabled_category(text)
 }
 
 fn category_in(text: &[u8]) -> RangeLine
@@ -130,10 +214,47 @@ fn category_in(text: &[u8]) -> RangeLine
 fn attribute_told(text: &[u8]) -> Told
     ensures { λ r. ⌜ r ≡ formed (formOf attributeColumns (now (text .entry))) (Ranges (attributeIn (now (text .entry)))) ⌝ }
 {
+    if text.len() < 59 {
+        return tabled_attribute(text);
+    }
+    if timetable::MOST_FILE_BYTES < text.len() {
+        return tabled_attribute(text);
+    }
+    usual_attribute(text)
+}
+
+// By the table of columns.
+fn tabled_attribute(text: &[u8]) -> Told
+    ensures { λ r. ⌜ r ≡ formed (formOf attributeColumns (now (text .entry))) (Ranges (attributeIn (now (text .entry)))) ⌝ }
+{
     match forms::line_form(LineKind::Attribute, text) {
         Form::Fits => Told::Ranges(attribute_in(text)),
         Form::Broken(column) => Told::Broken(column),
     }
+}
+
+fn usual_attribute(text: &[u8]) -> Told
+    requires { ⌜ length (now text) ≤ mostFileBytes ⌝ }
+    ensures { λ r. ⌜ r ≡ formed (formOf attributeColumns (now (text .entry))) (Ranges (attributeIn (now (text .entry)))) ⌝ }
+{
+    let range = attribute_in(text);
+    let ends = range.ends;
+    if ends_fit(text, 5, ends, field_fits(text, details_fit(text, 29, ends))) {
+        return Told::Ranges(range);
+    }
+    tabled_attribute(text)
+}
+
+// Columns 22 to 28, and then the rest.
+fn field_fits(text: &[u8], rest: bool) -> bool
+    ensures { λ r. ⌜ r ≡ fieldFits (now (text .entry)) rest ⌝ }
+{
+    if blank_at(text, 22) {
+        if blank_or(text, 23, 28, Class::Digit) {
+            return rest;
+        }
+    }
+    false
 }
 
 fn attribute_in(text: &[u8]) -> RangeLine
@@ -162,10 +283,65 @@ fn attribute_part(code: u32) -> Part
     if code == VE { Part::Days } else { Part::Extra }
 }
 
+// ---- the ends of a range that were read from a line
+
+// The name in columns 4 to c and the two ends after it, and then the rest.
+fn ends_fit(text: &[u8], c: usize, ends: Ends, rest: bool) -> bool
+    requires { ⌜ c ≤ 100 ⌝ }
+    ensures { λ r. ⌜ r ≡ endsFit c (now (text .entry)) ends rest ⌝ }
+{
+    let from = ends.from;
+    let to = ends.to;
+    let start = from.place;
+    let stop = to.place;
+    if forms::first_filled(text, 4, c) {
+        if blank_at(text, c + 1) {
+            if forms::is_end(start) {
+                if blank_at(text, c + 9) {
+                    if forms::is_end(stop) {
+                        return rest;
+                    }
+                }
+            }
+        }
+    }
+    false
+}
+
+// Column c and the two details after it, and the line's end.
+fn details_fit(text: &[u8], c: usize, ends: Ends) -> bool
+    requires { ⌜ c ≤ 100 ⌝ }
+    ensures { λ r. ⌜ r ≡ detailsFit c (now (text .entry)) ends ⌝ }
+{
+    let from = ends.from;
+    let to = ends.to;
+    if blank_at(text, c) {
+        if detail_fits(from) {
+            if blank_at(text, c + 7) {
+                if detail_fits(to) {
+                    return blank_to_end(text, c + 14);
+                }
+            }
+        }
+    }
+    false
+}
+
+// "With no stop number it is not read and may hold anything."
+fn detail_fits(end: End) -> bool
+    ensures { λ r. ⌜ r ≡ detailFits end ⌝ }
+{
+    let place = end.place;
+    let detail = end.detail;
+    if forms::is_stop(place) {
+        return forms::is_detail(detail);
+    }
+    true
+}
+
 // ---- schedule lines
 
-// Nearly all lines of FPLAN are of this kind. One that reaches column 59, and is no longer than a file, is tested column by column: with the
-// length known, each test is a few loads at fixed places. Where a test fails, the table of columns says which column is broken.
+// Nearly all lines of FPLAN are of this kind.
 fn call_told(text: &[u8]) -> Told
     ensures { λ r. ⌜ r ≡ formed (formOf callColumns (now (text .entry))) (Calls (callIn (now (text .entry)))) ⌝ }
 {

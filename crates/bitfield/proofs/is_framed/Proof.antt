@@ -22,8 +22,8 @@ bit-of-requires c κs = search frames
 fits-frame-requires : tie.Need-fits-frame-requires Inv-loop μ-loop
 fits-frame-requires c κs = search frames
 
-add-k : tie.Need-add-k Inv-loop μ-loop
-add-k c = search frames
+next-bound-requires : tie.Need-next-bound-requires Inv-loop μ-loop
+next-bound-requires c κs = search frames
 
 loop-less : tie.Need-loop-less Inv-loop μ-loop
 loop-less c = search frames
@@ -46,7 +46,7 @@ is-framed-spec =
     loop-holds
     bit-of-requires
     fits-frame-requires
-    add-k
+    next-bound-requires
     loop-less
     loop-again
     returns

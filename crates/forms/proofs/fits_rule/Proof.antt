@@ -10,17 +10,17 @@ every-in-requires c κs = search tests
 blank-or-requires : tie.Need-blank-or-requires
 blank-or-requires c κs = search tests
 
+all-in-requires : tie.Need-all-in-requires
+all-in-requires c κs = search tests
+
 every-in-requires-2 : tie.Need-every-in-requires-2
 every-in-requires-2 c κs = search tests
-
-every-in-requires-3 : tie.Need-every-in-requires-3
-every-in-requires-3 c κs = search tests
 
 first-filled-requires : tie.Need-first-filled-requires
 first-filled-requires c κs = search tests
 
-every-in-requires-4 : tie.Need-every-in-requires-4
-every-in-requires-4 c κs = search tests
+every-in-requires-3 : tie.Need-every-in-requires-3
+every-in-requires-3 c κs = search tests
 
 blank-or-requires-2 : tie.Need-blank-or-requires-2
 blank-or-requires-2 c κs = search tests
@@ -58,8 +58,8 @@ blank-or-requires-3 c κs = search tests
 cast-t18 : tie.Need-cast-t18
 cast-t18 c = search tests
 
-every-in-requires-5 : tie.Need-every-in-requires-5
-every-in-requires-5 c κs = search tests
+every-in-requires-4 : tie.Need-every-in-requires-4
+every-in-requires-4 c κs = search tests
 
 returns : tie.Need-returns
 unfolding ruleOf
@@ -79,7 +79,7 @@ returns-4 c = search (tests, c .before .match .keys4)
 
 returns-5 : tie.Need-returns-5
 unfolding ruleOf
-returns-5 c = search (tests, c .before .match .keys5, ← (c .every-in3 .ensures))
+returns-5 c = search (tests, c .before .match .keys5, ← (c .every-in2 .ensures))
 
 returns-6 : tie.Need-returns-6
 unfolding ruleOf
@@ -131,10 +131,10 @@ fits-rule-spec =
     (tie.spec
     every-in-requires
     blank-or-requires
+    all-in-requires
     every-in-requires-2
-    every-in-requires-3
     first-filled-requires
-    every-in-requires-4
+    every-in-requires-3
     blank-or-requires-2
     count-in-requires
     fits-date-requires
@@ -147,7 +147,7 @@ fits-rule-spec =
     cast-t16
     blank-or-requires-3
     cast-t18
-    every-in-requires-5
+    every-in-requires-4
     returns
     returns-2
     returns-3

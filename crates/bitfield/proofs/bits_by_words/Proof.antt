@@ -1,8 +1,8 @@
 use Prim.Native.Nat.{_-_}
 use Rattle.bitfield.proofs.Fill.{Filled}
 use Rattle.bitfield.proofs.Hex.{wordIn, words}
-use Rattle.bitfield.proofs.bits_in.Statement.{statement}
-use Rattle.bitfield.proofs.bits_in.Tie as tie
+use Rattle.bitfield.proofs.bits_by_words.Statement.{statement}
+use Rattle.bitfield.proofs.bits_by_words.Tie as tie
 
 abbrev Inv-loop : tie.InvT-loop
 Inv-loop line r₀ i₀ r i = Filled (wordIn line) r i
@@ -49,8 +49,8 @@ loop-again c = search words
 returns : tie.Need-returns Inv-loop μ-loop
 returns c = search words
 
-pub bits-in-spec : {M : Type 1} → statement M
-bits-in-spec =
+pub bits-by-words-spec : {M : Type 1} → statement M
+bits-by-words-spec =
     tie.close
     (tie.spec
     Inv-loop

@@ -4,8 +4,8 @@ use Prim.Native.Nat.{_+_, _-_}
 use lib.ListN.{length, drop}
 use Rattle.lines.specs.Lines.{toLF}
 use Rattle.lines.proofs.Pieces.{cuts}
-use Rattle.lines.proofs.piece_end.Statement.{statement}
-use Rattle.lines.proofs.piece_end.Tie as tie
+use Rattle.lines.proofs.first_lf.Statement.{statement}
+use Rattle.lines.proofs.first_lf.Tie as tie
 
 abbrev Inv-loop : tie.InvT-loop
 Inv-loop file at i₀ i = i + toLF (drop i file) ≡ at + toLF (drop at file)
@@ -34,8 +34,8 @@ loop-again c = search cuts
 returns-2 : tie.Need-returns-2 Inv-loop μ-loop
 returns-2 c = search cuts
 
-pub piece-end-spec : {M : Type 1} → statement M
-piece-end-spec =
+pub first-lf-spec : {M : Type 1} → statement M
+first-lf-spec =
     tie.close
     (tie.spec
     Inv-loop
