@@ -5,8 +5,8 @@
  * The rules, and the numbers of the refusals, are those of documents 01 and 02; docs/REFUSALS.md tells them to people.
  *
  * What the caller owes: each pointer is good for its length, given in items (bytes or 32-bit words), and aligned as its type is; it may be null
- * where that length is 0. The words that a call writes (table of a load, rows of a walk, result of arithmetic) overlap none of its other
- * arguments.
+ * where that length is 0. The words that a call writes (table and helper of a load, rows of a walk, result of arithmetic) overlap none of its
+ * other arguments.
  * Nothing else: any bytes, any words and any numbers may be given, and have exactly one answer.
  *
  * A call writes into the words lent to it and nowhere else. It keeps nothing: no pointer, no memory, no state between calls. So calls may run
@@ -23,10 +23,10 @@ extern "C" {
 #endif
 
 typedef struct EstelunyaLoadResult {
-    uint32_t number; /* 0: accepted; else the refusal, 1 to 20 */
-    uint32_t file;   /* 1 ECKDATEN, 2 BITFELD, 3 BAHNHOF, 4 UMSTEIGB, 5 FPLAN; 0 if accepted, and for 20 */
-    uint32_t line;   /* the line, counted from 1; 0 if accepted, and for 1 and 20 */
-    uint32_t words;  /* accepted: the words used; 20: the words needed; else 0 */
+    uint32_t number; /* 0: accepted; else the refusal, 1 to 20 or 51 */
+    uint32_t file;   /* 1 ECKDATEN, 2 BITFELD, 3 BAHNHOF, 4 UMSTEIGB, 5 FPLAN; 0 if accepted, and for 20 and 51 */
+    uint32_t line;   /* the line, counted from 1; 0 if accepted, and for 1, 20 and 51 */
+    uint32_t words;  /* accepted: the words used; 20: the words needed; 51: the helper words needed; else 0 */
     size_t column;   /* 4: the column, counted from 1, where the leftmost field or unnamed column that breaks the form starts; else 0 */
 } EstelunyaLoadResult;
 
@@ -123,6 +123,10 @@ typedef struct EstelunyaDayCountResult {
 #define ESTELUNYA_ROW_FIRST_TIME_AT 5  /* the stop's interchange time for two classes that are both 0, 1 or 2 */
 #define ESTELUNYA_ROW_SECOND_TIME_AT 6 /* the stop's interchange time for all other classes */
 
+/* Helper words of a load: these, and so many for each line of BITFELD, BAHNHOF and UMSTEIGB. */
+#define ESTELUNYA_HELPER_HEAD_WORDS 64
+#define ESTELUNYA_HELPER_LINE_WORDS 4
+
 /* The calls that a service has at most, and words that are enough for every walk. */
 #define ESTELUNYA_MOST_CALLS 200
 #define ESTELUNYA_MOST_ROW_WORDS (ESTELUNYA_MOST_CALLS * ESTELUNYA_ROW_WORDS)
@@ -139,6 +143,11 @@ typedef struct EstelunyaDayCountResult {
  * Accepted: the first `words` words of `table` are the table, and the words after them hold what they held. Refused: all words of `table` hold
  * what they held, also for 20, which comes last: a delivery that is right needs so many words, and was lent fewer.
  *
+ * `helper` are words to work in: HELPER_HEAD_WORDS, and HELPER_LINE_WORDS for each line of BITFELD, BAHNHOF and UMSTEIGB. Every LF ends a line, and
+ * what stands behind the last LF is one; lines that are skipped count. They may hold anything. Afterwards the words needed hold 0, whatever the answer, and
+ * the words after them what they held. Fewer words are refused with 51, before any file is looked into, and the answer says how many are needed: a call with
+ * none asks for their number. After 1 and 51 all words of `helper` hold what they held. They are not needed once the call is over.
+ *
  * The table lives in the caller's words: it is good as long as they are neither changed nor given back, and may be copied, kept in a file, or
  * asked by another program. It holds no pointers and does not need the files; only a stop's name is not in it, but its place and length in BAHNHOF.
  */
@@ -148,7 +157,8 @@ EstelunyaLoadResult estelunya_load(
     const uint8_t *bahnhof, size_t bahnhof_len,
     const uint8_t *umsteigb, size_t umsteigb_len,
     const uint8_t *fplan, size_t fplan_len,
-    uint32_t *table, size_t table_len);
+    uint32_t *table, size_t table_len,
+    uint32_t *helper, size_t helper_len);
 
 /*
  * In the three questions `table` may be any words. Words that are not a table are refused with 21; words after the table's own are not looked at,

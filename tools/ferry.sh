@@ -67,6 +67,13 @@ says '8,192 bytes' 'accepted days 7 bitfields 1 stops 3 interchange 1 services 1
 filled BAHNHOF 8194
 says 'a longer file' 'unread file 3'
 fresh
+# the most lines that the three files with a map can have: helper words are enough for them
+for file in BITFELD BAHNHOF UMSTEIGB; do
+    size=$(wc -c <"$place/$file")
+    printf '%*s' "$((8192 - size))" '' | tr ' ' '\n' >>"$place/$file"
+done
+says 'the most lines' 'accepted days 7 bitfields 1 stops 3 interchange 1 services 1 words 66'
+fresh
 filled FPLAN 8193
 says '8,193 bytes' 'unread file 5'
 echo "ferry.sh: ok"

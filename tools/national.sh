@@ -5,13 +5,23 @@
 #   MIB                              FPLAN of so many MiB; stops and bit fields grow with it, to 30,000 and 20,000 at 16 MiB
 #   MIB:STOPS:FIELDS[:NUMBERS]       so many of them; NUMBERS are consecutive (else), equal-ending or random
 #   shortest:MIB[:NUMBERS]           BITFELD, BAHNHOF and UMSTEIGB of so many MiB each, of the shortest records; FPLAN is empty
-#   empty:MIB                        the same of empty lines
+#   bitfeld:MIB bahnhof:MIB umsteigb:MIB   the same of one file alone (but UMSTEIGB's stops are in BAHNHOF too)
+#   empty:MIB                        the same of empty lines in all three
+#   worst:MIB[:LINES]                BAHNHOF and UMSTEIGB of so many lines (3162), BITFELD of 1000, all numbers of each in one bucket of a map with as many
+#                                    buckets as lines; FPLAN of so many MiB asks for the numbers at the ends of the chains
 #
-# valgrind counts. On a machine that is not x86-64 the archive is the same module compiled for it (native.sh). Without arguments there are few stops and
-# bit fields: a load still reads BAHNHOF and BITFELD again for each that it looks up.
+# Without arguments it is `1 4 16`; `worst` alone stands for all worst cases: 20,000 numbers in each order, files of the shortest lines, one bucket.
+#
+# valgrind counts. On a machine that is not x86-64 the archive is the same module compiled for it (native.sh).
 set -eu
 cd "$(dirname "$0")/.."
-[ $# -gt 0 ] || set -- 0.2:20:10 1:20:10
+case ${*:-} in
+'') set -- 1 4 16 ;;
+worst)
+    set -- 4:20000:20000:consecutive 4:20000:20000:equal-ending 4:20000:20000:random bitfeld:16 bahnhof:16 umsteigb:16 shortest:16 \
+        shortest:16:equal-ending shortest:16:random empty:16 worst:4:500 worst:4 worst:4:20000
+    ;;
+esac
 command -v valgrind >/dev/null || { echo 'national.sh: no valgrind on the path' >&2; exit 1; }
 tools/native.sh estelunya
 if [ "$(uname -m)" != x86_64 ]; then

@@ -8,12 +8,15 @@ use estelunya_planner::raw;
 pub struct Archive;
 
 impl Boundary for Archive {
-    fn load(&self, files: [&[u8]; 5], table: &mut [u32]) -> [u32; 5] {
+    fn load(&self, files: [&[u8]; 5], table: &mut [u32], helper: &mut [u32]) -> [u32; 5] {
         let [a, b, c, d, e] = files.map(<[u8]>::as_ptr);
         let [a_len, b_len, c_len, d_len, e_len] = files.map(<[u8]>::len);
-        let (words, room) = (table.as_mut_ptr(), table.len());
+        let ((words, room), (helps, help_room)) =
+            ((table.as_mut_ptr(), table.len()), (helper.as_mut_ptr(), helper.len()));
         // SAFETY: here and below, pointers and lengths are those of slices, and a mutable one overlaps no other.
-        let answer = unsafe { raw::estelunya_load(a, a_len, b, b_len, c, c_len, d, d_len, e, e_len, words, room) };
+        let answer = unsafe {
+            raw::estelunya_load(a, a_len, b, b_len, c, c_len, d, d_len, e, e_len, words, room, helps, help_room)
+        };
         let raw::LoadResult { number, file, line, words, column } = answer;
         [number, file, line, words, column_word(column)]
     }

@@ -5,7 +5,7 @@ use crate::reader::{self, Changed, Combination, DayAnswer, Loaded, Refused, Walk
 /// Whatever answers as the archive does. An answer's numbers stand in the order of its fields.
 pub trait Boundary {
     /// number, file, line, words, column
-    fn load(&self, files: [&[u8]; 5], table: &mut [u32]) -> [u32; 5];
+    fn load(&self, files: [&[u8]; 5], table: &mut [u32], helper: &mut [u32]) -> [u32; 5];
 
     /// number, runs
     fn day(&self, table: &[u32], date: [u32; 3], field: u32) -> [u32; 2];
@@ -30,8 +30,8 @@ pub trait Boundary {
 pub struct Reader;
 
 impl Boundary for Reader {
-    fn load(&self, files: [&[u8]; 5], table: &mut [u32]) -> [u32; 5] {
-        match reader::load(files, table) {
+    fn load(&self, files: [&[u8]; 5], table: &mut [u32], helper: &mut [u32]) -> [u32; 5] {
+        match reader::load(files, table, helper) {
             Loaded::Accepted { words } => [0, 0, 0, words, 0],
             Loaded::Refused { number, file, line, column, needed } => [number, file, line, needed, column_word(column)],
         }

@@ -10,7 +10,7 @@ mod program;
 mod report;
 mod tally;
 
-pub use cases::{rng_of, senseless};
+pub use cases::{rng_of, senseless, OVERSIZED_EVERY};
 pub use columns::Columns;
 pub use lent::{Call, Outcome};
 pub use program::Program;
@@ -42,7 +42,7 @@ pub type Compared<T> = Result<T, Box<Difference>>;
 /// Compares the load of one case, and counts the reader's answer.
 pub fn compare_load(seed: u64, index: u64, boundaries: &[Named], tally: &mut Tally) -> Compared<()> {
     let case = delivery(&mut rng_of(seed, index), index);
-    Run { boundaries, tally }.call(Call::Load { files: case.files, room: case.room }).map(|_| ())
+    Run { boundaries, tally }.call(Call::load(case)).map(|_| ())
 }
 
 /// Compares all calls of one case, and counts the reader's answers.
@@ -50,7 +50,7 @@ pub fn compare(seed: u64, index: u64, boundaries: &[Named], tally: &mut Tally) -
     let mut rng = rng_of(seed, index);
     let mut run = Run { boundaries, tally };
     let case = delivery(&mut rng, index);
-    let loaded = run.call(Call::Load { files: case.files, room: case.room })?;
+    let loaded = run.call(Call::load(case))?;
     run.ask_all(&mut rng, &loaded)?;
     for _ in 0..ARITHMETIC {
         run.call(Call::Days(arithmetic(&mut rng)))?;

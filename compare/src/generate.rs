@@ -19,9 +19,11 @@ pub mod rng;
 pub mod sheet;
 
 pub use bend_table::damaged_table;
-pub use case::{damaged, mixed, mutated, oversized, several, valid, Aim, Case};
+pub use case::{counted_helper, damaged, mixed, mutated, oversized, several, some_helper, valid, Aim, Case, DAMAGES};
 pub use day_sets::{arithmetic, Arithmetic};
-pub use national::{empty_lines, national, shortest_records, National, MIB};
+pub use national::{
+    bucket, empty_lines, national, shortest_in, shortest_records, worst_numbers, National, MIB, WORST_STOP_LINES,
+};
 pub use numbers::Numbers;
 pub use questions::{question, Question};
 pub use rng::Rng;

@@ -17,9 +17,12 @@ pub use tally::{Draw, Library, Tally};
 
 use crate::generate::Rng;
 
+/// A part by its name, and what asks its questions.
+type Part = (&'static str, fn(&mut Tally, &mut Rng, u32));
+
 /// Asks every part's questions.
 pub fn compare(tally: &mut Tally) {
-    let parts: [(&'static str, fn(&mut Tally, &mut Rng, u32)); 5] = [
+    let parts: [Part; 5] = [
         ("dates", dates::ask),
         ("fields", fields::ask),
         ("lines", lines::ask),

@@ -4,20 +4,22 @@
 use compare::boundary::{column_word, Boundary};
 use compare::reader::Combination;
 use estelunya_planner::layout::BIT_WORDS;
-use estelunya_planner::{load, BitField, Date, File, Files, Refusal, Table, Walk};
+use estelunya_planner::{load, load_with, BitField, Date, File, Files, LoadRefusal, Loaded, Refusal, Table, Walk};
 
 pub struct Planner;
 
 impl Boundary for Planner {
-    fn load(&self, files: [&[u8]; 5], table: &mut [u32]) -> [u32; 5] {
+    /// With these helper words; where they are enough, the load that lends them by itself must do the same.
+    fn load(&self, files: [&[u8]; 5], table: &mut [u32], helper: &mut [u32]) -> [u32; 5] {
         let [eckdaten, bitfeld, bahnhof, umsteigb, fplan] = files;
-        match load(&Files { eckdaten, bitfeld, bahnhof, umsteigb, fplan }, table) {
-            Ok(loaded) => [0, 0, 0, loaded.words, 0],
-            Err(refusal) => {
-                let file = refusal.file.map_or(0, File::number);
-                [refusal.offence.number(), file, refusal.line, refusal.needed, column_word(refusal.column)]
-            }
+        let files = Files { eckdaten, bitfeld, bahnhof, umsteigb, fplan };
+        let mut own = table.to_vec();
+        let answer = numbers(load_with(&files, table, helper));
+        if answer[0] != 51 {
+            assert_eq!(numbers(load(&files, &mut own)), answer, "with helper words from the heap");
+            assert!(own == table, "with helper words from the heap, the table");
         }
+        answer
     }
 
     fn day(&self, table: &[u32], date: [u32; 3], field: u32) -> [u32; 2] {
@@ -63,6 +65,16 @@ impl Boundary for Planner {
         match Table::new(&header(n)).bit_field_from(field) {
             Ok(field) => [0, field.day_count()],
             Err(refusal) => [refusal.number(), 0],
+        }
+    }
+}
+
+fn numbers(answer: Result<Loaded, LoadRefusal>) -> [u32; 5] {
+    match answer {
+        Ok(loaded) => [0, 0, 0, loaded.words, 0],
+        Err(refusal) => {
+            let file = refusal.file.map_or(0, File::number);
+            [refusal.offence.number(), file, refusal.line, refusal.needed, column_word(refusal.column)]
         }
     }
 }

@@ -1,4 +1,4 @@
-//! An independent reader of HAFAS 5.20 deliveries, by the rules of document 01.
+//! An independent reader of HAFAS 5.20 deliveries, by the rules of documents 01 and 02.
 //! Each rule cites the sentence that it follows; an "open point" is a reading that docs/DECISIONS.md gives.
 
 pub mod ask;
@@ -14,4 +14,4 @@ pub mod table;
 
 pub use ask::{day, interchange, is_table, walk, Changed, DayAnswer, Walked};
 pub use day_sets::{combine, complement, day_count, Combination, Refused};
-pub use load::{load, Loaded};
+pub use load::{helper_needed, load, Loaded};

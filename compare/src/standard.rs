@@ -46,6 +46,9 @@ struct Paper {
 /// What words hold that no load has written.
 const LENT: u32 = 0xAAAA_AAAA;
 
+/// Helper words: enough for a hundred lines.
+const HELPER: usize = 64 + 4 * 100;
+
 impl Paper {
     /// 5.4.1's period and 5.7's first record; no bit fields, stops and services.
     fn new() -> Paper {
@@ -61,9 +64,9 @@ impl Paper {
     }
 
     fn load(&self, boundary: &dyn Boundary) -> ([u32; 5], Vec<u32>) {
-        let mut table = vec![LENT; 2_000];
+        let (mut table, mut helper) = (vec![LENT; 2_000], vec![LENT; HELPER]);
         let [a, b, c, d, e] = &self.files;
-        let answer = boundary.load([a, b, c, d, e], &mut table);
+        let answer = boundary.load([a, b, c, d, e], &mut table, &mut helper);
         (answer, table)
     }
 

@@ -78,6 +78,11 @@ pub const ROW_FIRST_TIME_AT: usize = 5;
 /// Row: the stop's interchange time for all other classes.
 pub const ROW_SECOND_TIME_AT: usize = 6;
 
+/// Helper words that every load is lent.
+pub const HELPER_HEAD_WORDS: usize = 64;
+/// Helper words for each line of BITFELD, BAHNHOF and UMSTEIGB besides.
+pub const HELPER_LINE_WORDS: usize = 4;
+
 /// The calls that a service has at most.
 pub const MOST_CALLS: usize = 200;
 /// Words that are enough for the rows of every walk.

@@ -77,6 +77,6 @@ mod row;
 pub use ask::{Date, Table, Walk};
 pub use days::BitField;
 pub use layout::{MOST_ROW_WORDS, ROW_WORDS};
-pub use load::{load, Files, Loaded};
+pub use load::{helper_words, load, load_with, Files, Loaded};
 pub use refusal::{File, LoadRefusal, Offence, Refusal};
 pub use row::{Row, Rows};

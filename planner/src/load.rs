@@ -30,12 +30,38 @@ pub struct Loaded {
 /// The files are not needed afterwards, but for BAHNHOF if stop names are shown: see
 /// [`Table::stop_name`](crate::Table::stop_name).
 ///
+/// A load works in helper words besides. They are lent from the heap here, as many as it needs, and given back; to lend them from
+/// elsewhere there is [`load_with`].
+///
 /// # Panics
 ///
 /// If the archive answers a number that this crate does not have: the two are not of one version.
 pub fn load(files: &Files<'_>, table: &mut [u32]) -> Result<Loaded, LoadRefusal> {
+    let mut helper = vec![0; helper_words(files)?];
+    load_with(files, table, &mut helper)
+}
+
+/// How many helper words the load of these files needs: 64, and four for each line of BITFELD, BAHNHOF and UMSTEIGB. No file is
+/// looked into further; one that is too long is refused as a load refuses it.
+///
+/// # Panics
+///
+/// As [`load`] does, here and in [`load_with`].
+pub fn helper_words(files: &Files<'_>) -> Result<usize, LoadRefusal> {
+    // A load without helper words says it, before anything but the lengths of the files is looked at.
+    match load_with(files, &mut [], &mut []) {
+        Err(LoadRefusal { offence: Offence::HelperTooShort, needed, .. }) => Ok(needed as usize),
+        Err(refusal) => Err(refusal),
+        Ok(_) => panic!("the archive loaded without helper words"),
+    }
+}
+
+/// Loads a delivery as [`load`] does, with helper words of the caller: at least [`helper_words`] of them, else the delivery is
+/// refused with [`Offence::HelperTooShort`]. They may hold anything. Afterwards those that are needed hold 0, whatever the answer,
+/// and further ones stay as lent; where they are too few, or a file is too long, all stay.
+pub fn load_with(files: &Files<'_>, table: &mut [u32], helper: &mut [u32]) -> Result<Loaded, LoadRefusal> {
     let Files { eckdaten, bitfeld, bahnhof, umsteigb, fplan } = *files;
-    // SAFETY: each pointer and length is that of a slice, and the one mutable slice overlaps no other.
+    // SAFETY: each pointer and length is that of a slice, and the two mutable slices overlap no other.
     let answer = unsafe {
         raw::estelunya_load(
             eckdaten.as_ptr(),
@@ -50,6 +76,8 @@ pub fn load(files: &Files<'_>, table: &mut [u32]) -> Result<Loaded, LoadRefusal>
             fplan.len(),
             table.as_mut_ptr(),
             table.len(),
+            helper.as_mut_ptr(),
+            helper.len(),
         )
     };
     match answer.number {

@@ -5,13 +5,13 @@
 #[repr(C)]
 #[derive(Clone, Copy, Debug, PartialEq, Eq)]
 pub struct LoadResult {
-    /// 0: accepted; else the refusal, 1 to 20.
+    /// 0: accepted; else the refusal, 1 to 20 or 51.
     pub number: u32,
-    /// 1 ECKDATEN, 2 BITFELD, 3 BAHNHOF, 4 UMSTEIGB, 5 FPLAN; 0 if accepted, and for 20.
+    /// 1 ECKDATEN, 2 BITFELD, 3 BAHNHOF, 4 UMSTEIGB, 5 FPLAN; 0 if accepted, and for 20 and 51.
     pub file: u32,
-    /// The line, counted from 1; 0 if accepted, and for 1 and 20.
+    /// The line, counted from 1; 0 if accepted, and for 1, 20 and 51.
     pub line: u32,
-    /// The words used if accepted, the words needed for 20, else 0.
+    /// The words used if accepted, the words needed for 20, the helper words needed for 51, else 0.
     pub words: u32,
     /// For 4 the column, counted from 1, where the leftmost field or unnamed column that breaks the form starts, else 0.
     pub column: usize,
@@ -68,11 +68,11 @@ pub struct DayCountResult {
     pub days: u32,
 }
 
-// The contract of all: each pointer is good for its length (reads, and writes for `table` of the load, `rows` and `result`);
+// The contract of all: each pointer is good for its length (reads, and writes for `table` and `helper` of the load, `rows` and `result`);
 // the words lent overlap no other argument. Nothing is asked of what the bytes, words and numbers say.
 extern "C" {
     /// Loads the five files into the words lent. Accepted: the first `words` of them are the table, later words stay.
-    /// Refused: all words stay.
+    /// Refused: all words stay. The helper words needed hold 0 afterwards, later ones stay; after 1 and 51 all stay.
     pub fn estelunya_load(
         eckdaten: *const u8,
         eckdaten_len: usize,
@@ -86,6 +86,8 @@ extern "C" {
         fplan_len: usize,
         table: *mut u32,
         table_len: usize,
+        helper: *mut u32,
+        helper_len: usize,
     ) -> LoadResult;
 
     /// Whether a bit field of the table runs on a date.

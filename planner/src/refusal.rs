@@ -98,9 +98,11 @@ pub enum Offence {
     TwoStretches = 19,
     /// 20: the delivery is right, but its table needs more words than were lent.
     TableTooShort = 20,
+    /// 51: the load needs more helper words than were lent. [`load`](crate::load) lends enough.
+    HelperTooShort = 51,
 }
 
-const OFFENCES: [(Offence, &str); 20] = [
+const OFFENCES: [(Offence, &str); 21] = [
     (Offence::FileTooLong, "the file has more than 16,777,216 bytes"),
     (Offence::LineMissing, "a line is missing: ECKDATEN needs three lines, UMSTEIGB at least the record of 9999999"),
     (Offence::FourthLine, "ECKDATEN has more than three lines"),
@@ -124,15 +126,16 @@ const OFFENCES: [(Offence, &str); 20] = [
     (Offence::OperatingDays, "a leg of the service does not have exactly one *A VE line"),
     (Offence::TwoStretches, "on some day the service runs on two or more separate stretches"),
     (Offence::TableTooShort, "the delivery is right, but the table lent is too short for it"),
+    (Offence::HelperTooShort, "the helper words lent are too few for the lines of BITFELD, BAHNHOF and UMSTEIGB"),
 ];
 
 impl Offence {
-    /// Document 01's number, 1 to 20.
+    /// Its number, 1 to 20 or 51.
     pub fn number(self) -> u32 {
         self as u32
     }
 
-    /// The offence of a number; `None` unless 1 to 20.
+    /// The offence of a number; `None` unless 1 to 20 or 51.
     pub fn from_number(number: u32) -> Option<Offence> {
         OFFENCES.iter().map(|(offence, _)| *offence).find(|offence| offence.number() == number)
     }
@@ -149,14 +152,15 @@ impl fmt::Display for Offence {
 pub struct LoadRefusal {
     /// What is wrong: the first offence, in document 01's order.
     pub offence: Offence,
-    /// The file to mend; `None` for [`Offence::TableTooShort`] only.
+    /// The file to mend; `None` for [`Offence::TableTooShort`] and [`Offence::HelperTooShort`] only.
     pub file: Option<File>,
-    /// The line to look at, counted from 1; 0 for [`Offence::FileTooLong`] and [`Offence::TableTooShort`].
+    /// The line to look at, counted from 1; 0 for [`Offence::FileTooLong`] and where there is no file.
     pub line: u32,
     /// The column, counted from 1, where the leftmost field or unnamed column that breaks the form starts; 0 unless
     /// [`Offence::Form`].
     pub column: usize,
-    /// The words that the table needs; 0 unless [`Offence::TableTooShort`].
+    /// The words that the table needs for [`Offence::TableTooShort`], the helper words that the load needs for
+    /// [`Offence::HelperTooShort`], else 0.
     pub needed: u32,
 }
 

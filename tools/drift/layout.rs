@@ -38,6 +38,24 @@ fn main() {
     println!("drift: layouts, prototypes and calls of C and Rust agree");
 }
 
+/// The five files, the table and the helper words, each with its length.
+type Load = unsafe extern "C" fn(
+    *const u8,
+    usize,
+    *const u8,
+    usize,
+    *const u8,
+    usize,
+    *const u8,
+    usize,
+    *const u8,
+    usize,
+    *mut u32,
+    usize,
+    *mut u32,
+    usize,
+) -> raw::LoadResult;
+
 /// A call that a C function hands on, and the same call: the same answer, and the same words lent. Gives both.
 macro_rules! both {
     ($by_c:ident, $by_rust:path, $words:expr, ($($before:expr),*)) => {{
@@ -51,12 +69,23 @@ macro_rules! both {
     }};
 }
 
+/// The trial week loaded, by C or not: the answer, the table's words and the helper words, two of them further ones.
+fn loaded_by(load: Load) -> (raw::LoadResult, [u32; 100], [u32; 86]) {
+    let [a, b, c, d, e] = FILES.map(|file| (file.as_ptr(), file.len()));
+    let (mut table, mut helper) = ([9; 100], [9; 86]);
+    let (words, helps) = ((table.as_mut_ptr(), table.len()), (helper.as_mut_ptr(), helper.len()));
+    // SAFETY: pointers and lengths are those of slices that do not overlap.
+    let answer = unsafe {
+        load(a.0, a.1, b.0, b.1, c.0, c.1, d.0, d.1, e.0, e.1, words.0, words.1, helps.0, helps.1)
+    };
+    (answer, table, helper)
+}
+
 /// The trial week, loaded and asked by C.
 fn handed_on() {
-    let [a, b, c, d, e] = FILES.map(|file| (file.as_ptr(), file.len()));
-    let (loaded, table) =
-        both!(drift_estelunya_load, raw::estelunya_load, 100, (a.0, a.1, b.0, b.1, c.0, c.1, d.0, d.1, e.0, e.1));
-    assert_eq!(loaded.number, 0);
+    let (loaded, table, helper) = loaded_by(drift_estelunya_load);
+    assert_eq!((loaded, table, helper), loaded_by(raw::estelunya_load));
+    assert_eq!((loaded.number, helper[83], helper[84]), (0, 0, 9));
     let (words, length) = (table.as_ptr(), table.len());
     let (walked, _) = both!(drift_estelunya_walk, raw::estelunya_walk, 50, (words, length, 0, 0, 5, 12, 2025));
     assert_eq!((walked.number, walked.rows), (0, 4));

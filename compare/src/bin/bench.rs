@@ -16,6 +16,7 @@ use compare::layout::{
     BIT_FIELDS_AT, BIT_FIELD_WORDS, FIRST_DAY_AT, HEADER_WORDS, MOST_ROW_WORDS, PERIOD_DAYS_AT, SERVICES_AT, STOPS_AT,
     STOP_WORDS,
 };
+use compare::reader::helper_needed;
 
 #[path = "../archive.rs"]
 mod archive;
@@ -49,11 +50,12 @@ fn bench(mib: f64) {
     let files = national(&mut Rng::new(1), &National::of_bytes((mib * MIB as f64) as usize));
     let [a, b, c, d, e] = &files;
     let files: [&[u8]; 5] = [a, b, c, d, e];
-    let [number, _, line, words, _] = Reader.load(files, &mut []);
+    let needed = helper_needed(files);
+    let [number, _, line, words, _] = Reader.load(files, &mut [], &mut vec![0; needed]);
     assert_eq!((number, line), (20, 0));
     let load = |boundary: &dyn Boundary| {
-        let mut table = vec![u32::MAX; words as usize];
-        let (answer, time) = timed(|| boundary.load(files, &mut table));
+        let (mut table, mut helper) = (vec![u32::MAX; words as usize], vec![u32::MAX; needed]);
+        let (answer, time) = timed(|| boundary.load(files, &mut table, &mut helper));
         table.extend(answer);
         (table, time)
     };

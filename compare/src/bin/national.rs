@@ -14,7 +14,10 @@ use std::time::Duration;
 
 use compare::boundary::Boundary;
 use compare::files;
-use compare::generate::{empty_lines, national, shortest_records, National, Numbers, Rng, MIB};
+use compare::generate::{
+    empty_lines, national, shortest_in, shortest_records, worst_numbers, National, Numbers, Rng, MIB, WORST_STOP_LINES,
+};
+use compare::reader::helper_needed;
 
 #[path = "../archive.rs"]
 mod archive;
@@ -61,6 +64,11 @@ fn delivery(size: &str) -> Result<[Vec<u8>; 5], Box<dyn Error>> {
         ["empty", mib] => empty_lines(bytes_of(mib)?),
         ["shortest", mib] => shortest_records(rng, bytes_of(mib)?, Numbers::Consecutive),
         ["shortest", mib, numbers] => shortest_records(rng, bytes_of(mib)?, numbers.parse()?),
+        ["bitfeld", mib] => shortest_in(rng, bytes_of(mib)?, 2),
+        ["bahnhof", mib] => shortest_in(rng, bytes_of(mib)?, 3),
+        ["umsteigb", mib] => shortest_in(rng, bytes_of(mib)?, 4),
+        ["worst", mib] => worst_numbers(rng, bytes_of(mib)?, WORST_STOP_LINES),
+        ["worst", mib, lines] => worst_numbers(rng, bytes_of(mib)?, lines.parse()?),
         [mib] => national(rng, &National::of_bytes(bytes_of(mib)?)),
         [mib, stops, fields] => national(rng, &sized(mib, stops, fields, Numbers::Consecutive)?),
         [mib, stops, fields, numbers] => national(rng, &sized(mib, stops, fields, numbers.parse()?)?),
@@ -76,20 +84,21 @@ fn bytes_of(mib: &str) -> Result<usize, Box<dyn Error>> {
     Ok((mib.parse::<f64>()? * MIB as f64) as usize)
 }
 
-/// A loader: the words used, or a refusal's number.
-type Load = fn([&[u8]; 5], &mut [u32]) -> Result<u32, u32>;
+/// A loader, with words for the table and helper words: the words used, or a refusal's number.
+type Load = fn([&[u8]; 5], &mut [u32], &mut [u32]) -> Result<u32, u32>;
 
-fn archive_load(files: [&[u8]; 5], table: &mut [u32]) -> Result<u32, u32> {
-    match Archive.load(files, table) {
+fn archive_load(files: [&[u8]; 5], table: &mut [u32], helper: &mut [u32]) -> Result<u32, u32> {
+    match Archive.load(files, table, helper) {
         [0, _, _, words, _] => Ok(words),
         [number, ..] => Err(number),
     }
 }
 
-/// By a name of its own, so that its instructions can be told from the rest.
+/// By a name of its own, so that its instructions can be told from the rest. It has maps of its own.
 #[no_mangle]
 #[inline(never)]
-fn ordinary_load([eckdaten, bitfeld, bahnhof, umsteigb, fplan]: [&[u8]; 5], table: &mut [u32]) -> Result<u32, u32> {
+fn ordinary_load(files: [&[u8]; 5], table: &mut [u32], _: &mut [u32]) -> Result<u32, u32> {
+    let [eckdaten, bitfeld, bahnhof, umsteigb, fplan] = files;
     let files = ordinary_loader::Files { eckdaten, bitfeld, bahnhof, umsteigb, fplan };
     ordinary_loader::load(&files, table).map_err(|refusal| refusal.number)
 }
@@ -97,10 +106,12 @@ fn ordinary_load([eckdaten, bitfeld, bahnhof, umsteigb, fplan]: [&[u8]; 5], tabl
 /// The table of a delivery, and the thread's time for it. The words lent are written before, and are enough: each record
 /// has more bytes in its file than in the table.
 fn loaded(files: &[Vec<u8>; 5], load: Load) -> (Vec<u32>, Duration) {
-    let mut table = vec![u32::MAX; 16 + files.iter().map(Vec::len).sum::<usize>() / 4];
     let [a, b, c, d, e] = files;
+    let files: [&[u8]; 5] = [a, b, c, d, e];
+    let mut table = vec![u32::MAX; 16 + files.iter().map(|file| file.len()).sum::<usize>() / 4];
+    let mut helper = vec![u32::MAX; helper_needed(files)];
     let start = thread_time();
-    let answer = load([a, b, c, d, e], &mut table);
+    let answer = load(files, &mut table, &mut helper);
     let time = thread_time() - start;
     match answer {
         Ok(words) => table.truncate(words as usize),

@@ -13,12 +13,29 @@ use ordinary_loader::{load, Files, Refusal};
 /// The ordinary loader; it is only asked for loads.
 struct Ordinary;
 
+/// "64, and four for each line of BITFELD, BAHNHOF and UMSTEIGB" (document 02, No. 13)
+fn helper_words(files: &[&[u8]]) -> usize {
+    64 + files.iter().map(|file| 4 * file.split_inclusive(|byte| *byte == b'\n').count()).sum::<usize>()
+}
+
+/// It has maps of its own. What a loader does with helper words is said here, so that the reader has somebody to differ from.
 impl Boundary for Ordinary {
-    fn load(&self, files: [&[u8]; 5], table: &mut [u32]) -> [u32; 5] {
+    fn load(&self, files: [&[u8]; 5], table: &mut [u32], helper: &mut [u32]) -> [u32; 5] {
+        let needed = helper_words(&files[1..4]);
+        let is_short = helper.len() < needed;
         let [eckdaten, bitfeld, bahnhof, umsteigb, fplan] = files;
-        match load(&Files { eckdaten, bitfeld, bahnhof, umsteigb, fplan }, table) {
+        let files = Files { eckdaten, bitfeld, bahnhof, umsteigb, fplan };
+        let answer = match load(&files, if is_short { &mut [] } else { table }) {
             Ok(words) => [0, 0, 0, words, 0],
             Err(Refusal { number, file, line, column, needed }) => [number, file, line, needed, column],
+        };
+        match answer {
+            [1, ..] => answer,
+            _ if is_short => [51, 0, 0, needed as u32, 0],
+            _ => {
+                helper[..needed].fill(0);
+                answer
+            }
         }
     }
 

@@ -1,10 +1,10 @@
 //! What a case is made of.
 
-use crate::generate::{mixed, oversized, Case, Rng};
+use crate::generate::{counted_helper, mixed, oversized, some_helper, Case, Rng};
 use crate::layout::ROW_WORDS;
 
 /// Once in so many cases a file has 16,777,216 bytes or more.
-const OVERSIZED_EVERY: u64 = 2_500;
+pub const OVERSIZED_EVERY: u64 = 2_500;
 
 /// A case's own generator: the same for the same seed and index, whatever ran before.
 pub fn rng_of(seed: u64, index: u64) -> Rng {
@@ -27,8 +27,9 @@ fn over_length(rng: &mut Rng) -> Case {
     match rng.below(4) {
         0 => case.files[beside] = b"broken".to_vec(),
         1 => case.files[beside] = oversized(rng).files[beside].clone(),
-        _ => {}
+        _ => return case,
     }
+    case.helper = some_helper(rng, counted_helper(&case.files));
     case
 }
 

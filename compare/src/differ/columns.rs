@@ -76,7 +76,8 @@ impl fmt::Display for Columns {
         }
         writeln!(f, "columns of refusals 4, each with its times ({} of BITFELD is {} and on):", ON, ON)?;
         for (name, _) in &KINDS {
-            let told = all().filter(|place| place.0 == *name).map(|place| format!(" {}:{}", place.1, self.times(place)));
+            let told =
+                all().filter(|place| place.0 == *name).map(|place| format!(" {}:{}", place.1, self.times(place)));
             writeln!(f, "  {:<9}{}", name, told.collect::<String>())?;
         }
         let least = all().map(|place| self.times(place)).min().unwrap_or(0);

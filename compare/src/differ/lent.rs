@@ -1,7 +1,7 @@
 //! One call of the boundary, with words lent in a pattern, and all that it left.
 
 use crate::boundary::Boundary;
-use crate::generate::{Arithmetic, Question};
+use crate::generate::{Arithmetic, Case, Question};
 
 /// Words on each side of the words lent that no call may touch.
 const GUARD: usize = 16;
@@ -9,16 +9,26 @@ const GUARD: usize = 16;
 /// A call and all that it reads.
 #[derive(Clone, Debug)]
 pub enum Call {
-    Load { files: [Vec<u8>; 5], room: usize },
-    Ask { table: Vec<u32>, question: Question },
+    /// `helper` has the helper words as they are lent.
+    Load {
+        files: [Vec<u8>; 5],
+        room: usize,
+        helper: Vec<u32>,
+    },
+    Ask {
+        table: Vec<u32>,
+        question: Question,
+    },
     Days(Arithmetic),
 }
 
-/// The answer's numbers, the words lent with their guards, and whether all that was only read is as it was.
+/// The answer's numbers, the words lent and the helper words, both with their guards, and whether all that was only read is as it
+/// was.
 #[derive(Clone, Debug, PartialEq, Eq)]
 pub struct Outcome {
     pub answer: Vec<u32>,
     words: Vec<u32>,
+    helper: Vec<u32>,
     read_only: bool,
 }
 
@@ -31,12 +41,24 @@ fn with_guards(room: usize) -> Vec<u32> {
     (0..room + 2 * GUARD).map(pattern).collect()
 }
 
+/// These words between guards.
+fn guarded(words: &[u32]) -> Vec<u32> {
+    let mut all = with_guards(words.len());
+    lent(&mut all).copy_from_slice(words);
+    all
+}
+
 fn lent(words: &mut [u32]) -> &mut [u32] {
     let end = words.len() - GUARD;
     &mut words[GUARD..end]
 }
 
 impl Call {
+    /// The load of a case.
+    pub fn load(case: Case) -> Call {
+        Call::Load { files: case.files, room: case.room, helper: case.helper }
+    }
+
     /// The words that the call lends; a question but a walk lends none, and so a count of days.
     fn room(&self) -> usize {
         match self {
@@ -47,23 +69,31 @@ impl Call {
         }
     }
 
+    /// The helper words that the call lends; only a load does.
+    fn helper(&self) -> &[u32] {
+        match self {
+            Call::Load { helper, .. } => helper,
+            Call::Ask { .. } | Call::Days(_) => &[],
+        }
+    }
+
     /// Makes the call.
     pub fn outcome(&self, boundary: &dyn Boundary) -> Outcome {
-        let mut words = with_guards(self.room());
-        let lent = lent(&mut words);
+        let (mut words, mut helper) = (with_guards(self.room()), guarded(self.helper()));
+        let lent_words = lent(&mut words);
         let (answer, read_only) = match self {
-            Call::Load { files, .. } => loaded(boundary, files, lent),
-            Call::Ask { table, question } => asked(boundary, table, *question, lent),
-            Call::Days(arithmetic) => reckoned(boundary, arithmetic, lent),
+            Call::Load { files, .. } => loaded(boundary, files, lent_words, lent(&mut helper)),
+            Call::Ask { table, question } => asked(boundary, table, *question, lent_words),
+            Call::Days(arithmetic) => reckoned(boundary, arithmetic, lent_words),
         };
-        Outcome { answer, words, read_only }
+        Outcome { answer, words, helper, read_only }
     }
 }
 
-fn loaded(boundary: &dyn Boundary, files: &[Vec<u8>; 5], lent: &mut [u32]) -> (Vec<u32>, bool) {
+fn loaded(boundary: &dyn Boundary, files: &[Vec<u8>; 5], lent: &mut [u32], helper: &mut [u32]) -> (Vec<u32>, bool) {
     let given = files.clone();
     let [a, b, c, d, e] = &given;
-    let answer = boundary.load([a, b, c, d, e], lent);
+    let answer = boundary.load([a, b, c, d, e], lent, helper);
     (answer.to_vec(), given == *files)
 }
 
@@ -102,17 +132,25 @@ impl Outcome {
         if !other.read_only {
             lines.push("bytes or words that were only to be read have changed".to_string());
         }
-        let unlike = (0..self.words.len()).filter(|at| self.words[*at] != other.words[*at]);
-        for at in unlike.take(8) {
-            lines.push(format!("{} is {}, the reader's {}", self.place(at), other.words[at], self.words[at]));
-        }
+        lines.extend(unlike("word", &self.words, &other.words));
+        lines.extend(unlike("helper word", &self.helper, &other.helper));
         lines
     }
+}
 
-    /// A word by its place among those lent; the guards are outside.
-    fn place(&self, at: usize) -> String {
-        let (place, room) = (at as i64 - GUARD as i64, self.lent().len());
-        let side = if (0..room as i64).contains(&place) { "of" } else { "outside" };
-        format!("word {} {} the {} lent", place, side, room)
-    }
+/// How words with their guards differ from the reader's, the first eight.
+fn unlike(name: &str, reader: &[u32], other: &[u32]) -> Vec<String> {
+    let places = (0..reader.len()).filter(|at| reader[*at] != other[*at]);
+    let told = |at: usize| {
+        let place = place(at, reader.len() - 2 * GUARD);
+        format!("{} {} is {}, the reader's {}", name, place, other[at], reader[at])
+    };
+    places.take(8).map(told).collect()
+}
+
+/// A word by its place among those lent; the guards are outside.
+fn place(at: usize, room: usize) -> String {
+    let place = at as i64 - GUARD as i64;
+    let side = if (0..room as i64).contains(&place) { "of" } else { "outside" };
+    format!("{} {} the {} lent", place, side, room)
 }

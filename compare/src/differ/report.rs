@@ -28,7 +28,7 @@ pub fn report(seed: u64, index: u64, difference: &Difference, below: &Path, comm
 
 fn call_text(call: &Call) -> String {
     match call {
-        Call::Load { room, .. } => format!("load into {} words", room),
+        Call::Load { room, helper, .. } => format!("load into {} words, with {} helper words", room, helper.len()),
         Call::Ask { question, .. } => question_text(*question),
         Call::Days(arithmetic) => arithmetic_text(arithmetic),
     }
@@ -52,14 +52,18 @@ fn question_text(question: Question) -> String {
     }
 }
 
-/// The five files under their names; the words asked as decimal numbers in TABLE; or fields in the same way in FIRST, SECOND.
+/// The five files under their names, and the helper words as decimal numbers in HELPER; the words asked in the same way in TABLE;
+/// or fields in FIRST, SECOND.
 fn write_given(call: &Call, directory: &Path) -> io::Result<()> {
     if directory.exists() {
         fs::remove_dir_all(directory)?;
     }
     fs::create_dir_all(directory)?;
     match call {
-        Call::Load { files, .. } => files::write(directory, files),
+        Call::Load { files, helper, .. } => {
+            files::write(directory, files)?;
+            fs::write(directory.join("HELPER"), words_text(helper))
+        }
         Call::Ask { table, .. } => fs::write(directory.join("TABLE"), words_text(table)),
         Call::Days(Arithmetic::Combine { first, second, .. }) => {
             fs::write(directory.join("FIRST"), words_text(first))?;

@@ -10,7 +10,7 @@ use crate::reader::Combination;
 
 /// Every kind of answer that there is, by call: what it is called without a refusal, and its refusals.
 const ANSWERS: [(&str, &[&str], &[u32]); 9] = [
-    ("load", &["accepted"], &[1, 2, 3, 4, 5, 6, 7, 8, 9, 10, 11, 12, 13, 14, 15, 16, 17, 18, 19, 20]),
+    ("load", &["accepted"], &[1, 2, 3, 4, 5, 6, 7, 8, 9, 10, 11, 12, 13, 14, 15, 16, 17, 18, 19, 20, 51]),
     ("day", &["runs", "rests"], &[21, 22, 23, 28]),
     ("interchange", &["minutes"], &[21, 26, 27]),
     ("walk", &["rows", "not running"], &[21, 22, 23, 24, 25, 29, 31, 32, 33, 34, 35, 36]),

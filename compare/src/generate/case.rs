@@ -1,4 +1,4 @@
-//! Whole cases: five files, the room of the table, and what they must bring if that is known.
+//! Whole cases: five files, the room of the table, the helper words, and what they must bring if that is known.
 
 use super::break_form::{break_form, pile_on};
 use super::break_plan::{self, At};
@@ -8,8 +8,8 @@ use super::rng::Rng;
 use super::sheet::{bytes, sheet, Row, Sheet, Tag};
 use super::Size;
 use crate::layout::{
-    BIT_FIELD_WORDS, CALL_WORDS, CATEGORY_WORDS, DAYS_WORDS, EXTRA_WORDS, HEADER_WORDS, INTERCHANGE_WORDS,
-    SERVICE_WORDS, STOP_WORDS,
+    BIT_FIELD_WORDS, CALL_WORDS, CATEGORY_WORDS, DAYS_WORDS, EXTRA_WORDS, HEADER_WORDS, HELPER_HEAD_WORDS,
+    HELPER_LINE_WORDS, INTERCHANGE_WORDS, SERVICE_WORDS, STOP_WORDS,
 };
 
 /// The refusal that a damage must bring; the column is 0 unless 4.
@@ -26,6 +26,8 @@ pub struct Case {
     pub files: [Vec<u8>; 5],
     /// Words of the table to lend.
     pub room: usize,
+    /// The helper words to lend, as they are before the load.
+    pub helper: Vec<u32>,
     /// `None` where it is not known: after several damages, and after a mutation.
     pub aim: Option<Aim>,
     /// The plan and the lines of a delivery without damage.
@@ -62,6 +64,47 @@ fn enough_room(rng: &mut Rng, words: usize) -> usize {
     words + rng.pick(&[0, 0, 1, 7, 100])
 }
 
+/// The helper words that these lines ask for: document 02, No. 13.
+fn planned_helper(sheet: &Sheet) -> usize {
+    HELPER_HEAD_WORDS + HELPER_LINE_WORDS * sheet.files[1..4].iter().map(Vec::len).sum::<usize>()
+}
+
+/// The same of files whose lines are not known: each LF ends one, and what is behind the last LF is one.
+pub fn counted_helper(files: &[Vec<u8>; 5]) -> usize {
+    let lines = |file: &Vec<u8>| {
+        let ends = file.iter().filter(|byte| **byte == b'\n').count();
+        ends + usize::from(file.last().map_or(false, |byte| *byte != b'\n'))
+    };
+    HELPER_HEAD_WORDS + HELPER_LINE_WORDS * files[1..4].iter().map(lines).sum::<usize>()
+}
+
+/// So many helper words that hold anything.
+fn lent_helper(rng: &mut Rng, words: usize) -> Vec<u32> {
+    (0..words).map(|_| rng.draw() as u32 >> rng.pick(&[0, 0, 16, 28])).collect()
+}
+
+/// Helper words where so many are needed: just enough, or more.
+fn enough_helper(rng: &mut Rng, needed: usize) -> Vec<u32> {
+    let words = enough_room(rng, needed);
+    lent_helper(rng, words)
+}
+
+/// Fewer helper words than are needed (51).
+fn short_helper(rng: &mut Rng, needed: usize) -> Vec<u32> {
+    let fewer = rng.index(needed);
+    let words = rng.pick(&[0, HELPER_HEAD_WORDS - 1, needed - HELPER_LINE_WORDS, needed - 1, needed - 1, fewer]);
+    lent_helper(rng, words)
+}
+
+/// Mostly enough, now and then fewer.
+pub fn some_helper(rng: &mut Rng, needed: usize) -> Vec<u32> {
+    if rng.once_in(8) {
+        short_helper(rng, needed)
+    } else {
+        enough_helper(rng, needed)
+    }
+}
+
 fn files_of(rng: &mut Rng, sheet: &Sheet) -> [Vec<u8>; 5] {
     let mut files: [Vec<u8>; 5] = Default::default();
     for (file, rows) in files.iter_mut().zip(&sheet.files) {
@@ -75,10 +118,15 @@ pub fn valid(rng: &mut Rng, size: Size) -> Case {
     let plan = plan::random(rng, size);
     let sheet = sheet(rng, &plan);
     let files = files_of(rng, &sheet);
-    Case { files, room: enough_room(rng, planned_words(&plan)), aim: None, plan: Some((plan, sheet)) }
+    let room = enough_room(rng, planned_words(&plan));
+    let helper = enough_helper(rng, planned_helper(&sheet));
+    Case { files, room, helper, aim: None, plan: Some((plan, sheet)) }
 }
 
-/// (b) A delivery that breaks one clause of the refusal 2 to 20, and nothing before it.
+/// The refusals that a delivery can be damaged for.
+pub const DAMAGES: [u32; 20] = [2, 3, 4, 5, 6, 7, 8, 9, 10, 11, 12, 13, 14, 15, 16, 17, 18, 19, 20, 51];
+
+/// (b) A delivery that breaks one clause of one of these refusals, and nothing before it.
 pub fn damaged(rng: &mut Rng, size: Size, number: u32) -> Case {
     loop {
         let mut plan = plan::random(rng, size);
@@ -111,11 +159,21 @@ fn try_damage(rng: &mut Rng, plan: &mut Plan, number: u32) -> Option<Case> {
             room = rng.pick(&[0, words - 1, words - 1, fewer]);
             Aim { number, file: 0, line: 0, column: 0 }
         }
+        (51, _) => {
+            // "directly after 1": whatever else is wrong
+            if rng.coin() {
+                break_form(rng, &mut sheet);
+                room = rng.index(words);
+            }
+            Aim { number, file: 0, line: 0, column: 0 }
+        }
         (_, Some((file, at))) => Aim { number, file, line: line_of(&sheet.files[file as usize - 1], at)?, column: 0 },
         (_, None) => return None,
     };
+    let needed = planned_helper(&sheet);
+    let helper = if number == 51 { short_helper(rng, needed) } else { enough_helper(rng, needed) };
     let files = files_of(rng, &sheet);
-    Some(Case { files, room, aim: Some(aim), plan: None })
+    Some(Case { files, room, helper, aim: Some(aim), plan: None })
 }
 
 fn fitting<T: Copy>(damages: &[(u32, T)], number: u32) -> Vec<T> {
@@ -171,8 +229,9 @@ pub fn several(rng: &mut Rng, size: Size) -> Case {
     }
     let words = planned_words(&plan);
     let room = rng.pick(&[words, words, words - 1]);
+    let helper = some_helper(rng, planned_helper(&sheet));
     let files = files_of(rng, &sheet);
-    Case { files, room, aim: None, plan: None }
+    Case { files, room, helper, aim: None, plan: None }
 }
 
 /// (c) A delivery with one to three bytes or lines changed.
@@ -190,6 +249,10 @@ pub fn mutated(rng: &mut Rng, size: Size) -> Case {
     }
     if rng.once_in(60) {
         case.files.swap(rng.index(5), rng.index(5));
+    }
+    // Else as many as before, which a line more or less makes too few or further ones.
+    if !rng.once_in(6) {
+        case.helper = some_helper(rng, counted_helper(&case.files));
     }
     Case { aim: None, plan: None, ..case }
 }
@@ -231,7 +294,7 @@ fn mutate_lines(rng: &mut Rng, file: &mut Vec<u8>) {
     *file = pieces.join(&b'\n');
 }
 
-/// The cases of a long run: turn by turn valid, damaged (each refusal 2 to 20 in turn), several damages, mutated.
+/// The cases of a long run: turn by turn valid, damaged (each refusal in turn), several damages, mutated.
 pub fn mixed(rng: &mut Rng, turn: u32) -> Case {
     let size = match rng.below(300) {
         0 => Size::Large,
@@ -240,13 +303,14 @@ pub fn mixed(rng: &mut Rng, turn: u32) -> Case {
     };
     match turn % 5 {
         0 => valid(rng, size),
-        1 | 2 => damaged(rng, size, 2 + turn / 5 % 19),
+        1 | 2 => damaged(rng, size, DAMAGES[turn as usize / 5 % DAMAGES.len()]),
         3 => several(rng, size),
         _ => mutated(rng, size),
     }
 }
 
-/// Refusal 1: a file of exactly 16,777,216 bytes, or of some more. These cases are large, so they are rare.
+/// Refusal 1: a file of exactly 16,777,216 bytes, or of some more; often with too few helper words. These cases are large, so
+/// they are rare.
 pub fn oversized(rng: &mut Rng) -> Case {
     const MOST: usize = 16_777_216;
     let mut case = valid(rng, Size::Small);
@@ -262,9 +326,13 @@ pub fn oversized(rng: &mut Rng) -> Case {
     }
     let size = rng.pick(&[MOST, MOST + 1, MOST + 1_000]);
     bytes.resize(size, b' ');
-    if size > MOST {
-        case.aim = Some(Aim { number: 1, file: file as u32 + 1, line: 0, column: 0 });
-        case.plan = None;
-    }
-    case
+    let needed = counted_helper(&case.files);
+    let short = rng.once_in(3);
+    case.helper = if short { short_helper(rng, needed) } else { enough_helper(rng, needed) };
+    case.aim = match (size > MOST, short) {
+        (true, _) => Some(Aim { number: 1, file: file as u32 + 1, line: 0, column: 0 }),
+        (false, true) => Some(Aim { number: 51, file: 0, line: 0, column: 0 }),
+        (false, false) => return case,
+    };
+    Case { plan: None, ..case }
 }

@@ -3,8 +3,10 @@
 mod ends;
 mod services;
 mod shortest;
+mod worst;
 
-pub use shortest::{empty_lines, shortest_records};
+pub use shortest::{empty_lines, shortest_in, shortest_records};
+pub use worst::{bucket, worst_numbers, WORST_STOP_LINES};
 
 use std::iter::once;
 

@@ -109,8 +109,14 @@ pub fn random(rng: &mut Rng, size: Size) -> Plan {
         2 => rng.pick(&[36_523, 36_583, 45_990, 73_108]),
         _ => rng.below(LAST_DAY + 2 - days),
     };
-    let mut plan =
-        Plan { first_day, days, bitfields: Vec::new(), stops: Vec::new(), interchange: Vec::new(), services: Vec::new() };
+    let mut plan = Plan {
+        first_day,
+        days,
+        bitfields: Vec::new(),
+        stops: Vec::new(),
+        interchange: Vec::new(),
+        services: Vec::new(),
+    };
     let stops = match size {
         Size::Small => rng.between(2, 6),
         _ if rng.once_in(40) => 0,
@@ -277,12 +283,17 @@ fn random_operation(rng: &mut Rng, plan: &mut Plan, legs: usize, size: Size) -> 
     let classes: Vec<(usize, usize)> = (0..rng.between(1, 3))
         .map(|_| {
             let (a, b) = (rng.index(parts + 1), rng.index(parts + 1));
-            if rng.coin() { (0, parts) } else { (a.min(b), a.max(b)) }
+            if rng.coin() {
+                (0, parts)
+            } else {
+                (a.min(b), a.max(b))
+            }
         })
         .collect();
     let weekly = rng.coin();
-    let class_of: Vec<usize> =
-        (0..plan.days).map(|d| if weekly { (d % 7) as usize % classes.len() } else { rng.index(classes.len()) }).collect();
+    let class_of: Vec<usize> = (0..plan.days)
+        .map(|d| if weekly { (d % 7) as usize % classes.len() } else { rng.index(classes.len()) })
+        .collect();
     let mut ranges = Vec::new();
     for part in 0..parts {
         let words = bitfield_of(plan.days, |d| {

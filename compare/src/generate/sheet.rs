@@ -48,7 +48,8 @@ impl Blanks {
 
 /// The lines of a plan, with skipped lines between.
 pub fn sheet(rng: &mut Rng, plan: &Plan) -> Sheet {
-    let mut files = [dates(rng, plan), bitfields(rng, plan), stops(rng, plan), interchange(rng, plan), services(rng, plan)];
+    let mut files =
+        [dates(rng, plan), bitfields(rng, plan), stops(rng, plan), interchange(rng, plan), services(rng, plan)];
     let rare = rng.pick(&[4, 12, 1_000, 1_000]);
     for rows in &mut files[1..] {
         insert_skipped(rng, rows, rare);
@@ -176,9 +177,8 @@ fn service_rows(rng: &mut Rng, service: &Service, s: usize) -> Vec<Row> {
     if rng.once_in(4) {
         rng.shuffle(&mut ranges);
     }
-    let calls: Vec<Row> = (0..service.calls.len())
-        .map(|i| Row { tag: Tag::Call(s, i), text: call_text(rng, service, i) })
-        .collect();
+    let calls: Vec<Row> =
+        (0..service.calls.len()).map(|i| Row { tag: Tag::Call(s, i), text: call_text(rng, service, i) }).collect();
     if !rng.once_in(4) {
         return ranges.into_iter().chain(calls).collect();
     }

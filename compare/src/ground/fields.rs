@@ -120,9 +120,7 @@ fn ask_hashes(tally: &mut Tally, rng: &mut Rng) {
             for digits in 0..width - before {
                 let mut line = vec![b' '; width];
                 line[before] = b'#';
-                for at in before + 1..before + 1 + digits {
-                    line[at] = rng.pick(b"0123456789");
-                }
+                line[before + 1..][..digits].fill_with(|| rng.pick(b"0123456789"));
                 tally.ask(Question { what, bytes: &line, numbers: [1, width as u32, 0, 0] });
             }
         }

@@ -149,7 +149,7 @@ impl Question<'_> {
 
 /// The question that `Question::text` wrote: what, bytes and numbers.
 pub fn parse(words: &[String]) -> Option<(What, Vec<u8>, [u32; 4])> {
-    let (name, hex) = (words.get(0)?, words.get(1)?);
+    let (name, hex) = (words.first()?, words.get(1)?);
     let what = WHATS.iter().find(|entry| entry.1 == name)?.0;
     let mut numbers = [0; 4];
     for (number, word) in numbers.iter_mut().zip(&words[2..]) {

@@ -2,8 +2,8 @@
 //! column from 1 where the leftmost field or unnamed column that breaks it starts (document 02, No. 6).
 
 use super::fields::{
-    all_blank, column, count, date, detail, digits, digits_or_blank, hex_words, no_blank, range_end, repeats_and_offset,
-    time, Date, Detail, RangeEnd, Time,
+    all_blank, column, count, date, detail, digits, digits_or_blank, hex_words, no_blank, range_end,
+    repeats_and_offset, time, Date, Detail, RangeEnd, Time,
 };
 
 /// A field counts at the column where it starts.

@@ -1,4 +1,4 @@
-//! The load of a delivery: "Order of offences", refusals 1 to 20.
+//! The load of a delivery: "Order of offences", refusals 1 to 20; and 51, helper words (document 02, No. 13).
 
 use std::collections::{HashMap, HashSet};
 
@@ -67,14 +67,29 @@ const MOST_CATEGORIES: usize = 50;
 const MOST_DAY_RANGES: usize = 50;
 const MOST_OTHERS: usize = 100;
 
+/// No. 13: "helper words are lent: 64, and four for each line of BITFELD, BAHNHOF and UMSTEIGB".
+pub fn helper_needed(files: [&[u8]; 5]) -> usize {
+    let [_, bitfeld, bahnhof, umsteigb, _] = files;
+    64 + [bitfeld, bahnhof, umsteigb].iter().map(|file| 4 * lines(file).len()).sum::<usize>()
+}
+
 /// Loads the five files, ECKDATEN, BITFELD, BAHNHOF, UMSTEIGB, FPLAN. "A refusal returns number, file, line, and the
 /// words needed (0 unless 20); the table stays as lent. Acceptance returns words used; later words stay." Document 02, No. 6:
 /// "A refusal 4 also returns the column where the leftmost field or unnamed column that breaks the form starts ..; all other
-/// refusals return 0 there."
-pub fn load(files: [&[u8]; 5], lent: &mut [u32]) -> Loaded {
+/// refusals return 0 there." No. 13: "Those words hold 0 afterwards; any further ones stay. Refusals: 51, directly after 1, for
+/// fewer helper words, file 0, line 0, with the words needed; after 1 and 51 all helper words stay."
+pub fn load(files: [&[u8]; 5], lent: &mut [u32], helper: &mut [u32]) -> Loaded {
+    if let Err(too_long) = check_lengths(files) {
+        return refused(too_long);
+    }
+    let needed = helper_needed(files);
+    match helper.get_mut(..needed) {
+        Some(words) => words.fill(0),
+        None => return Loaded::Refused { number: 51, file: 0, line: 0, column: 0, needed: needed as u32 },
+    }
     let delivery = match read(files) {
         Ok(delivery) => delivery,
-        Err(Offence { number, file, line, column }) => return Loaded::Refused { number, file, line, column, needed: 0 },
+        Err(offence) => return refused(offence),
     };
     let words = table::words(&delivery);
     let used = words.len() as u32;
@@ -85,13 +100,22 @@ pub fn load(files: [&[u8]; 5], lent: &mut [u32]) -> Loaded {
     Loaded::Accepted { words: used }
 }
 
-/// "First, lengths in file order; then files 1 to 5, each by line". (The fifth file's services come with it.)
-pub fn read(files: [&[u8]; 5]) -> Result<Delivery, Offence> {
+fn refused(Offence { number, file, line, column }: Offence) -> Loaded {
+    Loaded::Refused { number, file, line, column, needed: 0 }
+}
+
+/// "First, lengths in file order"
+fn check_lengths(files: [&[u8]; 5]) -> Result<(), Offence> {
     for (file, bytes) in (1..).zip(files) {
         if bytes.len() > MOST_BYTES {
             return refuse(1, file, 0);
         }
     }
+    Ok(())
+}
+
+/// "then files 1 to 5, each by line". (The fifth file's services come with it.)
+fn read(files: [&[u8]; 5]) -> Result<Delivery, Offence> {
     let mut delivery = Delivery::default();
     read_dates(files[0], &mut delivery)?;
     read_bitfields(files[1], &mut delivery)?;

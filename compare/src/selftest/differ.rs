@@ -1,9 +1,10 @@
 //! The comparison itself: it passes the reader, and finds a boundary that slips in one thing.
 
 use crate::boundary::{Boundary, Reader};
-use crate::differ::{compare, Tally};
+use crate::differ::{compare, Tally, OVERSIZED_EVERY};
 use crate::layout::ROW_WORDS;
-use crate::reader::Combination;
+use crate::reader::lines::{lines, skipped};
+use crate::reader::{helper_needed, Combination};
 
 /// The reader with one slip each, and the list of them.
 macro_rules! slips {
@@ -31,6 +32,18 @@ slips!(
     RepeatsBlamed,
     ColumnOfDate,
     RefusesAll,
+    HelperWordLeft,
+    HelperLeftOnRefusal,
+    FurtherHelperWord,
+    HelperOutside,
+    HelperOnShort,
+    HelperOnLength,
+    HelperNeededLost,
+    HelperBeforeLength,
+    HelperAfterFiles,
+    SkippedLinesFree,
+    LastLineFree,
+    OtherFilesCounted,
     DayZeroRests,
     OldClassTwo,
     NoRows,
@@ -54,12 +67,35 @@ fn bump(words: &mut [u32], at: usize) {
 }
 
 impl Boundary for Slip {
-    fn load(&self, files: [&[u8]; 5], table: &mut [u32]) -> [u32; 5] {
+    fn load(&self, files: [&[u8]; 5], table: &mut [u32], helper: &mut [u32]) -> [u32; 5] {
         if let RefusesAll = self {
             return [4, 1, 1, 0, 1];
         }
-        let answer = Reader.load(files, table);
+        let (needed, before) = (helper_needed(files), helper.to_vec());
+        let asked = self.helper_asked(files, needed);
+        let mut own = vec![0; needed];
+        let answer = match self {
+            HelperBeforeLength if helper.len() < needed => [51, 0, 0, needed as u32, 0],
+            HelperAfterFiles if helper.len() < needed => match Reader.load(files, &mut [], &mut own) {
+                [20, ..] => [51, 0, 0, needed as u32, 0],
+                refused => refused,
+            },
+            _ if asked < needed && (asked..needed).contains(&helper.len()) => Reader.load(files, table, &mut own),
+            _ if asked > needed && (needed..asked).contains(&helper.len()) => [51, 0, 0, asked as u32, 0],
+            _ => Reader.load(files, table, helper),
+        };
         let [number, file, line, words, column] = answer;
+        match self {
+            HelperWordLeft if number == 0 => bump(helper, needed - 1),
+            HelperLeftOnRefusal if number == 20 => helper.copy_from_slice(&before),
+            FurtherHelperWord if number != 1 && number != 51 && helper.len() > needed => helper[needed] = 0,
+            // SAFETY: the comparison keeps guard words behind the helper words.
+            HelperOutside if number == 0 => unsafe { *helper.as_mut_ptr().add(helper.len()) = 0 },
+            HelperOnShort if number == 51 => helper.fill(0),
+            HelperOnLength if number == 1 => helper.fill(0),
+            HelperNeededLost if number == 51 => return [51, 0, 0, 0, 0],
+            _ => {}
+        }
         match self {
             WordAfterUsed if number == 0 => bump(table, words as usize),
             // SAFETY: the comparison keeps guard words behind the words lent.
@@ -144,9 +180,24 @@ impl Boundary for Slip {
     }
 }
 
+impl Slip {
+    /// The helper words that a slip asks for, where so many are needed.
+    fn helper_asked(&self, files: [&[u8]; 5], needed: usize) -> usize {
+        let of = |at: usize| lines(files[at]);
+        match self {
+            SkippedLinesFree => needed - 4 * (1..4).flat_map(of).filter(|line| skipped(line.text)).count(),
+            LastLineFree => needed - 4 * (1..4).filter(|at| !matches!(files[*at].last(), None | Some(b'\n'))).count(),
+            OtherFilesCounted => needed + 4 * [0, 4].iter().map(|at| of(*at).len()).sum::<usize>(),
+            _ => needed,
+        }
+    }
+}
+
+/// The first of so many cases that differs, or of some with long files behind them.
 fn first_difference(boundary: &dyn Boundary, cases: u64) -> Option<u64> {
     let mut tally = Tally::default();
-    (0..cases).find(|index| compare(9, *index, &[("slip", boundary)], &mut tally).is_err())
+    let long = (1..=12).map(|nth| nth * OVERSIZED_EVERY - 1);
+    (0..cases).chain(long).find(|index| compare(9, *index, &[("slip", boundary)], &mut tally).is_err())
 }
 
 #[test]

@@ -57,9 +57,9 @@ fn trial_week() -> [Vec<u8>; 5] {
 }
 
 fn load_in(files: &[Vec<u8>; 5], room: usize) -> (Loaded, Vec<u32>) {
-    let mut table = vec![7; room];
+    let (mut table, mut helper) = (vec![7; room], vec![7; 200]);
     let [a, b, c, d, e] = files;
-    let loaded = load([a, b, c, d, e], &mut table);
+    let loaded = load([a, b, c, d, e], &mut table, &mut helper);
     (loaded, table)
 }
 
@@ -131,9 +131,8 @@ fn periods_in_files() {
 #[test]
 fn ends_on_r() {
     let route = route_r();
-    let end = |place: &str, beside: &str| {
-        End { place: range_end(place.as_bytes(), 1), detail: detail(beside.as_bytes(), 1) }
-    };
+    let end =
+        |place: &str, beside: &str| End { place: range_end(place.as_bytes(), 1), detail: detail(beside.as_bytes(), 1) };
     assert_eq!(to_index(&route, end("1000022", "")), Some(3));
     assert_eq!(from_index(&route, end("1000022", "")), Some(1));
     assert_eq!(to_index(&route, end("1000022", "#0")), Some(1));
@@ -186,6 +185,40 @@ fn the_trial_week() {
     assert_eq!(table[60..66], [4_342_100, 0, 3, 1, 0, 3]);
     assert_eq!(load_in(&files, 65).0, Loaded::Refused { number: 20, file: 0, line: 0, column: 0, needed: 66 });
     assert_eq!(load_in(&files, 65).1, [7; 65]);
+}
+
+/// Document 02, No. 13: "64, and four for each line of BITFELD, BAHNHOF and UMSTEIGB", which are five lines here. Each refusal
+/// with the helper words that it leaves.
+#[test]
+fn helper_words() {
+    let with = |files: &[Vec<u8>; 5], room: usize, helper: usize| {
+        let (mut table, mut helper) = (vec![7; room], vec![9; helper]);
+        let [a, b, c, d, e] = files;
+        let loaded = load([a, b, c, d, e], &mut table, &mut helper);
+        (loaded, table == vec![7; room], helper)
+    };
+    let short = |needed| Loaded::Refused { number: 51, file: 0, line: 0, column: 0, needed };
+    let emptied = |needed: usize, further: usize| [vec![0; needed], vec![9; further]].concat();
+    let week = trial_week();
+    assert_eq!(with(&week, 66, 84), (Loaded::Accepted { words: 66 }, false, emptied(84, 0)));
+    assert_eq!(with(&week, 66, 90), (Loaded::Accepted { words: 66 }, false, emptied(84, 6)));
+    assert_eq!(with(&week, 66, 83), (short(84), true, vec![9; 83]));
+    assert_eq!(with(&week, 0, 0), (short(84), true, vec![]));
+    assert_eq!(with(&week, 65, 85).2, emptied(84, 1));
+    // skipped lines, and a last one without LF; neither ECKDATEN nor FPLAN
+    let mut more = trial_week();
+    more[1].extend_from_slice(b"\n%");
+    more[3].extend_from_slice(b"  \r\n\r");
+    more[4].extend_from_slice(b"\n\n\n");
+    assert_eq!(with(&more, 66, 99).0, short(100));
+    assert_eq!(with(&more, 66, 101), (Loaded::Accepted { words: 66 }, false, emptied(100, 1)));
+    more[0] = b"broken".to_vec();
+    assert_eq!(with(&more, 66, 99).0, short(100));
+    assert_eq!(with(&more, 66, 101), (broken(1, 1, 1), true, emptied(100, 1)));
+    // "directly after 1"
+    more[4].resize(16_777_217, b' ');
+    assert_eq!(with(&more, 66, 99), (refused(1, 5, 0), true, vec![9; 99]));
+    assert_eq!(with(&more, 66, 101), (refused(1, 5, 0), true, vec![9; 101]));
 }
 
 #[test]
@@ -269,7 +302,8 @@ fn columns_of_a_broken_form() {
 
 #[test]
 fn pieces() {
-    let cut = |file: &[u8]| lines(file).iter().map(|line| (line.no, line.start, line.text.to_vec())).collect::<Vec<_>>();
+    let cut =
+        |file: &[u8]| lines(file).iter().map(|line| (line.no, line.start, line.text.to_vec())).collect::<Vec<_>>();
     assert_eq!(cut(b""), []);
     assert_eq!(cut(b"\n"), [(1, 0, Vec::new())]);
     assert_eq!(cut(b"a\r\n\nb\r\r"), [(1, 0, b"a".to_vec()), (2, 3, Vec::new()), (3, 4, b"b\r".to_vec())]);

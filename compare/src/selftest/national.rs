@@ -1,6 +1,9 @@
 //! Large deliveries: each is accepted, and is what was wanted.
 
-use crate::generate::{empty_lines, national, shortest_records, National, Numbers, Rng};
+use crate::generate::{
+    bucket, counted_helper, empty_lines, national, shortest_in, shortest_records, worst_numbers, National, Numbers,
+    Rng, WORST_STOP_LINES,
+};
 use crate::layout::{BIT_FIELDS_AT, SERVICES_AT, STOPS_AT};
 use crate::reader::{load, Loaded};
 
@@ -10,7 +13,8 @@ const NUMBERS: [Numbers; 3] = [Numbers::Consecutive, Numbers::EqualEnding, Numbe
 fn table_of(files: &[Vec<u8>; 5]) -> Vec<u32> {
     let [a, b, c, d, e] = files;
     let mut table = vec![0; 8_000_000];
-    match load([a, b, c, d, e], &mut table) {
+    let mut helper = vec![7; counted_helper(files)];
+    match load([a, b, c, d, e], &mut table, &mut helper) {
         Loaded::Accepted { words } => table.truncate(words as usize),
         refused => panic!("{:?}", refused),
     }
@@ -58,4 +62,32 @@ fn shortest_lines() {
     let files = empty_lines(10_000);
     assert_eq!(files[1..4].iter().map(Vec::len).collect::<Vec<_>>(), [10_000; 3]);
     assert_eq!(table_of(&files)[BIT_FIELDS_AT..=SERVICES_AT], [0, 0, 1, 0]);
+}
+
+/// One file alone; UMSTEIGB needs the stops.
+#[test]
+fn shortest_lines_of_a_file() {
+    let counts = |file| table_of(&shortest_in(&mut Rng::new(1), 100_000, file))[BIT_FIELDS_AT..=SERVICES_AT].to_vec();
+    assert_eq!([2, 3, 4].map(counts), [[961, 0, 1, 0], [0, 7_142, 1, 0], [0, 7_142, 7_142, 0]]);
+}
+
+/// Each file has as many lines as its map has buckets, and all its numbers are of one of them.
+#[test]
+fn worst_files() {
+    for (lines, listed) in [(500, 500), (WORST_STOP_LINES, 3_162), (20_000, 504)] {
+        let files = worst_numbers(&mut Rng::new(1), 100_000, lines);
+        let table = table_of(&files);
+        let ends = |file: usize| files[file].iter().filter(|byte| **byte == b'\n').count();
+        assert_eq!([1, 2, 3].map(ends), [1_000, lines, lines]);
+        assert!(listed - 5 <= table[STOPS_AT] as usize && table[STOPS_AT] as usize <= listed, "{}", table[STOPS_AT]);
+        assert!(table[BIT_FIELDS_AT] > 990 && table[SERVICES_AT] > 0);
+        let numbers = |file: usize, digits: usize| {
+            let records = files[file].split(|byte| *byte == b'\n').filter(|line| !line.is_empty());
+            records.map(|line| String::from_utf8_lossy(&line[..digits]).parse::<u32>().unwrap()).collect::<Vec<_>>()
+        };
+        for (file, digits, lines) in [(1, 6, 1_000), (2, 7, lines)] {
+            let buckets: Vec<usize> = numbers(file, digits).iter().map(|number| bucket(*number, lines)).collect();
+            assert!(buckets.iter().all(|at| *at == buckets[0]));
+        }
+    }
 }

@@ -7,7 +7,9 @@ use crate::differ::{rng_of, senseless};
 use crate::generate::bend_table::{BENDS, NO_TABLES, POKES};
 use crate::generate::plan::date_of;
 use crate::generate::raw_table::parts;
-use crate::generate::{damaged_table, mixed, oversized, question, valid, Aim, Case, Question, Rng, Size};
+use crate::generate::{
+    counted_helper, damaged_table, mixed, oversized, question, valid, Aim, Case, Question, Rng, Size, DAMAGES,
+};
 use crate::layout::{ROW_FLAGS_AT, ROW_WORDS};
 use crate::reader::{day, interchange, is_table, load, walk, Changed, DayAnswer, Loaded, Walked};
 
@@ -56,10 +58,18 @@ fn turns(seed: u64, count: u32, mut work: impl FnMut(&mut Rng, u32)) {
     }
 }
 
-/// Loads a case; a refusal leaves the table as lent, an acceptance the words after those used.
+/// Loads a case; a refusal leaves the table as lent, an acceptance the words after those used. The helper words that are needed
+/// hold 0, further ones stay; after 1 and 51 all stay.
 fn run(case: &Case) -> (Loaded, Vec<u32>) {
     let mut table = vec![LENT; case.room];
-    let loaded = load(case.slices(), &mut table);
+    let mut helper = case.helper.clone();
+    let loaded = load(case.slices(), &mut table, &mut helper);
+    let emptied = match loaded {
+        Loaded::Refused { number: 1 | 51, .. } => 0,
+        _ => counted_helper(&case.files),
+    };
+    assert!(helper[..emptied].iter().all(|word| *word == 0));
+    assert_eq!(helper[emptied..], case.helper[emptied..]);
     let used = match loaded {
         Loaded::Accepted { words } => words as usize,
         Loaded::Refused { .. } => 0,
@@ -76,8 +86,14 @@ fn check_aim(case: &Case, aim: &Aim, loaded: Loaded) {
     match loaded {
         Loaded::Refused { number, file, line, column, needed } => {
             assert_eq!((number, file, line, column), (aim.number, aim.file, aim.line, aim.column));
-            assert_eq!(needed > case.room as u32, number == 20);
-            assert!(number == 20 || needed == 0);
+            match number {
+                20 => assert!(needed > case.room as u32),
+                51 => assert_eq!(
+                    (needed as usize, needed > case.helper.len() as u32),
+                    (counted_helper(&case.files), true)
+                ),
+                _ => assert_eq!(needed, 0),
+            }
         }
         Loaded::Accepted { .. } => panic!("accepted, but aimed at {:?}", aim),
     }
@@ -111,7 +127,7 @@ fn loads() {
         }
     });
     show("loads", &histogram);
-    (2..=20).for_each(|number| came_often(&histogram, number));
+    DAMAGES.iter().for_each(|number| came_often(&histogram, *number));
 }
 
 #[test]

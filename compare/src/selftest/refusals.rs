@@ -106,8 +106,13 @@ fn with(mut files: Files, number: u32, line: u32, lines: Vec<String>) -> Files {
 
 /// number, file, line, words, column
 fn answer(files: &Files, room: usize) -> [u32; 5] {
+    helped(files, room, 5_000)
+}
+
+/// The same with so many helper words.
+fn helped(files: &Files, room: usize, helper: usize) -> [u32; 5] {
     let [a, b, c, d, e] = files;
-    Reader.load([a, b, c, d, e], &mut vec![0; room])
+    Reader.load([a, b, c, d, e], &mut vec![0; room], &mut vec![0; helper])
 }
 
 fn check_example([number, of, line, column]: [u32; 4], lines: &[&str]) {
@@ -119,6 +124,11 @@ fn check_example([number, of, line, column]: [u32; 4], lines: &[&str]) {
     }
     if number == 20 {
         assert_eq!(answer(&trial_week(), 65), [number, of, line, 66, column]);
+        return;
+    }
+    if number == 51 {
+        assert_eq!(helped(&trial_week(), 66, 83), [number, of, line, 84, column]);
+        assert_eq!(helped(&trial_week(), 66, 84)[0], 0);
         return;
     }
     let cut = lines.iter().position(|line| *line == "mended").unwrap();
@@ -144,7 +154,7 @@ fn examples() {
             shown.insert(refusal[0]);
         }
     }
-    assert!(shown.into_iter().eq(1..=20));
+    assert!(shown.into_iter().eq((1..=20).chain([51])));
 }
 
 #[test]

@@ -63,7 +63,12 @@ pub fn saturdays(boundary: &dyn Boundary) -> Vec<Checked> {
     let expected: Vec<u32> = (0..SATURDAY_DAYS).flat_map(|d| [0, u32::from(d % 7 == 6)]).collect();
     vec![
         refused("5.4.2 as printed, with dots", format!("000001 {} ...", printed), 4, 8),
-        refused("5.4.2 the first digits, without frame", bitfield("000001", "02040810204081020408102040810204081"), 8, 0),
+        refused(
+            "5.4.2 the first digits, without frame",
+            bitfield("000001", "02040810204081020408102040810204081"),
+            8,
+            0,
+        ),
         refused("5.4.2 the framed digits, not closed", bitfield("000001", printed), 8, 0),
         accepted,
         Checked::new("5.4.2 the digits begin as printed", &[1], &[begins]),
@@ -83,7 +88,13 @@ pub fn interchange_times(boundary: &dyn Boundary) -> Vec<Checked> {
         HEADER_WORDS + 2 * STOP_WORDS + 2 * INTERCHANGE_WORDS,
     );
     let minutes = |stop, class| boundary.interchange(&table, stop, [class, class])[1];
-    let asked = [minutes(8_800_002, 1), minutes(8_800_002, 2), minutes(8_800_002, 3), minutes(5_800_010, 1), minutes(5_800_010, 3)];
+    let asked = [
+        minutes(8_800_002, 1),
+        minutes(8_800_002, 2),
+        minutes(8_800_002, 3),
+        minutes(5_800_010, 1),
+        minutes(5_800_010, 3),
+    ];
     vec![
         printed.refused(boundary, "5.7 with one blank between, columns 9-10 are no count", [4, 4, 1, 9]),
         records.refused(boundary, "5.7 Basel is not in BAHNHOF", [9, 4, 2, 0]),

@@ -127,9 +127,8 @@ pub fn service_114_refused(boundary: &dyn Boundary) -> Vec<Checked> {
     wide.files[4] = taken.join("\n").into_bytes();
     let mut next: Vec<String> = taken.iter().map(|line| mended(line)).collect();
     next.push(NEXT_SERVICE.to_string());
-    let refused = |text: &str, lines: &[String], refusal: [u32; 4]| {
-        paper.clone().with(5, lines).refused(boundary, text, refusal)
-    };
+    let refused =
+        |text: &str, lines: &[String], refusal: [u32; 4]| paper.clone().with(5, lines).refused(boundary, text, refusal);
     vec![
         refused("5.3.14 as printed, *L", &without(&[]), [11, 5, 5, 0]),
         refused("5.3.14 without *L, *R", &without(&NOT_TAKEN[..1]), [11, 5, 5, 0]),

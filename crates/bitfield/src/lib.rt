@@ -4,6 +4,8 @@ ghost use mathlib.Core.Bool.{not, true, false, _&&_, _||_};
 ghost use Prim.Native.Nat.{ℕ, _+_, _*_, _≤_, _<_};
 ghost use lib.ListN.{length, take, drop, getD};
 ghost use Rattle.columns.specs.Columns.{padTo, hexValue};
+ghost use Rattle.bitfield.specs.BitField.{hexFrom, bitsIn, bit, runsOn, frameBit, nextBound, framed, someDay, noBit};
+ghost use Rattle.bitfield.specs.Digits.{Digits, fourDigits};
 
 // The bit field whose 96 hex digits stand in columns 8 to 103 of a line.
 pub fn bits_in(line: &[u8]) -> [u32; 12]

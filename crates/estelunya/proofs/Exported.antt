@@ -1,12 +1,13 @@
 -- What a caller of the exported functions holds in hand: that a number of 0 is no refusal, what a walk's numbers say, and demand 3 of
 -- `estelunya_load` and `estelunya_walk`. specs/Promise.antt states it. Assumes nothing.
 use mathlib.Core.Path.{_≡_, refl, sym, ap, subst, _∙_}
+use mathlib.Core.Logic.{_⊎_, ⊎-elim}
 use mathlib.Core.List.{List}
 use Prim.Native.Nat.{ℕ, _-_, _*_, _≤_}
 use native.Mathlib.Omega.{arith}
-use lib.ListN.{length}
+use lib.ListN.{length, replicate}
 use Rattle.timetable.specs.Delivery.{Files, Service, Delivery}
-use Rattle.timetable.specs.Load.{delivered, loaded}
+use Rattle.timetable.specs.Load.{delivered, onto, helperNeeded, loaded, helped}
 use Rattle.timetable.specs.Layout.{rowSize}
 use Rattle.timetable.specs.Questions.{dayAsked, interchangeAsked, walked}
 use Rattle.timetable.specs.declared.DayAnswer.{DayAnswer}
@@ -22,27 +23,37 @@ use Rattle.whole_runs.specs.Promise.{Walk, not-running, short, runs, TwoRows}
 use Rattle.whole_runs.proofs.Any.{two-rows}
 use Rattle.whole_runs.proofs.Slack.{never-both}
 use Rattle.whole_runs.proofs.Demand3.{demand3-promised}
-use Rattle.whole_runs.proofs.Numbers.{load-numbered, load-columned, day-numbered, interchange-numbered, walk-numbered}
+use Rattle.whole_runs.proofs.Numbers.{load-numbered, load-columned, helper-stays, helper-zeros, helper-accepted, day-numbered, interchange-numbered, walk-numbered}
 use Rattle.estelunya.specs.declared.LoadResult.{LoadResult}
 use Rattle.estelunya.specs.declared.WalkResult.{WalkResult}
 use Rattle.estelunya.specs.Answers.{loadResult, dayResult, interchangeResult, walkResult}
 use Rattle.estelunya.specs.Promise.{Answered, not-running, short, runs, WholeRuns, Decoded}
 
 -- an answer numbered 0 is an acceptance, with the words used
-pub accepted : (f : Files) (room : ℕ) → loadResult (loaded f room) .number ≡ 0 → loaded f room ≡ Accepted (loadResult (loaded f room) .words)
-accepted f room e = go (loaded f room) refl e
+pub accepted : (f : Files) (room helper : ℕ) → loadResult (loaded f room helper) .number ≡ 0 → loaded f room helper ≡ Accepted (loadResult (loaded f room helper) .words)
+accepted f room helper e = go (loaded f room helper) refl e
   where
-    go : (a : Loaded) → loaded f room ≡ a → loadResult a .number ≡ 0 → a ≡ Accepted (loadResult a .words)
+    go : (a : Loaded) → loaded f room helper ≡ a → loadResult a .number ≡ 0 → a ≡ Accepted (loadResult a .words)
     go (Accepted used) q e = refl
-    go (Refused number file line column needed) q e = let h = load-numbered f room number file line column needed q in absurd (omega (arith, h, e))
+    go (Refused number file line column needed) q e = let h = load-numbered f room helper number file line column needed q in absurd (omega (arith, h, e))
 
 -- an answer has a column exactly if its number is 4
-pub columned : (f : Files) (room : ℕ) {x : LoadResult} → x ≡ loadResult (loaded f room) → (x .number ≡ 4 → 1 ≤ x .column) × ((x .number ≡ 4 → ⊥) → x .column ≡ 0)
-columned f room e = subst (λ (y : LoadResult). (y .number ≡ 4 → 1 ≤ y .column) × ((y .number ≡ 4 → ⊥) → y .column ≡ 0)) (sym e) (go (loaded f room) refl)
+pub columned : (f : Files) (room helper : ℕ) {x : LoadResult} → x ≡ loadResult (loaded f room helper) → (x .number ≡ 4 → 1 ≤ x .column) × ((x .number ≡ 4 → ⊥) → x .column ≡ 0)
+columned f room helper e = subst (λ (y : LoadResult). (y .number ≡ 4 → 1 ≤ y .column) × ((y .number ≡ 4 → ⊥) → y .column ≡ 0)) (sym e) (go (loaded f room helper) refl)
   where
-    go : (a : Loaded) → loaded f room ≡ a → (loadResult a .number ≡ 4 → 1 ≤ loadResult a .column) × ((loadResult a .number ≡ 4 → ⊥) → loadResult a .column ≡ 0)
+    go : (a : Loaded) → loaded f room helper ≡ a → (loadResult a .number ≡ 4 → 1 ≤ loadResult a .column) × ((loadResult a .number ≡ 4 → ⊥) → loadResult a .column ≡ 0)
     go (Accepted used) q = (λ k. absurd (omega arith), λ k. refl)
-    go (Refused number file line column needed) q = load-columned f room number file line column needed q
+    go (Refused number file line column needed) q = load-columned f room helper number file line column needed q
+
+-- No. 13: "after 1 and 51 all helper words stay"; after any other answer the needed ones hold 0 and further ones stay
+pub helper-kept : (f : Files) (room : ℕ) (h : List ℕ) {x : LoadResult} → x ≡ loadResult (loaded f room (length h))
+    → ((x .number ≡ 1) ⊎ (x .number ≡ 51) → helped f h ≡ h) × ((x .number ≡ 1 → ⊥) → (x .number ≡ 51 → ⊥) → helped f h ≡ onto (replicate (helperNeeded f) 0) h)
+helper-kept f room h e = subst (λ (y : LoadResult). ((y .number ≡ 1) ⊎ (y .number ≡ 51) → helped f h ≡ h) × ((y .number ≡ 1 → ⊥) → (y .number ≡ 51 → ⊥) → helped f h ≡ onto (replicate (helperNeeded f) 0) h)) (sym e) (go (loaded f room (length h)) refl)
+  where
+    go : (a : Loaded) → loaded f room (length h) ≡ a
+        → ((loadResult a .number ≡ 1) ⊎ (loadResult a .number ≡ 51) → helped f h ≡ h) × ((loadResult a .number ≡ 1 → ⊥) → (loadResult a .number ≡ 51 → ⊥) → helped f h ≡ onto (replicate (helperNeeded f) 0) h)
+    go (Accepted used) q = (⊎-elim (λ z. absurd (omega (arith, z))) (λ z. absurd (omega (arith, z))), λ y z. helper-accepted f h room used q)
+    go (Refused number file line column needed) q = (helper-stays f h room number file line column needed q, helper-zeros f h room number file line column needed q)
 
 -- and so with the questions: an answer numbered 0 is no refusal
 pub day-answered : (w : List ℕ) (d m y field number : ℕ) → dayResult (dayAsked w d m y field) .number ≡ 0 → dayAsked w d m y field ≡ DayRefused number → ⊥
@@ -90,8 +101,8 @@ module _ {d : Delivery} {s : Service} {r k : ℕ} {lent : List ℕ} where
   none-run (runs x l) w = absurd (never-both d s k w (x .unbroken))
 
 pub demand3-exported : WholeRuns
-demand3-exported f t a w b q e i r d m y day s h lent x v z k =
-    let promised = demand3-promised f t refl q (loadResult (loaded f (length t)) .words) (accepted f (length t) (sym (ap (λ (c : LoadResult). c .number) b) ∙ e)) i r d m y day s h lent refl k in
+demand3-exported f t helper a w b q e i r d m y day s h lent x v z k =
+    let promised = demand3-promised f t helper refl q (loadResult (loaded f (length t) helper) .words) (accepted f (length t) helper (sym (ap (λ (c : LoadResult). c .number) b) ∙ e)) i r d m y day s h lent refl k in
     let answered = subst (λ (y : WalkResult). Answered (delivered f) s r (day - delivered f .period .start) lent y v) (sym z) (in-numbers (promised .1)) in
     record {
       answered = answered;

@@ -5,7 +5,7 @@ use mathlib.Core.List.{List}
 use Prim.Native.Nat.{ℕ}
 use lib.ListN.{length}
 use Rattle.timetable.specs.Delivery.{Files}
-use Rattle.timetable.specs.Load.{loaded, written}
+use Rattle.timetable.specs.Load.{loaded, written, helped}
 use Rattle.timetable.specs.Questions.{dayAsked, interchangeAsked, walked, walkRows}
 use Rattle.estelunya.specs.declared.LoadResult.{LoadResult}
 use Rattle.estelunya.specs.declared.DayResult.{DayResult}
@@ -13,11 +13,11 @@ use Rattle.estelunya.specs.declared.InterchangeResult.{InterchangeResult
 use Rattle.estelunya.specs.declared.WalkResult.{WalkResult}
 use Rattle.estelunya.specs.Answers.{loadResult, dayResult, interchangeResult, walkResult}
 
--- load: its result, and all words of the table afterwards
-pub load-no-slack : (f : Files) (lent : List ℕ) {a b : LoadResult} {t u : List ℕ}
-    → a ≡ loadResult (loaded f (length lent)) → t ≡ written f lent
-    → b ≡ loadResult (loaded f (length lent)) → u ≡ written f lent → (a ≡ b) × (t ≡ u)
-load-no-slack f lent a t b u = (a ∙ sym b, t ∙ sym u)
+-- load: its result, all words of the table afterwards, and all helper words
+pub load-no-slack : (f : Files) (lent helper : List ℕ) {a b : LoadResult} {t u g h : List ℕ}
+    → a ≡ loadResult (loaded f (length lent) (length helper)) → t ≡ written f lent (length helper) → g ≡ helped f helper
+    → b ≡ loadResult (loaded f (length lent) (length helper)) → u ≡ written f lent (length helper) → h ≡ helped f helper → (a ≡ b) × (t ≡ u) × (g ≡ h)
+load-no-slack f lent helper a t g b u h = (a ∙ sym b, t ∙ sym u, g ∙ sym h)
 
 -- walk: its result, and all words of the rows afterwards
 pub walk-no-slack : (w : List ℕ) (i r d m y : ℕ) (lent : List ℕ) {a b : WalkResult} {t u : List ℕ}

@@ -36,12 +36,13 @@ pub record Walks (f : Files) (i : ℕ) (s : Service) (r k : ℕ) (lent : List �
   pub idle-only : x .number ≡ 0 → x .rows ≡ 0 → RunsNowhere (delivered f) s k
   pub idle-always : RunsNowhere (delivered f) s k → (x .number ≡ 0) × (x .rows ≡ 0)
 
--- Demand 3, whole. "Take a delivery that was accepted": `estelunya_load` answered a with number 0; "and its table unaltered": the words w that it left.
+-- Demand 3, whole. "Take a delivery that was accepted": `estelunya_load`, lent any number of helper words, answered a with number 0; "and its table
+-- unaltered": the words w that it left.
 -- "For any service in it, any repeat the service has and any date in the period" (`Asked`), "a walk of that run" with any rows lent: x is what `estelunya_walk`
 -- answers, and v are the rows afterwards.
 abbrev pub WholeRuns : Type 0
 WholeRuns =
-    (f : Files) (t : List ℕ) (a : LoadResult) (w : List ℕ) → a ≡ loadResult (loaded f (length t)) → w ≡ written f t → a .number ≡ 0
+    (f : Files) (t : List ℕ) (helper : ℕ) (a : LoadResult) (w : List ℕ) → a ≡ loadResult (loaded f (length t) helper) → w ≡ written f t helper → a .number ≡ 0
     → (i r d m y day : ℕ) (s : Service) → Asked f i r d m y s day
     → (lent : List ℕ) (x : WalkResult) (v : List ℕ) → x ≡ walkResult (walked w i r d m y (length lent)) → v ≡ walkRows w i r d m y lent
     → Walks f i s r (day - delivered f .period .start) lent x v

@@ -10,14 +10,14 @@ use timetable::Walked;
 ghost use mathlib.Core.Path.{_≡_};
 ghost use lib.ListN.{length};
 ghost use Rattle.timetable.specs.Delivery.{filesOf};
-ghost use Rattle.timetable.specs.Load.{loaded, written};
+ghost use Rattle.timetable.specs.Load.{loaded, written, helped};
 ghost use Rattle.timetable.specs.Questions.{dayAsked, interchangeAsked, walked, walkRows};
 ghost use Rattle.day_sets.specs.declared.Operation.the-variants.{Union, Intersection, Difference};
 ghost use Rattle.day_sets.specs.DaySets.{combineAsked, combineWritten, complementAsked, complementWritten, countAsked};
 ghost use Rattle.estelunya.specs.Answers.{loadResult, dayResult, interchangeResult, walkResult};
 ghost use Rattle.estelunya.specs.DaySets.{daySetResult, dayCountResult};
 
-// number 0: accepted, and words is the words used; else the refusal's number, file and line, words is the words needed (0 unless 20), and column is
+// number 0: accepted, and words is the words used; else the refusal's number, file and line, words is the words needed (0 unless 20 or 51), and column is
 // where the line breaks its form (0 unless 4).
 #[repr(C)]
 pub struct LoadResult {
@@ -71,11 +71,13 @@ pub extern "C" fn estelunya_load(
     umsteigb: &[u8],
     fplan: &[u8],
     table: &mut [u32],
+    helper: &mut [u32],
 ) -> LoadResult
-    ensures answer { λ r. ⌜ r ≡ loadResult (loaded (filesOf (now (eckdaten .entry)) (now (bitfeld .entry)) (now (bahnhof .entry)) (now (umsteigb .entry)) (now (fplan .entry))) (length (now (table .entry)))) ⌝ }
-    ensures words { λ r. ⌜ now (table .exit) ≡ written (filesOf (now (eckdaten .entry)) (now (bitfeld .entry)) (now (bahnhof .entry)) (now (umsteigb .entry)) (now (fplan .entry))) (now (table .entry)) ⌝ }
+    ensures answer { λ r. ⌜ r ≡ loadResult (loaded (filesOf (now (eckdaten .entry)) (now (bitfeld .entry)) (now (bahnhof .entry)) (now (umsteigb .entry)) (now (fplan .entry))) (length (now (table .entry))) (length (now (helper .entry)))) ⌝ }
+    ensures words { λ r. ⌜ now (table .exit) ≡ written (filesOf (now (eckdaten .entry)) (now (bitfeld .entry)) (now (bahnhof .entry)) (now (umsteigb .entry)) (now (fplan .entry))) (now (table .entry)) (length (now (helper .entry))) ⌝ }
+    ensures helper { λ r. ⌜ now (helper .exit) ≡ helped (filesOf (now (eckdaten .entry)) (now (bitfeld .entry)) (now (bahnhof .entry)) (now (umsteigb .entry)) (now (fplan .entry))) (now (helper .entry)) ⌝ }
 {
-    load_result(load::load(eckdaten, bitfeld, bahnhof, umsteigb, fplan, table))
+    load_result(load::load(eckdaten, bitfeld, bahnhof, umsteigb, fplan, table, helper))
 }
 
 #[no_mangle]

@@ -1,4 +1,4 @@
--- "Rows marked P are proved together as one list by one theorem": the rows, each with its line of the paper (the last with document 02's).
+-- "Rows marked P are proved together as one list by one theorem": the rows, each with its line of the paper (the last ones with document 02's).
 -- `Rattle.examples.proofs.Rows` proves them.
 -- Assumes nothing.
 use Prim.Native.Nat.{ℕ}
@@ -6,6 +6,7 @@ use Prim.Native.String.{String}
 use mathlib.Core.Path.{_≡_}
 use mathlib.Core.List.{List, [], _∷_, _++_, map}
 use Rattle.base.specs.Lists.{gathered, upto}
+use Rattle.base.specs.Text.{bytes}
 use Rattle.calendar.specs.Calendar.{dayOf}
 use Rattle.calendar.specs.declared.Date.the-variants.{Day, NoSuchDate}
 use Rattle.lines.specs.Lines.{linesOf}
@@ -38,7 +39,7 @@ Hold (r ∷ rs) = (r .got ≡ r .said) × Hold rs
 -- ---- the trial week with another period, BITFELD or range lines: what load answers, on which days a bit field runs, where a range begins and ends
 
 abbrev pub answer : Files → Loaded
-answer f = loaded f 4096
+answer f = loaded f 4096 4096
 
 -- n days from 01.12.2025 on, asked of a delivery's table: whether bit field 000001 runs
 abbrev pub days : ℕ → Files → List DayAnswer
@@ -109,4 +110,13 @@ rows =
     ∷ row (interchangeAsked (tableWords (delivered trial)) 1000011 2 3) (Minutes 3)
     -- No. 6: "A refusal 4 also returns the column .. (59 for a missing "%")": file 5, line 2
     ∷ row (answer (withCategory "*G BAT")) (Refused 4 5 2 59 0)
+    -- No. 13: "helper words are lent: 64, and four for each line of BITFELD, BAHNHOF and UMSTEIGB" (1, 3 and 1 lines): one too few, and enough; then
+    -- with a line more of BITFELD, which is skipped and has no LF
+    ∷ row (loaded trial 4096 83) (Refused 51 0 0 0 84)
+    ∷ row (loaded trial 4096 84) (Accepted 66)
+    ∷ row (loaded (week trialPeriod (bitField "000001" "FE6" ++ bytes "% skipped") (categoryOverAll ++ daysOverAll)) 4096 87) (Refused 51 0 0 0 88)
+    -- "51, directly after 1": before an offence of ECKDATEN's first line, and before 20
+    ∷ row (loaded (week [] (bitField "000001" "FE6") (categoryOverAll ++ daysOverAll)) 4096 83) (Refused 51 0 0 0 84)
+    ∷ row (loaded trial 65 83) (Refused 51 0 0 0 84)
+    ∷ row (loaded trial 65 84) (Refused 20 0 0 0 66)
     ∷ []

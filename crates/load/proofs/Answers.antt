@@ -1,114 +1,157 @@
--- What `load` answers and leaves, for `search loading`: d is what the checks say of the files, t the table lent. Assumes nothing.
+-- What `load` answers and leaves, for `search refusing` and `search loading`: n is the file that is too long, r the room for the maps, d what the checks
+-- say of the files, t the table and h the helper words lent. Assumes nothing.
 use mathlib.Core.Path.{_≡_, refl, sym, ap, _∙_}
 use mathlib.Core.List.{List, _++_}
 use mathlib.Core.Bool.{true}
 use mathlib.Core.Option.{Option, none, some}
 use Prim.Native.Nat.{ℕ, _+_, _≤_, _<_}
 use native.Mathlib.Omega.{arith}
-use lib.ListN.{length}
+use lib.ListN.{length, drop, replicate, length-replicate}
 use borrow.Author.Tests.{lt-ltb, le-ltb}
 use Rattle.base.proofs.Laws.{apart, tests}
 use Rattle.lines.specs.Lines.{linesOf}
 use Rattle.words.specs.Words.{write}
 use Rattle.words.proofs.Laws.{write-front}
-use Rattle.timetable.specs.Layout.{headerSize, mostFileBytes}
-use Rattle.timetable.specs.Delivery.{filesOf, Delivery}
+use Rattle.timetable.specs.Layout.{headerSize}
+use Rattle.timetable.specs.Delivery.{Files, filesOf, Delivery}
 use Rattle.timetable.specs.Files.{periodIn, bitFieldsIn, stopsIn}
 use Rattle.timetable.specs.Service.{blocks}
 use Rattle.timetable.specs.Checks.{headFirst}
 use Rattle.timetable.specs.Table.{tableWords}
-use Rattle.timetable.specs.Load.{Where, delivered, offence, onto, loaded, written}
+use Rattle.timetable.specs.Load.{Where, delivered, lengthOffence, contentOffence, onto, helperNeeded, refusedOr, shortOr, loaded, written, helped}
 use Rattle.timetable.specs.declared.Offence.{Offence}
 use Rattle.timetable.specs.declared.Loaded.the-variants.{Accepted, Refused as LoadRefused}
 use Rattle.plan.specs.Services.{withinLimits}
 use Rattle.plan.proofs.Within.{head-none, plan-within}
 use Rattle.table_words.specs.Words.{headerWords, bodyWords}
 use Rattle.table_words.specs.declared.Header.{Header}
-use Rattle.load.specs.Delivered.{headerOf, deliveredBy}
+use Rattle.load.specs.Delivered.{longIn, headerOf, deliveredBy}
+use Rattle.load.specs.Helper.{roomOf}
+use Rattle.load.specs.declared.Room.{Room}
 use Rattle.load.specs.declared.Delivered.{Delivered}
 use Rattle.load.specs.declared.Delivered.the-variants.{Holds, Refused}
 use Rattle.load.proofs.Table.{words-needed, words-used, table-is}
-use Rattle.load.proofs.Files.{short-fields, short-stops, short-interchanges, short-plan, none-at-all, plan-none}
+use Rattle.load.proofs.Files.{too-long, none-too-long, all-short, plan-none}
+use Rattle.load.proofs.Helper.{room-small}
 
-module _ (e b s u p : List ℕ) (d : Delivered) (k : d ≡ deliveredBy (offence (filesOf e b s u p)) (headerOf (delivered (filesOf e b s u p)))) where
+module _ (e b s u p : List ℕ) (n : ℕ) (k : n ≡ longIn (length e) (length b) (length s) (length u) (length p)) where
+  abbrev files : Files
+  files = filesOf e b s u p
+
   abbrev whole : Delivery
-  whole = delivered (filesOf e b s u p)
+  whole = delivered files
 
-  -- ---- an offence
+  -- ---- 1
 
-  module _ (file : ℕ) (o : Offence) (y : d ≡ Refused file o) where
-    offence-is : offence (filesOf e b s u p) ≡ some (record { file = file; offence = o })
-    offence-is = go (offence (filesOf e b s u p)) (sym k ∙ y)
-      where
-        go : (w : Option Where) → deliveredBy w (headerOf whole) ≡ Refused file o → w ≡ some (record { file = file; offence = o })
-        go none v = apart (cc)
-        go (some w) v = let a : w .file ≡ file = cc in let c : w .offence ≡ o = cc in rw (← a, ← c) refl
-
-    pub refused : (t : List ℕ) → LoadRefused (o .number) file (o .line) (o .column) 0 ≡ loaded (filesOf e b s u p) (length t)
+  module _ (z : n ≡ 0 → ⊥) (t h : List ℕ) where
+    pub long-refused : LoadRefused 1 n 0 0 0 ≡ loaded files (length t) (length h)
     unfolding loaded
-    refused t = rw offence-is refl
+    long-refused = rw (too-long e b s u p n k z) refl
 
-    pub left : (t : List ℕ) → t ≡ written (filesOf e b s u p) t
+    pub long-table : t ≡ written files t (length h)
     unfolding written
-    left t = rw (← refused t) refl
+    long-table = rw (← long-refused) refl
 
-  -- ---- none: h is the header
+    pub long-helper : h ≡ helped files h
+    unfolding helped
+    long-helper = rw (too-long e b s u p n k z) refl
 
-  module _ (h : Header) (y : d ≡ Holds h) where
-    clean : (offence (filesOf e b s u p) ≡ none) × (headerOf whole ≡ h)
-    clean = go (offence (filesOf e b s u p)) (sym k ∙ y)
-      where
-        go : (w : Option Where) → deliveredBy w (headerOf whole) ≡ Holds h → (w ≡ none) × (headerOf whole ≡ h)
-        go none v = (refl, cc)
-        go (some w) v = apart (cc)
+  module _ (z : n ≡ 0) (r : Room) (q : r ≡ roomOf b s u) where
+    words-are : r .words ≡ helperNeeded files
+    unfolding helperNeeded
+    words-are = ap (λ (x : Room). x .words) q
 
-    pub fields-short : length b ≤ mostFileBytes
-    fields-short = short-fields e b s u p 0 (sym (none-at-all e b s u p (clean .0) .0)) refl
+    pub words-fit : r .words < 4294967296
+    words-fit = room-small b s u r q (all-short e b s u p n k z .bitfeld) (all-short e b s u p n k z .bahnhof) (all-short e b s u p n k z .umsteigb)
 
-    pub stops-short : length s ≤ mostFileBytes
-    stops-short = short-stops e b s u p 0 (sym (none-at-all e b s u p (clean .0) .0)) refl
+    -- ---- 51
 
-    pub interchanges-short : length u ≤ mostFileBytes
-    interchanges-short = short-interchanges e b s u p 0 (sym (none-at-all e b s u p (clean .0) .0)) refl
-
-    pub plan-short : length p ≤ mostFileBytes
-    plan-short = short-plan e b s u p 0 (sym (none-at-all e b s u p (clean .0) .0)) refl
-
-    pub none-stray : headFirst (linesOf p) ≡ none
-    none-stray = head-none (bitFieldsIn b) (stopsIn s) (periodIn (linesOf e) .days) (linesOf p) (plan-none e b s u p (clean .0))
-
-    pub none-over : withinLimits (blocks (linesOf p)) ≡ true
-    none-over = plan-within (bitFieldsIn b) (stopsIn s) (periodIn (linesOf e) .days) (linesOf p) (plan-none e b s u p (clean .0))
-
-    words-known : h .words ≡ headerSize + length (bodyWords b s u p)
-    words-known = ap (λ (g : Header). g .words) (sym (clean .1)) ∙ words-needed e b s u p
-
-    size-is : length (tableWords whole) ≡ h .words
-    size-is = words-used e b s u p ∙ ap (λ (g : Header). g .words) (clean .1)
-
-    module _ (t : List ℕ) where
-      -- 20
-      pub too-short : length t < h .words → LoadRefused 20 0 0 0 (h .words) ≡ loaded (filesOf e b s u p) (length t)
+    module _ (t h : List ℕ) (l : length h < r .words) where
+      pub few-refused : LoadRefused 51 0 0 0 (r .words) ≡ loaded files (length t) (length h)
       unfolding loaded
-      too-short l = rw (clean .0, size-is, lt-ltb (length t) (h .words) l) refl
+      few-refused = rw (none-too-long e b s u p n k z, ← words-are, lt-ltb (length h) (r .words) l) refl
 
-      pub left-alone : length t < h .words → t ≡ written (filesOf e b s u p) t
+      pub few-table : t ≡ written files t (length h)
       unfolding written
-      left-alone l = rw (← too-short l) refl
+      few-table = rw (← few-refused) refl
 
-      -- room for all
-      module _ (l : h .words ≤ length t) where
-        pub room-enough : headerSize + length (bodyWords b s u p) ≤ length t
-        room-enough = omega (arith, words-known)
+      pub few-helper : h ≡ helped files h
+      unfolding helped
+      few-helper = rw (none-too-long e b s u p n k z, ← words-are, lt-ltb (length h) (r .words) l) refl
 
-        pub accepted : Accepted (h .words) ≡ loaded (filesOf e b s u p) (length t)
-        unfolding loaded
-        accepted = rw (clean .0, size-is, le-ltb (length t) (h .words) l) refl
+    module _ (h : List ℕ) (l : r .words ≤ length h) where
+      -- ---- the helper words: h′ is left
+      pub zeros-left : (h′ : List ℕ) → h′ ≡ replicate (r .words) 0 ++ drop (r .words) h → h′ ≡ helped files h
+      unfolding helped onto
+      zeros-left h′ v = v ∙ rw (none-too-long e b s u p n k z, ← words-are, le-ltb (length h) (r .words) l, length-replicate {A = ℕ} (r .words) 0) refl
 
-        pub filled : (t′ : List ℕ) → t′ ≡ write t 0 (headerWords h ++ bodyWords b s u p) → t′ ≡ written (filesOf e b s u p) t
-        unfolding written onto
-        filled t′ v =
-            let w : headerWords h ++ bodyWords b s u p ≡ tableWords whole = sym (table-is e b s u p ∙ ap (λ (g : Header). headerWords g ++ bodyWords b s u p) (clean .1)) in
-            v ∙ rw (← accepted, w) (write-front t (tableWords whole))
+      later : (room : ℕ) → loaded files room (length h) ≡ refusedOr (contentOffence files) (shortOr 20 room (length (tableWords whole)) (Accepted (length (tableWords whole))))
+      unfolding loaded
+      later room = rw (none-too-long e b s u p n k z, ← words-are, le-ltb (length h) (r .words) l) refl
 
-pub ruleset loading = (tests, refused, left, fields-short, stops-short, interchanges-short, plan-short, none-stray, none-over, too-short, left-alone, room-enough, accepted, filled)
+      module _ (d : Delivered) (v : d ≡ deliveredBy (contentOffence files) (headerOf whole)) where
+        -- ---- an offence
+
+        module _ (file : ℕ) (o : Offence) (y : d ≡ Refused file o) where
+          offence-is : contentOffence files ≡ some (record { file = file; offence = o })
+          offence-is = go (contentOffence files) (sym v ∙ y)
+            where
+              go : (w : Option Where) → deliveredBy w (headerOf whole) ≡ Refused file o → w ≡ some (record { file = file; offence = o })
+              go none v = apart (cc)
+              go (some w) v = let a : w .file ≡ file = cc in let c : w .offence ≡ o = cc in rw (← a, ← c) refl
+
+          pub refused : (t : List ℕ) → LoadRefused (o .number) file (o .line) (o .column) 0 ≡ loaded files (length t) (length h)
+          refused t = rw (later (length t), offence-is) refl
+
+          pub left : (t : List ℕ) → t ≡ written files t (length h)
+          unfolding written
+          left t = rw (← refused t) refl
+
+        -- ---- none: g is the header
+
+        module _ (g : Header) (y : d ≡ Holds g) where
+          clean : (contentOffence files ≡ none) × (headerOf whole ≡ g)
+          clean = go (contentOffence files) (sym v ∙ y)
+            where
+              go : (w : Option Where) → deliveredBy w (headerOf whole) ≡ Holds g → (w ≡ none) × (headerOf whole ≡ g)
+              go none v = (refl, cc)
+              go (some w) v = apart (cc)
+
+          pub none-stray : headFirst (linesOf p) ≡ none
+          none-stray = head-none (bitFieldsIn b) (stopsIn s) (periodIn (linesOf e) .days) (linesOf p) (plan-none e b s u p (clean .0))
+
+          pub none-over : withinLimits (blocks (linesOf p)) ≡ true
+          none-over = plan-within (bitFieldsIn b) (stopsIn s) (periodIn (linesOf e) .days) (linesOf p) (plan-none e b s u p (clean .0))
+
+          words-known : g .words ≡ headerSize + length (bodyWords b s u p)
+          words-known = ap (λ (x : Header). x .words) (sym (clean .1)) ∙ words-needed e b s u p
+
+          size-is : length (tableWords whole) ≡ g .words
+          size-is = words-used e b s u p ∙ ap (λ (x : Header). x .words) (clean .1)
+
+          module _ (t : List ℕ) where
+            -- 20
+            pub too-short : length t < g .words → LoadRefused 20 0 0 0 (g .words) ≡ loaded files (length t) (length h)
+            too-short m = rw (later (length t), clean .0, size-is, lt-ltb (length t) (g .words) m) refl
+
+            pub left-alone : length t < g .words → t ≡ written files t (length h)
+            unfolding written
+            left-alone m = rw (← too-short m) refl
+
+            -- room for all
+            module _ (m : g .words ≤ length t) where
+              pub room-enough : headerSize + length (bodyWords b s u p) ≤ length t
+              room-enough = omega (arith, words-known)
+
+              pub accepted : Accepted (g .words) ≡ loaded files (length t) (length h)
+              accepted = rw (later (length t), clean .0, size-is, le-ltb (length t) (g .words) m) refl
+
+              pub filled : (t′ : List ℕ) → t′ ≡ write t 0 (headerWords g ++ bodyWords b s u p) → t′ ≡ written files t (length h)
+              unfolding written onto
+              filled t′ v =
+                  let w : headerWords g ++ bodyWords b s u p ≡ tableWords whole = sym (table-is e b s u p ∙ ap (λ (x : Header). headerWords x ++ bodyWords b s u p) (clean .1)) in
+                  v ∙ rw (← accepted, w) (write-front t (tableWords whole))
+
+pub ruleset refusing = (tests, long-refused, long-table, long-helper, words-fit, few-refused, few-table, few-helper, zeros-left)
+
+pub ruleset loading = (tests, refused, left, too-short, left-alone, room-enough, accepted, filled, zeros-left)

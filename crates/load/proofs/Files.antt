@@ -7,7 +7,7 @@ use Prim.Native.Nat.{ℕ, _≤_}
 use native.Mathlib.Omega.{arith}
 use lib.ListN.{length}
 use lib.Dec.{ltb, eqb}
-use borrow.Author.Tests.{ltb-false, eqb-true, eq-eqb, ne-eqb}
+use borrow.Author.Tests.{ltb-false, eq-eqb, ne-eqb}
 use Rattle.base.proofs.Laws.{apart, tests}
 use Rattle.lines.specs.Lines.{linesOf}
 use Rattle.timetable.specs.Layout.{mostFileBytes, mostPeriodDays}
@@ -16,7 +16,7 @@ use Rattle.timetable.specs.Offences.{offenceAt, given, _<|>_, checkedBy}
 use Rattle.timetable.specs.Files.{periodFirst, periodIn, bitFieldOf, bitFieldsIn, bitFieldsFirst, stopOf, stopsIn, stopsFirst, interchangeOf, interchangesIn, interchangesFirst}
 use Rattle.timetable.specs.Service.{blocks}
 use Rattle.timetable.specs.Checks.{planFirst}
-use Rattle.timetable.specs.Load.{Where, inFile, delivered, offence}
+use Rattle.timetable.specs.Load.{Where, inFile, delivered, lengthOffence, contentOffence}
 use Rattle.timetable.specs.declared.Offence.{Offence}
 use Rattle.timetable.specs.declared.Checked.{Checked}
 use Rattle.timetable.specs.declared.Checked.the-variants.{Holds as Both, Refused as Wrong}
@@ -26,6 +26,7 @@ use Rattle.sections.proofs.Held.{held-file}
 use Rattle.plan.specs.Services.{blockWords, mostPlanWords}
 use Rattle.plan.proofs.Sizes.{words-fit}
 use Rattle.table_words.specs.declared.Header.{Header}
+use Rattle.load.specs.Helper.{Short}
 use Rattle.load.specs.Delivered.{longIn, headerBy, headerOf, refusedIn, deliveredBy}
 use Rattle.load.specs.declared.Delivered.{Delivered}
 use Rattle.load.specs.declared.Delivered.the-variants.{Holds, Refused}
@@ -33,22 +34,22 @@ use Rattle.load.proofs.Table.{header-is}
 
 -- ---- lengths
 
--- the file that is too long, else what comes after the lengths
-abbrev longOr : ℕ → Option Where → Option Where
-longOr file rest = cond (eqb file 0) rest (some (record { file = file; offence = offenceAt 1 0 }))
+-- the file that is too long
+abbrev longAt : ℕ → Option Where
+longAt file = cond (eqb file 0) none (some (record { file = file; offence = offenceAt 1 0 }))
 
 abbrev longBy : Bool → Bool → Bool → Bool → Bool → ℕ
 longBy e b s u p = cond e 1 (cond b 2 (cond s 3 (cond u 4 (cond p 5 0))))
 
-first-long : (e b s u p : Bool) (rest : Option Where)
-    → (inFile 1 (given e 1 0) <|> inFile 2 (given b 1 0) <|> inFile 3 (given s 1 0) <|> inFile 4 (given u 1 0) <|> inFile 5 (given p 1 0) <|> rest) ≡ longOr (longBy e b s u p) rest
+first-long : (e b s u p : Bool)
+    → (inFile 1 (given e 1 0) <|> inFile 2 (given b 1 0) <|> inFile 3 (given s 1 0) <|> inFile 4 (given u 1 0) <|> inFile 5 (given p 1 0)) ≡ longAt (longBy e b s u p)
 unfolding _<|>_
-first-long true b s u p rest = refl
-first-long false true s u p rest = refl
-first-long false false true u p rest = refl
-first-long false false false true p rest = refl
-first-long false false false false true rest = refl
-first-long false false false false false rest = refl
+first-long true b s u p = refl
+first-long false true s u p = refl
+first-long false false true u p = refl
+first-long false false false true p = refl
+first-long false false false false true = refl
+first-long false false false false false = refl
 
 none-long : (e b s u p : Bool) → longBy e b s u p ≡ 0 → (e ≡ false) × (b ≡ false) × (s ≡ false) × (u ≡ false) × (p ≡ false)
 none-long true b s u p z = absurd (omega arith)
@@ -68,51 +69,53 @@ module _ (e b s u p : List ℕ) where
       inFile 1 (periodFirst (linesOf e)) <|> inFile 2 (bitFieldsFirst (periodIn (linesOf e) .days) (linesOf b)) <|> inFile 3 (stopsFirst (linesOf s))
       <|> inFile 4 (interchangesFirst (stopsIn s) (linesOf u)) <|> inFile 5 (planFirst (bitFieldsIn b) (stopsIn s) (periodIn (linesOf e) .days) (linesOf p))
 
-  offence-is : offence (filesOf e b s u p) ≡ longOr long inFiles
-  unfolding offence delivered
-  offence-is = first-long (ltb mostFileBytes (length e)) (ltb mostFileBytes (length b)) (ltb mostFileBytes (length s)) (ltb mostFileBytes (length u)) (ltb mostFileBytes (length p)) inFiles
+  length-is : lengthOffence (filesOf e b s u p) ≡ longAt long
+  unfolding lengthOffence
+  length-is = first-long (ltb mostFileBytes (length e)) (ltb mostFileBytes (length b)) (ltb mostFileBytes (length s)) (ltb mostFileBytes (length u)) (ltb mostFileBytes (length p))
+
+  content-is : contentOffence (filesOf e b s u p) ≡ inFiles
+  unfolding contentOffence delivered
+  content-is = refl
 
   -- what is answered
   abbrev answer : Delivered
-  answer = deliveredBy (offence (filesOf e b s u p)) (headerOf (delivered (filesOf e b s u p)))
+  answer = deliveredBy (contentOffence (filesOf e b s u p)) (headerOf (delivered (filesOf e b s u p)))
 
   module _ (n : ℕ) (k : n ≡ longIn (length e) (length b) (length s) (length u) (length p)) where
-    pub long-out : (x : Offence) → (n ≡ 0 → ⊥) → x ≡ offenceAt 1 0 → Refused n x ≡ answer
-    long-out x z y = rw (offence-is, ← k, ne-eqb n 0 z, y) refl
+    pub too-long : (n ≡ 0 → ⊥) → lengthOffence (filesOf e b s u p) ≡ some (record { file = n; offence = offenceAt 1 0 })
+    too-long z = rw (length-is, ← k, ne-eqb n 0 z) refl
 
     module _ (z : n ≡ 0) where
+      pub none-too-long : lengthOffence (filesOf e b s u p) ≡ none
+      none-too-long = rw (length-is, ← k, eq-eqb n 0 z) refl
+
       tests-fail : (ltb mostFileBytes (length e) ≡ false) × (ltb mostFileBytes (length b) ≡ false) × (ltb mostFileBytes (length s) ≡ false) × (ltb mostFileBytes (length u) ≡ false) × (ltb mostFileBytes (length p) ≡ false)
       tests-fail = none-long _ _ _ _ _ (sym k ∙ z)
 
-      pub short-period : length e ≤ mostFileBytes
-      short-period = ltb-false mostFileBytes (length e) (tests-fail .0)
+      pub all-short : Short e b s u p
+      all-short = record {
+        eckdaten = ltb-false mostFileBytes (length e) (tests-fail .0);
+        bitfeld = ltb-false mostFileBytes (length b) (tests-fail .1);
+        bahnhof = ltb-false mostFileBytes (length s) (tests-fail .2);
+        umsteigb = ltb-false mostFileBytes (length u) (tests-fail .3);
+        fplan = ltb-false mostFileBytes (length p) (tests-fail .4);
+      }
 
       pub short-fields : length b ≤ mostFileBytes
-      short-fields = ltb-false mostFileBytes (length b) (tests-fail .1)
+      short-fields = all-short .bitfeld
 
       pub short-stops : length s ≤ mostFileBytes
-      short-stops = ltb-false mostFileBytes (length s) (tests-fail .2)
+      short-stops = all-short .bahnhof
 
       pub short-interchanges : length u ≤ mostFileBytes
-      short-interchanges = ltb-false mostFileBytes (length u) (tests-fail .3)
+      short-interchanges = all-short .umsteigb
 
       pub short-plan : length p ≤ mostFileBytes
-      short-plan = ltb-false mostFileBytes (length p) (tests-fail .4)
+      short-plan = all-short .fplan
 
-      past-lengths : answer ≡ deliveredBy inFiles (headerOf (delivered (filesOf e b s u p)))
-      past-lengths = rw (offence-is, ← k, eq-eqb n 0 z) refl
-
-  -- a delivery without an offence has none of any kind
-  pub none-at-all : offence (filesOf e b s u p) ≡ none → (long ≡ 0) × (inFiles ≡ none)
-  none-at-all v = go (eqb long 0) refl (sym offence-is ∙ v)
-    where
-      go : (t : Bool) → eqb long 0 ≡ t → cond t inFiles (some (record { file = long; offence = offenceAt 1 0 })) ≡ none → (long ≡ 0) × (inFiles ≡ none)
-      go true q v = (eqb-true long 0 q, v)
-      go false q v = apart (cc)
-
-  pub plan-none : offence (filesOf e b s u p) ≡ none → planFirst (bitFieldsIn b) (stopsIn s) (periodIn (linesOf e) .days) (linesOf p) ≡ none
+  pub plan-none : contentOffence (filesOf e b s u p) ≡ none → planFirst (bitFieldsIn b) (stopsIn s) (periodIn (linesOf e) .days) (linesOf p) ≡ none
   plan-none v =
-      let a₁ = then-none (inFile 1 (periodFirst (linesOf e))) _ (none-at-all v .1) in
+      let a₁ = then-none (inFile 1 (periodFirst (linesOf e))) _ (sym content-is ∙ v) in
       let a₂ = then-none (inFile 2 (bitFieldsFirst (periodIn (linesOf e) .days) (linesOf b))) _ (a₁ .1) in
       let a₃ = then-none (inFile 3 (stopsFirst (linesOf s))) _ (a₂ .1) in
       let a₄ = then-none (inFile 4 (interchangesFirst (stopsIn s) (linesOf u))) _ (a₃ .1) in
@@ -217,7 +220,7 @@ module _ (x : Checked) (c k : ℕ) (y : x ≡ Both c k) where
 
 -- ---- the files, one after the other
 
-module _ (e b s u p : List ℕ) (n : ℕ) (k : n ≡ longIn (length e) (length b) (length s) (length u) (length p)) (z : n ≡ 0)
+module _ (e b s u p : List ℕ)
     (x₁ : Checked) (e₁ : x₁ ≡ checkedBy (periodFirst (linesOf e)) (periodIn (linesOf e) .start) (periodIn (linesOf e) .days)) where
   abbrev header : Header
   header = headerOf (delivered (filesOf e b s u p))
@@ -243,7 +246,7 @@ module _ (e b s u p : List ℕ) (n : ℕ) (k : n ≡ longIn (length e) (length b
   o₅ = planFirst (bitFieldsIn b) (stopsIn s) own (linesOf p)
 
   abbrev same : answer e b s u p ≡ five o₁ o₂ o₃ o₄ o₅ header
-  same = past-lengths e b s u p n k z
+  same = ap (λ (o : Option Where). deliveredBy o header) (content-is e b s u p)
 
   c₁ : Period e x₁
   c₁ = record { is = e₁ }
@@ -286,7 +289,5 @@ module _ (e b s u p : List ℕ) (n : ℕ) (k : n ≡ longIn (length e) (length b
           all-right v w g y q =
               ap Holds (q ∙ sym (header-is e b s u p ∙ rw (counted c₁ y₁, days-are, counted c₂ y₂, counted c₃ y₃, counted c₄ y₄, counted c₅ y, counted-too c₅ y) refl))
               ∙ sym (same ∙ all-hold o₁ o₂ o₃ o₄ o₅ header (past c₁ y₁) (past c₂ y₂) (past c₃ y₃) (past c₄ y₄) (past c₅ y))
-
-pub ruleset lengths = (tests, long-out)
 
 pub ruleset orders = (tests, period-out, fields-out, stops-out, interchanges-out, plan-out)

@@ -1,3 +1,4 @@
 pub mod Table
 pub mod Files
+pub mod Helper
 pub mod Answers

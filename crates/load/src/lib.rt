@@ -1,23 +1,34 @@
-// A delivery of five files to the table, or its first offence. Nothing is written before everything is checked.
+// A delivery of five files to the table, or its first offence. Nothing is written into the table before everything is checked; while it is, the helper
+// words hold the maps of BITFELD, BAHNHOF and UMSTEIGB.
 use table_words::Header;
 use timetable::BIT_FIELD_WORDS;
 use timetable::Checked;
 use timetable::HEADER_WORDS;
+use timetable::HELPER_HEAD_WORDS;
+use timetable::HELPER_LINE_WORDS;
 use timetable::INTERCHANGE_WORDS;
 use timetable::Loaded;
 use timetable::MOST_FILE_BYTES;
 use timetable::Offence;
 use timetable::STOP_WORDS;
 ghost use mathlib.Core.Path.{_≡_};
-ghost use Prim.Native.Nat.{_≤_};
-ghost use lib.ListN.{length};
-ghost use Rattle.timetable.specs.Layout.{mostFileBytes};
+ghost use mathlib.Core.List.{_++_};
+ghost use Prim.Native.Nat.{_+_, _-_, _≤_};
+ghost use lib.ListN.{length, take, drop, replicate};
+ghost use Rattle.lines.specs.Lines.{linesOf};
+ghost use Rattle.timetable.specs.Layout.{mostFileBytes, mostPeriodDays};
 ghost use Rattle.timetable.specs.Delivery.{filesOf};
-ghost use Rattle.timetable.specs.Load.{delivered, offence, loaded, written};
-ghost use Rattle.plan.specs.Services.{mostPlanWords};
+ghost use Rattle.timetable.specs.Offences.{checkedBy};
+ghost use Rattle.timetable.specs.Files.{bitFieldsIn, bitFieldsFirst, stopsIn, stopsFirst, interchangesIn, interchangesFirst};
+ghost use Rattle.timetable.specs.Service.{blocks};
+ghost use Rattle.timetable.specs.Checks.{planFirst};
+ghost use Rattle.timetable.specs.Load.{delivered, contentOffence, loaded, written, helped};
+ghost use Rattle.reading.specs.Maps.{FieldMap, StopMap};
+ghost use Rattle.plan.specs.Services.{blockWords, mostPlanWords};
 ghost use Rattle.load.specs.Delivered.{longIn, headerBy, headerOf, refusedIn, deliveredBy};
+ghost use Rattle.load.specs.Helper.{Short, roomOf, Emptied, LentAt, FieldsAfter, StopsAfter};
 
-// What all checks but the room say: the header of the table, or the first offence and its file.
+// What the checks of the files say: the header of the table, or the first offence and its file.
 pub enum Delivered {
     Holds(Header),
     Refused { file: u32, offence: Offence },
@@ -30,11 +41,39 @@ pub fn load(
     umsteigb: &[u8],
     fplan: &[u8],
     table: &mut [u32],
+    helper: &mut [u32],
 ) -> Loaded
-    ensures { λ r. ⌜ r ≡ loaded (filesOf (now (eckdaten .entry)) (now (bitfeld .entry)) (now (bahnhof .entry)) (now (umsteigb .entry)) (now (fplan .entry))) (length (now (table .entry))) ⌝ }
-    ensures { λ r. ⌜ now (table .exit) ≡ written (filesOf (now (eckdaten .entry)) (now (bitfeld .entry)) (now (bahnhof .entry)) (now (umsteigb .entry)) (now (fplan .entry))) (now (table .entry)) ⌝ }
+    ensures { λ r. ⌜ r ≡ loaded (filesOf (now (eckdaten .entry)) (now (bitfeld .entry)) (now (bahnhof .entry)) (now (umsteigb .entry)) (now (fplan .entry))) (length (now (table .entry))) (length (now (helper .entry))) ⌝ }
+    ensures { λ r. ⌜ now (table .exit) ≡ written (filesOf (now (eckdaten .entry)) (now (bitfeld .entry)) (now (bahnhof .entry)) (now (umsteigb .entry)) (now (fplan .entry))) (now (table .entry)) (length (now (helper .entry))) ⌝ }
+    ensures { λ r. ⌜ now (helper .exit) ≡ helped (filesOf (now (eckdaten .entry)) (now (bitfeld .entry)) (now (bahnhof .entry)) (now (umsteigb .entry)) (now (fplan .entry))) (now (helper .entry)) ⌝ }
 {
-    let delivered = check_delivery(eckdaten, bitfeld, bahnhof, umsteigb, fplan);
+    let long = too_long(
+        eckdaten.len(),
+        bitfeld.len(),
+        bahnhof.len(),
+        umsteigb.len(),
+        fplan.len(),
+    );
+    if long != 0 {
+        return Loaded::Refused {
+            number: 1,
+            file: long,
+            line: 0,
+            column: 0,
+            needed: 0,
+        };
+    }
+    let room = room_for(bitfeld, bahnhof, umsteigb);
+    if helper.len() < room.words {
+        return Loaded::Refused {
+            number: 51,
+            file: 0,
+            line: 0,
+            column: 0,
+            needed: room.words as u32,
+        };
+    }
+    let delivered = check_lent(eckdaten, bitfeld, bahnhof, umsteigb, fplan, room, helper);
     match delivered {
         Delivered::Refused { file, offence } => Loaded::Refused {
             number: offence.number,
@@ -60,50 +99,151 @@ pub fn load(
     }
 }
 
-// First, lengths in file order; then files 1 to 5.
+// ---- the helper words
+
+// What the maps take of them: the words for the lines of BITFELD and of BAHNHOF; and all words needed.
+struct Room {
+    pub fields: usize,
+    pub stops: usize,
+    pub words: usize,
+}
+
+fn room_for(bitfeld: &[u8], bahnhof: &[u8], umsteigb: &[u8]) -> Room
+    requires { ⌜ (length (now bitfeld) ≤ mostFileBytes) × (length (now bahnhof) ≤ mostFileBytes) × (length (now umsteigb) ≤ mostFileBytes) ⌝ }
+    ensures { λ r. ⌜ r ≡ roomOf (now (bitfeld .entry)) (now (bahnhof .entry)) (now (umsteigb .entry)) ⌝ }
+{
+    let fields = reader::lines_in(bitfeld) as usize;
+    let stops = reader::lines_in(bahnhof) as usize;
+    let interchanges = reader::lines_in(umsteigb) as usize;
+    Room {
+        fields: HELPER_LINE_WORDS * fields,
+        stops: HELPER_LINE_WORDS * stops,
+        words: HELPER_HEAD_WORDS + HELPER_LINE_WORDS * (fields + stops + interchanges),
+    }
+}
+
+// The checks with the maps in words that hold 0 before and after.
+fn check_lent(
+    eckdaten: &[u8],
+    bitfeld: &[u8],
+    bahnhof: &[u8],
+    umsteigb: &[u8],
+    fplan: &[u8],
+    room: Room,
+    helper: &mut [u32],
+) -> Delivered
+    requires { ⌜ Short (now eckdaten) (now bitfeld) (now bahnhof) (now umsteigb) (now fplan) ⌝ }
+    requires { ⌜ room ≡ roomOf (now bitfeld) (now bahnhof) (now umsteigb) ⌝ }
+    requires { ⌜ room .words ≤ length (now helper) ⌝ }
+    ensures { λ r. ⌜ r ≡ deliveredBy (contentOffence (filesOf (now (eckdaten .entry)) (now (bitfeld .entry)) (now (bahnhof .entry)) (now (umsteigb .entry)) (now (fplan .entry)))) (headerOf (delivered (filesOf (now (eckdaten .entry)) (now (bitfeld .entry)) (now (bahnhof .entry)) (now (umsteigb .entry)) (now (fplan .entry))))) ⌝ }
+    ensures { λ _. ⌜ now (helper .exit) ≡ replicate (room .words) 0 ++ drop (room .words) (now (helper .entry)) ⌝ }
+{
+    let words = room.words;
+    map::clear(helper, words);
+    let delivered = check_delivery(
+        eckdaten,
+        bitfeld,
+        bahnhof,
+        umsteigb,
+        fplan,
+        room,
+        &mut helper[HELPER_HEAD_WORDS..words],
+    );
+    map::clear(helper, room.words);
+    delivered
+}
+
+// ---- the checks: files 1 to 5, with words that hold 0 for the maps of BITFELD, BAHNHOF and UMSTEIGB, in this order
+
 fn check_delivery(
     eckdaten: &[u8],
     bitfeld: &[u8],
     bahnhof: &[u8],
     umsteigb: &[u8],
     fplan: &[u8],
+    room: Room,
+    m: &mut [u32],
 ) -> Delivered
-    ensures { λ r. ⌜ r ≡ deliveredBy (offence (filesOf (now (eckdaten .entry)) (now (bitfeld .entry)) (now (bahnhof .entry)) (now (umsteigb .entry)) (now (fplan .entry)))) (headerOf (delivered (filesOf (now (eckdaten .entry)) (now (bitfeld .entry)) (now (bahnhof .entry)) (now (umsteigb .entry)) (now (fplan .entry))))) ⌝ }
+    requires { ⌜ Short (now eckdaten) (now bitfeld) (now bahnhof) (now umsteigb) (now fplan) ⌝ }
+    requires { ⌜ Emptied (now bitfeld) (now bahnhof) (now umsteigb) room (now m) ⌝ }
+    ensures { λ r. ⌜ r ≡ deliveredBy (contentOffence (filesOf (now (eckdaten .entry)) (now (bitfeld .entry)) (now (bahnhof .entry)) (now (umsteigb .entry)) (now (fplan .entry)))) (headerOf (delivered (filesOf (now (eckdaten .entry)) (now (bitfeld .entry)) (now (bahnhof .entry)) (now (umsteigb .entry)) (now (fplan .entry))))) ⌝ }
 {
-    let long = too_long(
-        eckdaten.len(),
-        bitfeld.len(),
-        bahnhof.len(),
-        umsteigb.len(),
-        fplan.len(),
-    );
-    if long != 0 {
-        return Delivered::Refused {
-            file: long,
-            offence: timetable::offence_at(1, 0),
-        };
-    }
     let period = period::check_period(eckdaten);
     let Checked::Holds(start, days) = period else {
         return refused(1, period);
     };
-    let field_section = sections::check_bit_fields(bitfeld, days);
+    let field_section = fields_in(bitfeld, days, m, room.fields);
     let Checked::Holds(fields, _) = field_section else {
         return refused(2, field_section);
     };
-    let stop_section = sections::check_stops(bahnhof);
+    let stop_section = stops_in(bahnhof, m, room.fields, room.stops);
     let Checked::Holds(stops, _) = stop_section else {
         return refused(3, stop_section);
     };
-    let interchange_section = sections::check_interchanges(umsteigb, bahnhof);
+    let interchange_section = interchanges_in(umsteigb, bahnhof, m, room.fields, room.stops);
     let Checked::Holds(interchanges, _) = interchange_section else {
         return refused(4, interchange_section);
     };
-    let plan = plan::check_plan(fplan, bitfeld, bahnhof, days);
+    let plan = plan_by(fplan, bitfeld, bahnhof, days, m, room.fields, room.stops);
     let Checked::Holds(services, words) = plan else {
         return refused(5, plan);
     };
     Delivered::Holds(header_of(start, days, fields, stops, interchanges, services, words))
+}
+
+// BITFELD, its map in the first words, so many.
+fn fields_in(bitfeld: &[u8], days: u32, m: &mut [u32], words: usize) -> Checked
+    requires { ⌜ (length (now bitfeld) ≤ mostFileBytes) × (days ≤ mostPeriodDays) ⌝ }
+    requires { ⌜ LentAt (now bitfeld) 0 words (now m) ⌝ }
+    ensures { λ r. ⌜ r ≡ checkedBy (bitFieldsFirst days (linesOf (now (bitfeld .entry)))) (length (bitFieldsIn (now (bitfeld .entry)))) (length (linesOf (now (bitfeld .entry))) + 1) ⌝ }
+    ensures { λ r. ⌜ FieldsAfter (now (bitfeld .entry)) r words (now (m .entry)) (now (m .exit)) ⌝ }
+{
+    sections::check_bit_fields(bitfeld, days, &mut m[0..words])
+}
+
+// BAHNHOF, its map in so many words from place `at` on.
+fn stops_in(bahnhof: &[u8], m: &mut [u32], at: usize, words: usize) -> Checked
+    requires { ⌜ length (now bahnhof) ≤ mostFileBytes ⌝ }
+    requires { ⌜ LentAt (now bahnhof) at words (now m) ⌝ }
+    ensures { λ r. ⌜ r ≡ checkedBy (stopsFirst (linesOf (now (bahnhof .entry)))) (length (stopsIn (now (bahnhof .entry)))) (length (linesOf (now (bahnhof .entry))) + 1) ⌝ }
+    ensures { λ r. ⌜ StopsAfter (now (bahnhof .entry)) r at words (now (m .entry)) (now (m .exit)) ⌝ }
+{
+    sections::check_stops(bahnhof, &mut m[at..at + words])
+}
+
+// UMSTEIGB, its map behind that of BAHNHOF, which takes so many words from place `at` on.
+fn interchanges_in(
+    umsteigb: &[u8],
+    bahnhof: &[u8],
+    m: &mut [u32],
+    at: usize,
+    words: usize,
+) -> Checked
+    requires { ⌜ length (now umsteigb) ≤ mostFileBytes ⌝ }
+    requires { ⌜ StopMap (now bahnhof) (take words (drop at (now m))) ⌝ }
+    requires { ⌜ LentAt (now umsteigb) (at + words) (length (now m) - (at + words)) (now m) ⌝ }
+    ensures { λ r. ⌜ r ≡ checkedBy (interchangesFirst (stopsIn (now (bahnhof .entry))) (linesOf (now (umsteigb .entry)))) (length (interchangesIn (now (umsteigb .entry)))) (length (linesOf (now (umsteigb .entry))) + 1) ⌝ }
+    ensures { λ _. ⌜ take (at + words) (now (m .exit)) ≡ take (at + words) (now (m .entry)) ⌝ }
+{
+    let end = m.len();
+    sections::check_interchanges(umsteigb, bahnhof, &mut m[at..end], words)
+}
+
+// FPLAN, with the maps of BITFELD, in the words before place `at`, and of BAHNHOF, in so many from there on.
+fn plan_by(
+    fplan: &[u8],
+    bitfeld: &[u8],
+    bahnhof: &[u8],
+    days: u32,
+    m: &[u32],
+    at: usize,
+    words: usize,
+) -> Checked
+    requires { ⌜ (length (now fplan) ≤ mostFileBytes) × (days ≤ mostPeriodDays) × (at + words ≤ length (now m)) ⌝ }
+    requires { ⌜ FieldMap (now bitfeld) (take at (now m)) × StopMap (now bahnhof) (take words (drop at (now m))) ⌝ }
+    ensures { λ r. ⌜ r ≡ checkedBy (planFirst (bitFieldsIn (now (bitfeld .entry))) (stopsIn (now (bahnhof .entry))) days (linesOf (now (fplan .entry)))) (length (blocks (linesOf (now (fplan .entry))))) (length (blockWords (blocks (linesOf (now (fplan .entry)))))) ⌝ }
+{
+    plan::check_plan(fplan, bitfeld, &m[0..at], bahnhof, &m[at..at + words], days)
 }
 
 // The first file of over 16,777,216 bytes, by the sizes of the five; 0 where none is.

@@ -16,13 +16,22 @@ ghost use Rattle.timetable.specs.Service.{blocks, serviceOf};
 ghost use Rattle.timetable.specs.Checks.{headFirst, servicesFirst, planFirst};
 ghost use Rattle.timetable.specs.Table.{serviceWords};
 ghost use Rattle.draft.specs.Draft.{callsLent, rangesLent, countsOf, Within};
+ghost use Rattle.reading.specs.Maps.{FieldMap, StopMap};
 ghost use Rattle.reading.specs.Reading.{serviceAt, Boundary};
 ghost use Rattle.service.specs.Answers.{ServiceTaken};
 ghost use Rattle.plan.specs.Services.{blockWords, withinLimits};
 
-// The first offence of FPLAN, or how many services it has and how many words they take.
-pub fn check_plan(fplan: &[u8], bitfeld: &[u8], bahnhof: &[u8], days: u32) -> Checked
+// The first offence of FPLAN, or how many services it has and how many words they take. `fields` and `stops` are the maps of BITFELD and BAHNHOF.
+pub fn check_plan(
+    fplan: &[u8],
+    bitfeld: &[u8],
+    fields: &[u32],
+    bahnhof: &[u8],
+    stops: &[u32],
+    days: u32,
+) -> Checked
     requires { ⌜ (length (now fplan) ≤ mostFileBytes) × (days ≤ mostPeriodDays) ⌝ }
+    requires { ⌜ FieldMap (now bitfeld) (now fields) × StopMap (now bahnhof) (now stops) ⌝ }
     ensures { λ r. ⌜ r ≡ checkedBy (planFirst (bitFieldsIn (now (bitfeld .entry))) (stopsIn (now (bahnhof .entry))) days (linesOf (now (fplan .entry)))) (length (blocks (linesOf (now (fplan .entry))))) (length (blockWords (blocks (linesOf (now (fplan .entry)))))) ⌝ }
 {
     let head = reading::head_end(fplan);
@@ -36,7 +45,9 @@ pub fn check_plan(fplan: &[u8], bitfeld: &[u8], bahnhof: &[u8], days: u32) -> Ch
                 start,
                 first,
                 bitfeld,
+                fields,
                 bahnhof,
+                stops,
                 days,
                 &mut calls,
                 &mut ranges,
@@ -51,12 +62,15 @@ fn check_services(
     start: usize,
     first: u32,
     bitfeld: &[u8],
+    fields: &[u32],
     bahnhof: &[u8],
+    stops: &[u32],
     days: u32,
     calls: &mut [u32],
     ranges: &mut [u32],
 ) -> Checked
     requires { ⌜ Boundary (now fplan) start first × (days ≤ mostPeriodDays) ⌝ }
+    requires { ⌜ FieldMap (now bitfeld) (now fields) × StopMap (now bahnhof) (now stops) ⌝ }
     requires { ⌜ (callsLent ≤ length (now calls)) × (rangesLent ≤ length (now ranges)) ⌝ }
     ensures { λ r. ⌜ r ≡ checkedBy (servicesFirst (bitFieldsIn (now (bitfeld .entry))) (stopsIn (now (bahnhof .entry))) days (blocks (linesAt (now (fplan .entry)) start first))) (length (blocks (linesAt (now (fplan .entry)) start first))) (length (blockWords (blocks (linesAt (now (fplan .entry)) start first)))) ⌝ }
 {
@@ -70,7 +84,9 @@ fn check_services(
             at,
             line,
             bitfeld,
+            fields,
             bahnhof,
+            stops,
             days,
             calls,
             ranges,

@@ -14,14 +14,18 @@ use Rattle.timetable.specs.Files.{hasField, hasStop}
 use Rattle.timetable.specs.Legs.{fieldKnown}
 use Rattle.timetable.specs.Checks.{most}
 use Rattle.timetable.specs.declared.Call.{Call}
+use Rattle.timetable.specs.declared.Opening.{Opening}
 use Rattle.timetable.specs.declared.Part.{Part}
 use Rattle.timetable.specs.declared.Part.the-variants.{Category, Days, Extra}
 use Rattle.timetable.specs.declared.RangeLine.{RangeLine}
 use Rattle.timetable.specs.declared.Told.{Told}
-use Rattle.timetable.specs.declared.Told.the-variants.{Other, Broken, Opens, Ranges, Calls}
+use Rattle.timetable.specs.declared.Told.the-variants.{Skip, Other, Broken, Opens, Ranges, Calls}
 use Rattle.timetable.specs.declared.Verdict.{Verdict}
 use Rattle.timetable.specs.declared.Verdict.the-variants.{Fine, Offends}
+use Rattle.sections.specs.SectionMap.{MapOf}
+use Rattle.sections.specs.declared.Section.the-variants.{BitFields, Stops}
 use Rattle.draft.specs.declared.Counts.{Counts}
+use Rattle.reading.specs.Maps.{FieldMap, StopMap}
 use Rattle.reading.specs.Reading.{countOf, rangeAfter, callAfter, offenceAfter}
 
 -- ---- limits and look-ups, for `search lookups`
@@ -42,6 +46,15 @@ module _ (n : ℕ) (fields : List BitField) where
 
   pub field-listed : (t : Bool) → (n ≡ 0 → ⊥) → t ≡ hasField n fields → t ≡ fieldKnown n fields
   field-listed t z e = rw (ne-eqb n 0 z) e
+
+-- the maps, opened for the look-ups
+pub field-map : (b m : List ℕ) → FieldMap b m → MapOf BitFields b m
+unfolding FieldMap
+field-map b m h = h
+
+pub stop-map : (s m : List ℕ) → StopMap s m → MapOf Stops s m
+unfolding StopMap
+stop-map s m h = h
 
 pub ruleset lookups = (tests, full-categories, full-days, full-extras, field-daily, field-listed)
 
@@ -92,4 +105,10 @@ module _ (fields : List BitField) (stops : List StopRecord) (k : Counts) (line :
 pub after-broken : (fields : List BitField) (stops : List StopRecord) (k : Counts) (line : ℕ) (x : Told) (c : ℕ) → x ≡ Broken c → Offends (record { number = 4; line = line; column = c }) ≡ verdictBy (offenceAfter fields stops k line x)
 after-broken fields stops k line x c e = rw e refl
 
-pub ruleset told = (tests, after-other, after-range, after-call, after-broken)
+pub after-skip : (fields : List BitField) (stops : List StopRecord) (k : Counts) (line : ℕ) (x : Told) → x ≡ Skip → Fine ≡ verdictBy (offenceAfter fields stops k line x)
+after-skip fields stops k line x e = rw e refl
+
+pub after-opens : (fields : List BitField) (stops : List StopRecord) (k : Counts) (line : ℕ) (x : Told) (o : Opening) → x ≡ Opens o → Fine ≡ verdictBy (offenceAfter fields stops k line x)
+after-opens fields stops k line x o e = rw e refl
+
+pub ruleset told = (tests, after-skip, after-opens, after-other, after-range, after-call, after-broken)

@@ -19,6 +19,7 @@ ghost use Rattle.timetable.specs.Service.{firstOpening};
 ghost use Rattle.timetable.specs.Legs.{fieldKnown};
 ghost use Rattle.timetable.specs.Checks.{most};
 ghost use Rattle.draft.specs.Draft.{callsLent, rangesLent, countsOf, Within};
+ghost use Rattle.reading.specs.Maps.{FieldMap, StopMap};
 ghost use Rattle.reading.specs.Reading.{serviceAt, Boundary, ServiceRead, ReadAs, HeadAs, NextAs, countOf, rangeAfter, callAfter, offenceAfter};
 
 // A service as it was read and drafted, or the first own offence of its lines.
@@ -64,17 +65,20 @@ pub fn head_end(f: &[u8]) -> Head
 }
 
 // Reads the service that begins at a place, with line `no`, checks each of its lines (11, 4, 13, 9, 10) and drafts it. Bit fields are looked
-// up in BITFELD, stops in BAHNHOF.
+// up in BITFELD, stops in BAHNHOF: `fields` and `stops` are the maps of the two.
 pub fn read_checked(
     fplan: &[u8],
     at: usize,
     no: u32,
     bitfeld: &[u8],
+    fields: &[u32],
     bahnhof: &[u8],
+    stops: &[u32],
     calls: &mut [u32],
     ranges: &mut [u32],
 ) -> Read
     requires { ⌜ Boundary (now fplan) at no × (at < length (now fplan)) ⌝ }
+    requires { ⌜ FieldMap (now bitfeld) (now fields) × StopMap (now bahnhof) (now stops) ⌝ }
     requires { ⌜ (callsLent ≤ length (now calls)) × (rangesLent ≤ length (now ranges)) ⌝ }
     ensures { λ r. ⌜ ReadAs (bitFieldsIn (now (bitfeld .entry))) (stopsIn (now (bahnhof .entry))) (now (fplan .entry)) at no r (now (calls .exit)) (now (ranges .exit)) ⌝ }
 {
@@ -82,7 +86,15 @@ pub fn read_checked(
     let stop = cut.stop;
     let first = told::told_in(&fplan[at..stop]);
     let mut counts = draft::no_counts();
-    if let Verdict::Offends(offence) = offence_after(counts, first, no, bitfeld, bahnhof) {
+    if let Verdict::Offends(offence) = offence_after(
+        counts,
+        first,
+        no,
+        bitfeld,
+        fields,
+        bahnhof,
+        stops,
+    ) {
         return Read::Refused(offence);
     }
     let opening = opening_of(first);
@@ -98,7 +110,15 @@ pub fn read_checked(
                 no: line,
             });
         };
-        if let Verdict::Offends(offence) = offence_after(counts, said, line, bitfeld, bahnhof) {
+        if let Verdict::Offends(offence) = offence_after(
+            counts,
+            said,
+            line,
+            bitfeld,
+            fields,
+            bahnhof,
+            stops,
+        ) {
             return Read::Refused(offence);
         }
         counts = draft::draft_line(said, line, counts, calls, ranges);
@@ -176,7 +196,16 @@ fn opening_of(said: Told) -> Opening
 
 // ---- a line's own offence, where so much of its service is counted before it
 
-fn offence_after(counts: Counts, said: Told, line: u32, bitfeld: &[u8], bahnhof: &[u8]) -> Verdict
+fn offence_after(
+    counts: Counts,
+    said: Told,
+    line: u32,
+    bitfeld: &[u8],
+    fields: &[u32],
+    bahnhof: &[u8],
+    stops: &[u32],
+) -> Verdict
+    requires { ⌜ FieldMap (now bitfeld) (now fields) × StopMap (now bahnhof) (now stops) ⌝ }
     ensures { λ r. ⌜ r ≡ verdictBy (offenceAfter (bitFieldsIn (now (bitfeld .entry))) (stopsIn (now (bahnhof .entry))) counts line said) ⌝ }
 {
     match said {
@@ -190,31 +219,40 @@ fn offence_after(counts: Counts, said: Told, line: u32, bitfeld: &[u8], bahnhof:
         Told::Opens(opening) => Verdict::Fine,
         Told::Ranges(range) => {
             let part = range.part;
-            range_offence(counts, part, range.field, line, bitfeld)
+            range_offence(counts, part, range.field, line, bitfeld, fields)
         }
-        Told::Calls(call) => call_offence(counts, call.stop, line, bahnhof),
+        Told::Calls(call) => call_offence(counts, call.stop, line, bahnhof, stops),
     }
 }
 
-fn range_offence(counts: Counts, part: Part, field: u32, line: u32, bitfeld: &[u8]) -> Verdict
+fn range_offence(
+    counts: Counts,
+    part: Part,
+    field: u32,
+    line: u32,
+    bitfeld: &[u8],
+    fields: &[u32],
+) -> Verdict
+    requires { ⌜ FieldMap (now bitfeld) (now fields) ⌝ }
     ensures { λ r. ⌜ r ≡ verdictBy (rangeAfter (bitFieldsIn (now (bitfeld .entry))) counts line part field) ⌝ }
 {
     if full(counts, part) {
         return timetable::offends(13, line);
     }
-    if field_known(bitfeld, field) {
+    if field_known(bitfeld, fields, field) {
         return Verdict::Fine;
     }
     timetable::offends(10, line)
 }
 
-fn call_offence(counts: Counts, stop: u32, line: u32, bahnhof: &[u8]) -> Verdict
+fn call_offence(counts: Counts, stop: u32, line: u32, bahnhof: &[u8], stops: &[u32]) -> Verdict
+    requires { ⌜ StopMap (now bahnhof) (now stops) ⌝ }
     ensures { λ r. ⌜ r ≡ verdictBy (callAfter (stopsIn (now (bahnhof .entry))) counts line stop) ⌝ }
 {
     if timetable::MOST_CALLS <= counts.calls {
         return timetable::offends(13, line);
     }
-    if sections::known_stop(bahnhof, stop) {
+    if sections::known_stop(bahnhof, stops, stop) {
         return Verdict::Fine;
     }
     timetable::offends(9, line)
@@ -232,11 +270,12 @@ fn full(counts: Counts, part: Part) -> bool
 }
 
 // Whether a bit field is daily or in BITFELD.
-fn field_known(bitfeld: &[u8], field: u32) -> bool
+fn field_known(bitfeld: &[u8], fields: &[u32], field: u32) -> bool
+    requires { ⌜ FieldMap (now bitfeld) (now fields) ⌝ }
     ensures { λ r. ⌜ r ≡ fieldKnown field (bitFieldsIn (now (bitfeld .entry))) ⌝ }
 {
     if field == 0 {
         return true;
     }
-    sections::known_field(bitfeld, field)
+    sections::known_field(bitfeld, fields, field)
 }

@@ -4,9 +4,9 @@ use mathlib.Core.List.{List, [], _∷_}
 use mathlib.Core.Option.{Option}
 use Prim.Native.Nat.{ℕ, _+_, _≤_, _<_}
 use native.Mathlib.Omega.{arith}
-use lib.ListN.{length, length-map}
+use lib.ListN.{length, take, drop, length-map}
 use borrow.Author.Tests.{eq-eqb, ne-eqb}
-use Rattle.base.proofs.Laws.{tests}
+use Rattle.base.proofs.Laws.{tests, apart}
 use Rattle.columns.specs.Columns.{columns, number}
 use Rattle.lines.specs.Lines.{Line, skipped}
 use Rattle.forms.specs.Form.{formOf}
@@ -20,6 +20,7 @@ use Rattle.timetable.specs.declared.Checked.{Checked}
 use Rattle.timetable.specs.declared.Checked.the-variants.{Holds, Refused}
 use Rattle.timetable.proofs.Offences.{first-same, checked-holds, checked-refused}
 use Rattle.sections.specs.Sections.{numbers, numberOn, recordOffence, lineOffence}
+use Rattle.sections.specs.SectionMap.{MapOf, Lent, Ready}
 use Rattle.sections.specs.declared.Section.the-variants.{BitFields, Stops, Interchanges}
 use Rattle.sections.proofs.Held.{by-number, field-numbers, stop-numbers, interchange-numbers}
 use Rattle.sections.proofs.Offences.{just}
@@ -54,6 +55,18 @@ module _ (n : ℕ) (stops : List StopRecord) (before : List Line) (l : Line) whe
   line-of-interchanges : lineOffence Interchanges n stops before l ≡ interchangeLineOffence stops before l
   unfolding lineOffence numberOn recordOffence
   line-of-interchanges = sym (by-number _ (recordOffence Interchanges n stops before (l .no) (l .text)) (l .no) (skipped (l .text)) (formOf interchangeColumns (l .text)) _ (number (columns 1 7 (l .text))) (just-number stops (held-in interchangeOf before) (l .no) _))
+
+-- ---- the words lent for each file
+
+module _ (f b m : List ℕ) where
+  pub fields-ready : Lent f m → Ready BitFields f b 0 m
+  fields-ready l = record { inside = omega arith; lent = l; stops = λ e. apart cc }
+
+  pub stops-ready : Lent f m → Ready Stops f b 0 m
+  stops-ready l = record { inside = omega arith; lent = l; stops = λ e. apart cc }
+
+  pub interchanges-ready : (split : ℕ) → split ≤ length m → MapOf Stops b (take split m) → Lent f (drop split m) → Ready Interchanges f b split m
+  interchanges-ready split h w l = record { inside = h; lent = l; stops = λ e. w }
 
 -- ---- each file
 
@@ -95,4 +108,4 @@ module _ (ls : List Line) (days : ℕ) (stops : List StopRecord) (r : Checked) w
           let h = checked-holds own _ _ r here c n y in
           rw (h .0, ne-eqb (length (held-in interchangeOf ls)) 0 (λ z. omega (arith, h .1)), h .1, h .2) refl
 
-pub ruleset files = (tests, fields-checked, stops-checked, interchanges-refused, interchanges-none, interchanges-checked)
+pub ruleset files = (tests, fields-ready, stops-ready, interchanges-ready, fields-checked, stops-checked, interchanges-refused, interchanges-none, interchanges-checked)

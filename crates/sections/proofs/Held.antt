@@ -54,9 +54,9 @@ by-number off own line true g x k e = refl
 by-number off own line false Fits x k e = e
 by-number off own line false (BrokenForm c) x k e = refl
 
-map-append : {X : Type 0} (f : X → ℕ) (a b : List X) → map f (a ++ b) ≡ map f a ++ map f b
+pub map-append : {X Y : Type 0} (f : X → Y) (a b : List X) → map f (a ++ b) ≡ map f a ++ map f b
 map-append f [] b = refl
-map-append f (x ∷ a) b = ap (λ (r : List ℕ). f x ∷ r) (map-append f a b)
+map-append f (x ∷ a) b = ap (λ r. f x ∷ r) (map-append f a b)
 
 module _ {X : Type 0} (key : X → ℕ) where
   one-number : (t : Bool) (g : Form) (x : X) → asNumber (cond t Skipped (numberedBy g (key x))) ≡ map key (listed (cond t skip (heldBy g x)))

@@ -1,33 +1,32 @@
 -- The needs of the look-ups by number. Assumes nothing.
 use mathlib.Core.Path.{_≡_, refl, ap, sym, _∙_}
-use mathlib.Core.List.{List, [], _∷_, _++_, map}
-use mathlib.Core.Bool.{Bool, true, false, cond, _||_}
-use mathlib.Core.Option.{some}
-use Prim.Native.Nat.{ℕ, _-_, _≤_, _<_}
+use mathlib.Core.List.{List, [], _∷_, map}
+use mathlib.Core.Bool.{Bool, true, false, _||_}
+use Prim.Native.Nat.{ℕ, _-_, _≤_}
+use native.Mathlib.Nat.{sub-zero}
 use native.Mathlib.Omega.{arith}
-use lib.ListN.{length, take, drop, replicate}
-use lib.Dec.{eqb}
-use borrow.Author.Tests.{ne-eqb}
-use Rattle.base.specs.Lists.{some-of, find, gathered}
-use Rattle.base.proofs.Laws.{or-false, tests}
+use lib.ListN.{length, take, drop, length-drop}
+use lib.Seq.{take-all}
+use Rattle.base.specs.Lists.{some-of}
+use Rattle.base.proofs.Laws.{tests}
 use Rattle.columns.specs.Columns.{columns, number}
-use Rattle.lines.specs.Lines.{Line, skipped, linesFrom, cutAt}
-use Rattle.lines.specs.declared.Cut.{Cut}
-use Rattle.lines.proofs.Laws.{cutting, lines-none, walk, gathered-any}
-use Rattle.bitfield.specs.BitField.{bitsIn}
+use Rattle.lines.specs.Lines.{Line, skipped, linesOf}
 use Rattle.forms.specs.Form.{formOf}
-use Rattle.forms.specs.Columns.{columnsOf, bitFieldColumns}
+use Rattle.forms.specs.Columns.{columnsOf}
 use Rattle.forms.specs.declared.Form.{Form}
 use Rattle.forms.specs.declared.Form.the-variants.{Fits, Broken as BrokenForm}
 use Rattle.forms.specs.declared.LineKind.{LineKind}
-use Rattle.timetable.specs.Delivery.{BitField}
-use Rattle.timetable.specs.Files.{skip, listed, held-in, heldBy, bitFieldOf, stopOf, interchangeOf, hasField, hasStop, hasInterchange}
-use Rattle.sections.specs.Sections.{lineKind, numberEnd, numberedBy, numberOn, asNumber, numbers, hasNumber, wordsBy, wordsOf}
+use Rattle.map.specs.Map.{Mapped, Finds, numbersIn}
+use Rattle.map.specs.declared.Found.{Found}
+use Rattle.map.specs.declared.Found.the-variants.{At, Nowhere}
+use Rattle.map.proofs.Meaning.{found-none, found-some}
+use Rattle.timetable.specs.Files.{held-in, bitFieldOf, stopOf, interchangeOf, hasField, hasStop, hasInterchange}
+use Rattle.sections.specs.Sections.{lineKind, numberEnd, numberOn, numbers, hasNumber}
+use Rattle.sections.specs.SectionMap.{Seen, MapOf, Reached}
 use Rattle.sections.specs.declared.Section.{Section}
 use Rattle.sections.specs.declared.Section.the-variants.{BitFields, Stops, Interchanges}
-use Rattle.sections.specs.declared.Numbered.{Numbered}
 use Rattle.sections.specs.declared.Numbered.the-variants.{Number, Skipped, Broken}
-use Rattle.sections.proofs.Held.{held-gathered, field-numbers, stop-numbers, interchange-numbers}
+use Rattle.sections.proofs.Held.{field-numbers, stop-numbers, interchange-numbers}
 
 -- ---- the number on a line, for `search numbering`
 
@@ -60,111 +59,25 @@ module _ (s : Section) (text : List ℕ) (t : Bool) (e : t ≡ skipped text) whe
 
 pub ruleset numbering = (tests, end-small, number-skipped, number-broken, number-fits)
 
--- ---- what is asked of the number on a line, for `search asked`: n is what the line has for a number
+-- ---- a number looked up among the records of lines, for `search looks`: r is what the map answers
 
-module _ (n m : Numbered) (e : n ≡ m) (k : ℕ) where
-  pub is-skipped : n ≡ Skipped → false ≡ hasNumber k (asNumber m)
-  unfolding some-of
-  is-skipped y = rw (sym e ∙ y) refl
+module _ (s : Section) (ls : List Line) (m : List ℕ) (w : Seen s ls m) where
+  pub seen-mapped : Mapped m
+  seen-mapped = record { count = w .count; chained = w .chained }
 
-  pub is-broken : (c : ℕ) → n ≡ Broken c → false ≡ hasNumber k (asNumber m)
-  unfolding some-of
-  is-broken c y = rw (sym e ∙ y) refl
+  module _ (k : ℕ) (r : Found) (e : Finds k m r) where
+    pub seen-not : r ≡ Nowhere → false ≡ hasNumber k (numbers s ls)
+    seen-not d = rw (← (w .numbers-held)) (sym (found-none k (numbersIn (w .count) m) r (e .among (w .count) (w .chained)) d))
 
-  pub is-held : (x : ℕ) → n ≡ Number x → eqb x k ≡ hasNumber k (asNumber m)
-  unfolding some-of
-  is-held x y = rw (sym e ∙ y) (or-false (eqb x k))
+    pub seen-one : (i : ℕ) → r ≡ At i → true ≡ hasNumber k (numbers s ls)
+    seen-one i d = rw (← (w .numbers-held)) (sym (found-some k (numbersIn (w .count) m) r i (e .among (w .count) (w .chained)) d))
 
--- another number in the columns of the number
-pub is-other : (s : Section) (text : List ℕ) (to x k : ℕ) → to ≡ numberEnd s → x ≡ number (columns 1 to text) → (x ≡ k → ⊥) → false ≡ hasNumber k (asNumber (numberOn s text))
-unfolding numberOn some-of
-is-other s text to x k e d z = rw (← e, ← d) (go (skipped text) (formOf (columnsOf (lineKind s)) text))
-  where
-    go : (t : Bool) (g : Form) → false ≡ hasNumber k (asNumber (cond t Skipped (numberedBy g x)))
-    go true g = refl
-    go false Fits = rw (ne-eqb x k z) refl
-    go false (BrokenForm c) = refl
-
-pub ruleset asked = (tests, end-small, is-skipped, is-broken, is-held, is-other)
-
--- ---- the loops over lines, for `search looks`: r is the line cut at the place `at`; which number it has does not matter
-
-some-append : {X : Type 0} (t : X → Bool) (a b : List X) → some-of t (a ++ b) ≡ (some-of t a || some-of t b)
-unfolding some-of
-some-append t [] b = refl
-some-append t (x ∷ a) b = go (t x) (some-append t a b)
-  where
-    go : (u : Bool) → some-of t (a ++ b) ≡ (some-of t a || some-of t b) → (u || some-of t (a ++ b)) ≡ ((u || some-of t a) || some-of t b)
-    go true e = refl
-    go false e = e
-
-module _ (f : List ℕ) (at : ℕ) (r : Cut) (h : at < length f) (e : r ≡ cutAt f at 1) where
-  -- the text of the line
-  abbrev text : List ℕ
-  text = take (r .stop - at) (drop at f)
-
-  -- what texts give, with this line's and without it
-  gathered-step : {Y : Type 0} (g : List ℕ → List Y) → gathered (λ (l : Line). g (l .text)) (linesFrom 1 at (drop at f)) ≡ g text ++ gathered (λ (l : Line). g (l .text)) (linesFrom 1 (r .next) (drop (r .next) f))
-  unfolding gathered
-  gathered-step g = ap (gathered (λ (l : Line). g (l .text))) (cutting f at 1 r h e .step) ∙ ap (λ x. g text ++ x) (gathered-any g (r .no) 1 (r .next) (drop (r .next) f))
-
-  module _ (s : Section) (k : ℕ) (q t : Bool) (d : t ≡ hasNumber k (asNumber (numberOn s text))) (v : hasNumber k (numbers s (linesFrom 1 at (drop at f))) ≡ q) where
-    has-step : (t || hasNumber k (numbers s (linesFrom 1 (r .next) (drop (r .next) f)))) ≡ q
-    unfolding numbers
-    has-step = rw d (sym (some-append (λ (x : ℕ). eqb x k) (asNumber (numberOn s text)) _) ∙ rw (← (gathered-step (λ (l : List ℕ). asNumber (numberOn s l)))) v)
-
-    pub has-again : t ≡ false → hasNumber k (numbers s (linesFrom 1 (r .next) (drop (r .next) f))) ≡ q
-    has-again y = rw y at has-step
-
-    pub has-out : t ≡ true → true ≡ q
-    has-out y = rw y at has-step
-
-pub has-done : (f : List ℕ) (at : ℕ) (s : Section) (k : ℕ) (q : Bool) → length f ≤ at → hasNumber k (numbers s (linesFrom 1 at (drop at f))) ≡ q → false ≡ q
-unfolding numbers gathered some-of
-has-done f at s k q h v = rw (lines-none f at 1 h) at v
-
-pub ruleset looks = (tests, walk, has-again, has-out, has-done)
-
--- ---- the words of a bit field, for `search bits`: b is whether the line holds a bit field of number k
-
-find-append : (k : ℕ) (t : Bool) (g : Form) (x : BitField) (hs : List BitField) (b : Bool)
-    → b ≡ hasNumber k (asNumber (cond t Skipped (numberedBy g (x .number))))
-    → wordsOf k (listed (cond t skip (heldBy g x)) ++ hs) ≡ cond b (x .words) (wordsOf k hs)
-unfolding find some-of
-find-append k true g x hs b e = rw e refl
-find-append k false (BrokenForm c) x hs b e = rw e refl
-find-append k false Fits x hs b e = rw e (go (eqb (x .number) k))
-  where
-    go : (t : Bool) → wordsBy (cond t (some x) (find (λ (f : BitField). eqb (f .number) k) hs)) ≡ cond (t || false) (x .words) (wordsOf k hs)
-    go true = refl
-    go false = refl
-
-module _ (f : List ℕ) (at : ℕ) (r : Cut) (h : at < length f) (e : r ≡ cutAt f at 1) (k : ℕ) (q : List ℕ) (b : Bool)
-    (d : b ≡ hasNumber k (asNumber (numberOn BitFields (take (r .stop - at) (drop at f))))) (v : wordsOf k (held-in bitFieldOf (linesFrom 1 at (drop at f))) ≡ q) where
-  -- the bit field on the line
-  abbrev here : List ℕ → BitField
-  here l = record { number = number (columns 1 6 l); words = bitsIn l }
-
-  bits-step : cond b (bitsIn (text f at r h e)) (wordsOf k (held-in bitFieldOf (linesFrom 1 (r .next) (drop (r .next) f)))) ≡ q
-  unfolding numberOn
-  bits-step =
-      sym (find-append k (skipped (text f at r h e)) (formOf bitFieldColumns (text f at r h e)) (here (text f at r h e)) _ b d)
-      ∙ rw (held-gathered bitFieldOf (linesFrom 1 (r .next) (drop (r .next) f))) (ap (wordsOf k) (sym (gathered-step f at r h e (λ (l : List ℕ). listed (cond (skipped l) skip (heldBy (formOf bitFieldColumns l) (here l)))))))
-      ∙ ap (wordsOf k) (sym (held-gathered bitFieldOf (linesFrom 1 at (drop at f)))) ∙ v
-
-  pub bits-again : b ≡ false → wordsOf k (held-in bitFieldOf (linesFrom 1 (r .next) (drop (r .next) f))) ≡ q
-  bits-again y = rw y at bits-step
-
-  pub bits-out : (w : List ℕ) → b ≡ true → w ≡ bitsIn (take (r .stop - at) (drop at f)) → w ≡ q
-  bits-out w y x = x ∙ (rw y at bits-step)
-
-pub bits-done : (f : List ℕ) (at k : ℕ) (q : List ℕ) → length f ≤ at → wordsOf k (held-in bitFieldOf (linesFrom 1 at (drop at f))) ≡ q → replicate 12 0 ≡ q
-unfolding held-in find
-bits-done f at k q h v = rw (lines-none f at 1 h) at v
-
-pub ruleset bits = (tests, walk, bits-again, bits-out, bits-done)
+pub ruleset looks = (tests, seen-mapped, seen-not, seen-one)
 
 -- ---- the look-ups in the definitions' words, for `search knows`
+
+pub map-seen : (s : Section) (f m : List ℕ) → MapOf s f m → Seen s (linesOf f) m
+map-seen s f m w = record { count = w .count; chained = w .filled .chained; numbers-held = w .filled .numbers-held }
 
 some-map : {X : Type 0} (t : ℕ → Bool) (key : X → ℕ) (xs : List X) → some-of t (map key xs) ≡ some-of (λ (x : X). t (key x)) xs
 unfolding some-of
@@ -181,4 +94,17 @@ module _ (r : Bool) (k : ℕ) (ls : List Line) where
   pub has-interchange : r ≡ hasNumber k (numbers Interchanges ls) → r ≡ hasInterchange k (held-in interchangeOf ls)
   has-interchange e = e ∙ ap (hasNumber k) (interchange-numbers ls) ∙ some-map _ _ (held-in interchangeOf ls)
 
-pub ruleset knows = (tests, has-field, has-stop)
+pub ruleset knows = (tests, map-seen, has-field, has-stop)
+
+-- ---- two maps in one slice: the parts that are handed on
+
+-- all words from `split` on
+pub own-part : (split : ℕ) (m : List ℕ) → take (length m - split) (drop split m) ≡ drop split m
+own-part split m = take-all (length m - split) (drop split m) (omega (arith, length-drop split m))
+
+module _ (s : Section) (ls : List Line) (b : List ℕ) (split : ℕ) (m : List ℕ) (w : Reached s ls b split m) where
+  pub reached-seen : (t : Section) → s ≡ t → Seen t ls (take (length m - split) (drop split m))
+  reached-seen t e = rw (own-part, ← e) (w .seen)
+
+  pub reached-stops : s ≡ Interchanges → MapOf Stops b (take (split - 0) (drop 0 m))
+  reached-stops e = rw sub-zero (w .stops e)

@@ -2,11 +2,13 @@
 use mathlib.Core.Path.{_≡_, refl, ap, sym, _∙_}
 use mathlib.Core.List.{List, [], _∷_}
 use mathlib.Core.Bool.{Bool, true, false, not, _||_}
+use mathlib.Core.Option.{none}
 use Prim.Native.Nat.{ℕ, _%_}
 use native.Mathlib.Omega.{arith}
 use lib.ListN.{length, length-map}
 use lib.Dec.{eqb}
 use borrow.Author.Tests.{eq-eqb, ne-eqb}
+use Rattle.base.specs.Lists.{some-of}
 use Rattle.base.proofs.Laws.{tests}
 use Rattle.lines.specs.Lines.{Line}
 use Rattle.bitfield.specs.BitField.{bitsIn, framed}
@@ -15,13 +17,14 @@ use Rattle.timetable.specs.Offences.{offenceAt, given, _<|>_, verdictBy}
 use Rattle.timetable.specs.Files.{held-in, bitFieldOf, bitFieldOffence, hasInterchange, hasStop, stopOf, stopOffence, interchangeOf, interchangeOffence}
 use Rattle.timetable.specs.declared.Verdict.{Verdict}
 use Rattle.timetable.specs.declared.Verdict.the-variants.{Fine, Offends}
+use Rattle.timetable.proofs.Offences.{then-none, given-none}
 use Rattle.sections.specs.Sections.{numbers, hasNumber, recordOffence, numberedOffence}
 use Rattle.sections.specs.declared.Section.{Section}
 use Rattle.sections.specs.declared.Section.the-variants.{BitFields, Stops, Interchanges}
 use Rattle.sections.specs.declared.Numbered.{Numbered}
 use Rattle.sections.specs.declared.Numbered.the-variants.{Number, Skipped, Broken}
 use Rattle.sections.proofs.Held.{interchange-numbers}
-use Rattle.sections.proofs.Lookups.{has-field, has-stop, has-interchange}
+use Rattle.sections.proofs.Lookups.{has-field, has-stop, has-interchange, reached-seen, reached-stops}
 
 -- ---- a bit field of number k: 7, 6, 8. b is whether it was seen earlier, w its words, c whether they are framed
 
@@ -148,4 +151,17 @@ module _ (s : Section) (days no : ℕ) (stops : List StopRecord) (before : List 
 pub interchanges-before : (s : Section) (c : ℕ) (ls : List Line) → s ≡ Interchanges → c ≡ length (numbers s ls) → c ≡ length (numbers Interchanges ls)
 interchanges-before s c ls z e = rw (← z) e
 
-pub ruleset line-checks = (tests, line-skipped, line-broken, line-field, line-stop, line-interchange, interchanges-before)
+pub ruleset line-checks = (tests, line-skipped, line-broken, line-field, line-stop, line-interchange, interchanges-before, reached-seen, reached-stops)
+
+-- ---- a record without an offence was not seen earlier: 6
+
+module _ (days no k : ℕ) (stops : List StopRecord) (before : List Line) (text : List ℕ) where
+  pub record-unseen : (s : Section) → recordOffence s days stops before no text k ≡ none → hasNumber k (numbers s before) ≡ false
+  unfolding recordOffence some-of
+  record-unseen BitFields e = has-field (hasNumber k (numbers BitFields before)) k before refl ∙ given-none _ 6 no (then-none _ _ (then-none _ _ e .1) .0)
+  record-unseen Stops e = has-stop (hasNumber k (numbers Stops before)) k before refl ∙ given-none _ 6 no (then-none _ _ e .1)
+  record-unseen Interchanges e = has-interchange (hasNumber k (numbers Interchanges before)) k before refl ∙ none-earlier (held-in interchangeOf before) e
+    where
+      none-earlier : (es : List Interchange) → interchangeOffence stops es no (just k) ≡ none → hasInterchange k es ≡ false
+      none-earlier [] e = refl
+      none-earlier (x ∷ es) e = given-none (hasInterchange k (x ∷ es)) 6 no (then-none _ _ e .0)

@@ -3,16 +3,16 @@
 use mathlib.Core.Path.{_≡_, refl, ap, sym, _∙_}
 use mathlib.Core.List.{List, [], _∷_, _++_, append-nil}
 use mathlib.Core.Option.{Option, none}
-use Prim.Native.Nat.{ℕ, suc, _+_, _-_, _^_, _≤_, _<_}
+use Prim.Native.Nat.{ℕ, suc, _+_, _-_, _≤_, _<_}
 use native.Mathlib.Nat.{zero-add, add-zero, sub-zero}
 use native.Mathlib.Omega.{arith}
-use lib.ListN.{length, take, drop, length-append, length-take}
+use lib.ListN.{length, take, drop, length-append}
 use Rattle.base.specs.Lists.{gathered}
 use Rattle.base.proofs.Laws.{tests}
 use Rattle.base.proofs.Lists.{gathered-append}
 use Rattle.lines.specs.Lines.{Line, linesFrom, linesOf, cutAt}
 use Rattle.lines.specs.declared.Cut.{Cut}
-use Rattle.lines.proofs.Laws.{cutting, lines-none, lines-nil, lines-le, cut-low, cut-high, cut-less}
+use Rattle.lines.proofs.Laws.{cutting, lines-none, lines-nil, cut-low, cut-high, cut-less}
 use Rattle.timetable.specs.Layout.{mostFileBytes}
 use Rattle.timetable.specs.Delivery.{StopRecord}
 use Rattle.timetable.specs.Offences.{_<|>_, first, verdictBy, checkedBy}
@@ -41,21 +41,21 @@ unfolding numbers gathered
 numbers-le s [] = omega arith
 numbers-le s (l ∷ ls) = omega (arith, length-append (asNumber (numberOn s (l .text))) (numbers s ls), one-le (numberOn s (l .text)), numbers-le s ls)
 
-numbers-more : (s : Section) (ls : List Line) (l : Line) → length (numbers s (ls ++ (l ∷ []))) ≡ length (numbers s ls) + length (asNumber (numberOn s (l .text)))
+pub numbers-more : (s : Section) (ls : List Line) (l : Line) → numbers s (ls ++ (l ∷ [])) ≡ numbers s ls ++ asNumber (numberOn s (l .text))
 unfolding numbers gathered
-numbers-more s ls l = ap length (gathered-append (λ (l : Line). asNumber (numberOn s (l .text))) ls (l ∷ [])) ∙ rw (append-nil, length-append) refl
+numbers-more s ls l = gathered-append (λ (l : Line). asNumber (numberOn s (l .text))) ls (l ∷ []) ∙ rw append-nil refl
 
 -- ---- what the lines that are left answer, after lines with so many records, from line no on
 
 abbrev pub scanFrom : (List Line → Line → Option Offence) → Section → List Line → ℕ → ℕ → List Line → Checked
 scanFrom off s before count n ls = checkedBy (first off before ls) (length (numbers s ls) + count) (length ls + n)
 
--- a line without an offence, which holds k records
-scan-turn : (off : List Line → Line → Option Offence) (s : Section) (before : List Line) (count n k : ℕ) (l : Line) (ls : List Line) → off before l ≡ none → k ≡ length (asNumber (numberOn s (l .text)))
-    → scanFrom off s before count n (l ∷ ls) ≡ scanFrom off s (before ++ (l ∷ [])) (count + k) (n + 1) ls
+-- a line without an offence; there are c′ records with it
+scan-turn : (off : List Line → Line → Option Offence) (s : Section) (before : List Line) (count n c′ : ℕ) (l : Line) (ls : List Line) → off before l ≡ none → c′ ≡ count + length (asNumber (numberOn s (l .text)))
+    → scanFrom off s before count n (l ∷ ls) ≡ scanFrom off s (before ++ (l ∷ [])) c′ (n + 1) ls
 unfolding first numbers gathered _<|>_
-scan-turn off s before count n k l ls z d =
-    let a : length (asNumber (numberOn s (l .text)) ++ numbers s ls) + count ≡ length (numbers s ls) + (count + k) = omega (arith, length-append (asNumber (numberOn s (l .text))) (numbers s ls), d) in
+scan-turn off s before count n c′ l ls z d =
+    let a : length (asNumber (numberOn s (l .text)) ++ numbers s ls) + count ≡ length (numbers s ls) + c′ = omega (arith, length-append (asNumber (numberOn s (l .text))) (numbers s ls), d) in
     let b : suc (length ls) + n ≡ length ls + (n + 1) = omega arith in
     rw (z, a, b) refl
 
@@ -81,17 +81,13 @@ pub scan-done : (f : List ℕ) (at n count : ℕ) (off : List Line → Line → 
 unfolding first numbers gathered
 scan-done f at n count off s before q h v = rw (zero-add count, zero-add n) at (rw (lines-none f at n h) at v)
 
--- r is the line cut at `at`, n what it has for a number, k how many records it holds, own what its own checks say
+-- r is the line cut at `at`, n what it has for a number, c′ how many records there are with it, own what its own checks say
 module _ (f : List ℕ) (at no count : ℕ) (r : Cut) (h : at < length f) (e : r ≡ cutAt f at no) (w : Walked f at no) (s : Section) (n : Numbered) where
   abbrev text : List ℕ
   text = take (r .stop - at) (drop at f)
 
-  module _ (k : ℕ) (c : count ≡ length (numbers s (linesOf (take at f)))) (y : n ≡ numberOn s text) (d : k ≡ length (asNumber n)) where
-    pub count-fits : length f ≤ mostFileBytes → count + k < 2 ^ 32
-    count-fits l = omega (arith, c, d, one-le n, numbers-le s (linesOf (take at f)), lines-le 1 0 (take at f), length-take at f)
-
-    pub count-next : count + k ≡ length (numbers s (linesOf (take (r .next) f)))
-    count-next = rw (walked-before f at no w r h e, c, d, y) (sym (numbers-more s (linesOf (take at f)) _))
+  pub count-next : (c′ : ℕ) → count ≡ length (numbers s (linesOf (take at f))) → n ≡ numberOn s text → c′ ≡ count + length (asNumber n) → c′ ≡ length (numbers s (linesOf (take (r .next) f)))
+  count-next c′ c y d = rw (walked-before f at no w r h e, numbers-more, length-append, ← y, ← c) d
 
   module _ (y : n ≡ numberOn s text) (days : ℕ) (stops : List StopRecord) (q : Checked) (own : Verdict)
       (x : own ≡ verdictBy (numberedOffence (recordOffence s days stops (linesOf (take (at - 0) (drop 0 f))) no text) no n))
@@ -111,7 +107,7 @@ module _ (f : List ℕ) (at no count : ℕ) (r : Cut) (h : at < length f) (e : r
     unfolding first _<|>_
     scan-out o z = rw (verdict-offends (lineOffence s days stops (linesOf (take at f)) here) own own-is o z) at turn
 
-    pub scan-again : (k : ℕ) → own ≡ Fine → k ≡ length (asNumber n) → scanFrom (lineOffence s days stops) s (linesOf (take (r .next) f)) (count + k) (r .no) (linesFrom (r .no) (r .next) (drop (r .next) f)) ≡ q
-    scan-again k z d = rw (walked-before f at no w r h e, cutting f at no r h e .count) (sym (scan-turn (lineOffence s days stops) s (linesOf (take at f)) count no k here _ (verdict-fine _ own own-is z) (rw y at d)) ∙ rw (cutting f at no r h e .count) at turn)
+    pub scan-again : (c′ : ℕ) → own ≡ Fine → c′ ≡ count + length (asNumber n) → scanFrom (lineOffence s days stops) s (linesOf (take (r .next) f)) c′ (r .no) (linesFrom (r .no) (r .next) (drop (r .next) f)) ≡ q
+    scan-again c′ z d = rw (walked-before f at no w r h e, cutting f at no r h e .count) (sym (scan-turn (lineOffence s days stops) s (linesOf (take at f)) count no c′ here _ (verdict-fine _ own own-is z) (rw y at d)) ∙ rw (cutting f at no r h e .count) at turn)
 
-pub ruleset scans = (tests, cut-low, cut-high, cut-less, walked-first, walked-next, scan-first, count-first, place-inside, number-small, part-count, count-fits, count-next, scan-out, scan-again, scan-done)
+pub ruleset scans = (tests, cut-low, cut-high, cut-less, walked-first, walked-next, scan-first, count-first, place-inside, number-small, part-count, count-next, scan-out, scan-again, scan-done)

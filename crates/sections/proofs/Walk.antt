@@ -1,5 +1,5 @@
 -- A walk of a file that looks back at the lines before its place, which are those of the part before it. Assumes nothing.
-use mathlib.Core.Path.{_≡_, refl, _∙_}
+use mathlib.Core.Path.{_≡_, refl, ap, _∙_}
 use mathlib.Core.List.{List, [], _∷_, _++_, append-assoc}
 use Prim.Native.Nat.{ℕ, _+_, _-_, _≤_, _<_}
 use native.Mathlib.Omega.{arith}
@@ -27,6 +27,10 @@ module _ (f : List ℕ) (at no : ℕ) (w : Walked f at no) where
   -- no more lines than bytes
   pub walked-number : no ≤ at + 1
   walked-number = omega (arith, w .number, lines-le 1 0 (take at f), length-take at f)
+
+  -- there is a line more
+  pub walked-more : at < length f → length (linesOf (take at f)) + 1 ≤ length (linesOf f)
+  walked-more h = omega (arith, ap length walked-lines, length-append (linesOf (take at f)) (linesFrom no at (drop at f)), ap length (cutting f at no (cutAt f at no) h refl .step))
 
   module _ (r : Cut) (h : at < length f) (e : r ≡ cutAt f at no) where
     -- the lines before the next place: this one is the last of them

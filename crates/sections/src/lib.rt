@@ -1,6 +1,8 @@
-// BITFELD, BAHNHOF and UMSTEIGB: each line's own checks, and look-ups by number.
+// BITFELD, BAHNHOF and UMSTEIGB: each line's own checks, and look-ups by number. The checks put each record into a map in lent words, four for each
+// line, and a look-up takes no longer in a long file than in a short one.
 use forms::Form;
 use forms::LineKind;
+use map::Found;
 use timetable::BIT_WORDS;
 use timetable::Checked;
 use timetable::Offence;
@@ -9,7 +11,7 @@ ghost use mathlib.Core.Path.{_≡_};
 ghost use mathlib.Core.List.{[]};
 ghost use mathlib.Core.Bool.{_||_};
 ghost use Prim.Native.Nat.{_+_, _%_, _≤_};
-ghost use lib.ListN.{length};
+ghost use lib.ListN.{length, take, drop};
 ghost use lib.Dec.{eqb};
 ghost use Rattle.lines.specs.Lines.{linesOf};
 ghost use Rattle.bitfield.specs.BitField.{bitsIn};
@@ -18,9 +20,10 @@ ghost use Rattle.timetable.specs.Offences.{first, verdictBy, checkedBy};
 ghost use Rattle.timetable.specs.Files.{bitFieldsIn, hasField, bitFieldOffence, bitFieldsFirst};
 ghost use Rattle.timetable.specs.Files.{stopsIn, hasStop, stopOffence, stopsFirst};
 ghost use Rattle.timetable.specs.Files.{interchangesIn, interchangeOffence, interchangesFirst};
-ghost use Rattle.sections.specs.Sections.{lineKind, numberEnd, numberOn, asNumber, numbers, hasNumber};
+ghost use Rattle.sections.specs.Sections.{lineKind, numberEnd, numberOn, numbers, hasNumber};
 ghost use Rattle.sections.specs.Sections.{recordOffence, numberedOffence, lineOffence, wordsOf};
-ghost use Rattle.sections.specs.declared.Section.the-variants.{Interchanges};
+ghost use Rattle.sections.specs.SectionMap.{textAt, Seen, MapOf, Lent, MapAfter, Ready, Reached, PutReady, Put};
+ghost use Rattle.sections.specs.declared.Section.the-variants.{BitFields, Stops, Interchanges};
 
 // The sections of the table that files 2 to 4 give.
 pub enum Section {
@@ -39,28 +42,37 @@ pub enum Numbered {
 // ---- the files: how many records each has, and the line number after its last line
 
 // BAHNHOF is not read here: the file itself stands in its place.
-pub fn check_bit_fields(f: &[u8], days: u32) -> Checked
+pub fn check_bit_fields(f: &[u8], days: u32, m: &mut [u32]) -> Checked
     requires { ⌜ length (now f) ≤ mostFileBytes ⌝ }
     requires { ⌜ days ≤ mostPeriodDays ⌝ }
+    requires { ⌜ Lent (now f) (now m) ⌝ }
     ensures { λ r. ⌜ r ≡ checkedBy (bitFieldsFirst days (linesOf (now (f .entry)))) (length (bitFieldsIn (now (f .entry)))) (length (linesOf (now (f .entry))) + 1) ⌝ }
+    ensures { λ r. ⌜ MapAfter BitFields (now (f .entry)) r (now (m .exit)) ⌝ }
 {
-    check_section(Section::BitFields, f, days, f)
+    check_section(Section::BitFields, f, days, f, m, 0)
 }
 
 // Neither the days nor BAHNHOF are read here: 0 and the file itself stand in their places.
-pub fn check_stops(f: &[u8]) -> Checked
+pub fn check_stops(f: &[u8], m: &mut [u32]) -> Checked
     requires { ⌜ length (now f) ≤ mostFileBytes ⌝ }
+    requires { ⌜ Lent (now f) (now m) ⌝ }
     ensures { λ r. ⌜ r ≡ checkedBy (stopsFirst (linesOf (now (f .entry)))) (length (stopsIn (now (f .entry)))) (length (linesOf (now (f .entry))) + 1) ⌝ }
+    ensures { λ r. ⌜ MapAfter Stops (now (f .entry)) r (now (m .exit)) ⌝ }
 {
-    check_section(Section::Stops, f, 0, f)
+    check_section(Section::Stops, f, 0, f, m, 0)
 }
 
-// UMSTEIGB has at least one record. The days are not read here: 0 stands in their place.
-pub fn check_interchanges(f: &[u8], bahnhof: &[u8]) -> Checked
+// UMSTEIGB has at least one record. The words before `split` are the map of BAHNHOF, which stays; those from there on are lent for UMSTEIGB. The days
+// are not read here: 0 stands in their place.
+pub fn check_interchanges(f: &[u8], bahnhof: &[u8], m: &mut [u32], split: usize) -> Checked
     requires { ⌜ length (now f) ≤ mostFileBytes ⌝ }
+    requires { ⌜ split ≤ length (now m) ⌝ }
+    requires { ⌜ MapOf Stops (now bahnhof) (take split (now m)) ⌝ }
+    requires { ⌜ Lent (now f) (drop split (now m)) ⌝ }
     ensures { λ r. ⌜ r ≡ checkedBy (interchangesFirst (stopsIn (now (bahnhof .entry))) (linesOf (now (f .entry)))) (length (interchangesIn (now (f .entry)))) (length (linesOf (now (f .entry))) + 1) ⌝ }
+    ensures { λ _. ⌜ take split (now (m .exit)) ≡ take split (now (m .entry)) ⌝ }
 {
-    let checked = check_section(Section::Interchanges, f, 0, bahnhof);
+    let checked = check_section(Section::Interchanges, f, 0, bahnhof, m, split);
     let Checked::Holds(count, next) = checked else {
         return checked;
     };
@@ -70,75 +82,58 @@ pub fn check_interchanges(f: &[u8], bahnhof: &[u8]) -> Checked
     checked
 }
 
-// ---- look-ups, each behind one function; line numbers do not matter to them, so each line is cut as line 1
+// ---- look-ups, each behind one function, by the map of the file
 
 // Whether BITFELD has a bit field of this number.
-pub fn known_field(f: &[u8], number: u32) -> bool
+pub fn known_field(f: &[u8], m: &[u32], number: u32) -> bool
+    requires { ⌜ MapOf BitFields (now f) (now m) ⌝ }
     ensures { λ r. ⌜ r ≡ hasField number (bitFieldsIn (now (f .entry))) ⌝ }
 {
-    has_number(Section::BitFields, f, number)
+    has_number(Section::BitFields, f, m, number)
 }
 
 // Whether BAHNHOF has this stop.
-pub fn known_stop(f: &[u8], number: u32) -> bool
+pub fn known_stop(f: &[u8], m: &[u32], number: u32) -> bool
+    requires { ⌜ MapOf Stops (now f) (now m) ⌝ }
     ensures { λ r. ⌜ r ≡ hasStop number (stopsIn (now (f .entry))) ⌝ }
 {
-    has_number(Section::Stops, f, number)
-}
-
-// Whether the part of a file before a line has a record of the line's number.
-fn seen_earlier(section: Section, before: &[u8], number: u32) -> bool
-    ensures { λ r. ⌜ r ≡ hasNumber number (numbers section (linesOf (now (before .entry)))) ⌝ }
-{
-    has_number(section, before, number)
+    has_number(Section::Stops, f, m, number)
 }
 
 // The twelve words of the first bit field of this number, zeros where there is none.
-pub fn field_bits(f: &[u8], number: u32) -> [u32; BIT_WORDS]
+pub fn field_bits(f: &[u8], m: &[u32], number: u32) -> [u32; BIT_WORDS]
+    requires { ⌜ MapOf BitFields (now f) (now m) ⌝ }
     ensures { λ r. ⌜ r ≡ wordsOf number (bitFieldsIn (now (f .entry))) ⌝ }
 {
-    let mut at: usize = 0;
-    while at < f.len() {
-        let cut = reader::line_from(f, at, 1);
-        let stop = cut.stop;
-        let text = &f[at..stop];
-        if holds_number(Section::BitFields, text, number) {
-            return bitfield::bits_in(text);
-        }
-        at = cut.next;
-    }
-    [0u32; BIT_WORDS]
+    let found = map::find(m, number);
+    let Found::At(i) = found else {
+        return [0u32; BIT_WORDS];
+    };
+    bitfield::bits_in(text_at(f, map::place_of(m, i)))
 }
 
-// Whether a line of a file, or of a part of it, holds a record of this number.
-fn has_number(section: Section, f: &[u8], number: u32) -> bool
+// Whether a line of a file, or of a part of it, holds a record of this number: the map knows. The file is there for the promise alone.
+fn has_number(section: Section, f: &[u8], m: &[u32], number: u32) -> bool
+    requires { ⌜ Seen section (linesOf (now f)) (now m) ⌝ }
     ensures { λ r. ⌜ r ≡ hasNumber number (numbers section (linesOf (now (f .entry)))) ⌝ }
 {
-    let mut at: usize = 0;
-    while at < f.len() {
-        let cut = reader::line_from(f, at, 1);
-        let stop = cut.stop;
-        if holds_number(section, &f[at..stop], number) {
-            return true;
-        }
-        at = cut.next;
+    let found = map::find(m, number);
+    match found {
+        Found::At(i) => true,
+        Found::Nowhere => false,
     }
-    false
 }
 
-// Whether a line holds a record of this number. The number is tried first: most lines have another, and their form need not be read.
-fn holds_number(section: Section, text: &[u8], number: u32) -> bool
-    ensures { λ r. ⌜ r ≡ hasNumber number (asNumber (numberOn section (now (text .entry)))) ⌝ }
+// The text of the line that starts at a place, none past the file's end. Its number does not matter, so it is cut as line 1.
+fn text_at(f: &[u8], at: usize) -> &[u8]
+    ensures { λ r. ⌜ now r ≡ textAt (now (f .entry)) at ⌝ }
 {
-    if columns::number_in(text, 1, number_end(section)) != number {
-        return false;
+    if f.len() <= at {
+        return &f[0..0];
     }
-    let n = number_on(section, text);
-    match n {
-        Numbered::Number(x) => x == number,
-        Numbered::Skipped => false,
-        Numbered::Broken(column) => false,
-    }
+    let cut = reader::line_from(f, at, 1);
+    let stop = cut.stop;
+    &f[at..stop]
 }
 
 // ---- the number on a line
@@ -179,24 +174,24 @@ fn number_end(section: Section) -> usize
     }
 }
 
-// How many records a line holds.
-fn records_of(n: Numbered) -> u32
-    ensures { λ r. ⌜ r ≡ length (asNumber n) ⌝ }
-{
-    match n {
-        Numbered::Number(x) => 1,
-        Numbered::Skipped => 0,
-        Numbered::Broken(column) => 0,
-    }
-}
-
 // ---- checks
 
-// The own checks of every line of a file.
-fn check_section(section: Section, f: &[u8], days: u32, bahnhof: &[u8]) -> Checked
+// The own checks of every line of a file, whose records go into the words from `split` on. The words before it are the map of BAHNHOF, where UMSTEIGB is
+// checked.
+fn check_section(
+    section: Section,
+    f: &[u8],
+    days: u32,
+    bahnhof: &[u8],
+    m: &mut [u32],
+    split: usize,
+) -> Checked
     requires { ⌜ length (now f) ≤ mostFileBytes ⌝ }
     requires { ⌜ days ≤ mostPeriodDays ⌝ }
+    requires { ⌜ Ready section (now f) (now bahnhof) split (now m) ⌝ }
     ensures { λ r. ⌜ r ≡ checkedBy (first (lineOffence section days (stopsIn (now (bahnhof .entry)))) [] (linesOf (now (f .entry)))) (length (numbers section (linesOf (now (f .entry))))) (length (linesOf (now (f .entry))) + 1) ⌝ }
+    ensures { λ r. ⌜ MapAfter section (now (f .entry)) r (drop split (now (m .exit))) ⌝ }
+    ensures { λ _. ⌜ take split (now (m .exit)) ≡ take split (now (m .entry)) ⌝ }
 {
     let mut at: usize = 0;
     let mut no: u32 = 1;
@@ -206,15 +201,42 @@ fn check_section(section: Section, f: &[u8], days: u32, bahnhof: &[u8]) -> Check
         let stop = cut.stop;
         let text = &f[at..stop];
         let n = number_on(section, text);
-        let own = line_verdict(section, n, &f[0..at], text, no, days, bahnhof, count);
+        let own = line_verdict(
+            section,
+            n,
+            &f[0..at],
+            text,
+            no,
+            days,
+            bahnhof,
+            m,
+            split,
+            count,
+        );
         if let Verdict::Offends(offence) = own {
             return Checked::Refused(offence);
         }
-        count += records_of(n);
+        count = put_number(n, m, split, count, at);
         at = cut.next;
         no = cut.no;
     }
     Checked::Holds(count, no)
+}
+
+// Puts the record of a line that starts at a place into the map from `split` on, which has so many, if the line holds one; how many there are then.
+fn put_number(n: Numbered, m: &mut [u32], split: usize, count: u32, at: usize) -> u32
+    requires { ⌜ PutReady count split at (now m) ⌝ }
+    ensures { λ r. ⌜ Put n at count split (now (m .entry)) r (now (m .exit)) ⌝ }
+{
+    match n {
+        Numbered::Skipped => count,
+        Numbered::Broken(column) => count,
+        Numbered::Number(x) => {
+            let end = m.len();
+            map::put(&mut m[split..end], count as usize, x, at as u32);
+            count + 1
+        }
+    }
 }
 
 // The own checks of line `no`, which has n for a number, after the part of its file before it, which has so many records: 4, then the record's own.
@@ -226,10 +248,13 @@ fn line_verdict(
     no: u32,
     days: u32,
     bahnhof: &[u8],
+    m: &[u32],
+    split: usize,
     count: u32,
 ) -> Verdict
     requires { ⌜ days ≤ mostPeriodDays ⌝ }
     requires { ⌜ count ≡ length (numbers section (linesOf (now before))) ⌝ }
+    requires { ⌜ Reached section (linesOf (now before)) (now bahnhof) split (now m) ⌝ }
     ensures { λ r. ⌜ r ≡ verdictBy (numberedOffence (recordOffence section days (stopsIn (now (bahnhof .entry))) (linesOf (now (before .entry))) no (now (text .entry))) no n) ⌝ }
 {
     match n {
@@ -241,23 +266,36 @@ fn line_verdict(
                 column,
             })
         }
-        Numbered::Number(x) => match section {
-            Section::BitFields => field_verdict(x, before, text, no, days),
-            Section::Stops => stop_verdict(x, before, no),
-            Section::Interchanges => interchange_verdict(x, before, no, bahnhof, count),
-        },
+        Numbered::Number(x) => {
+            let seen = &m[split..m.len()];
+            match section {
+                Section::BitFields => field_verdict(x, before, seen, text, no, days),
+                Section::Stops => stop_verdict(x, before, seen, no),
+                Section::Interchanges => {
+                    interchange_verdict(x, before, seen, no, bahnhof, &m[0..split], count)
+                }
+            }
+        }
     }
 }
 
 // 7, 6 or 8: 000000, seen earlier, frame bits wrong.
-fn field_verdict(number: u32, before: &[u8], text: &[u8], no: u32, days: u32) -> Verdict
+fn field_verdict(
+    number: u32,
+    before: &[u8],
+    seen: &[u32],
+    text: &[u8],
+    no: u32,
+    days: u32,
+) -> Verdict
     requires { ⌜ days ≤ mostPeriodDays ⌝ }
+    requires { ⌜ Seen BitFields (linesOf (now before)) (now seen) ⌝ }
     ensures { λ r. ⌜ r ≡ verdictBy (bitFieldOffence days (bitFieldsIn (now (before .entry))) no (record { number = number; words = bitsIn (now (text .entry)) })) ⌝ }
 {
     if number == 0 {
         return timetable::offends(7, no);
     }
-    if seen_earlier(Section::BitFields, before, number) {
+    if has_number(Section::BitFields, before, seen, number) {
         return timetable::offends(6, no);
     }
     if bitfield::is_framed(bitfield::bits_in(text), days) {
@@ -267,13 +305,14 @@ fn field_verdict(number: u32, before: &[u8], text: &[u8], no: u32, days: u32) ->
 }
 
 // 7 or 6: a number that no stop has, seen earlier.
-fn stop_verdict(number: u32, before: &[u8], no: u32) -> Verdict
+fn stop_verdict(number: u32, before: &[u8], seen: &[u32], no: u32) -> Verdict
+    requires { ⌜ Seen Stops (linesOf (now before)) (now seen) ⌝ }
     ensures { λ r. ⌜ r ≡ verdictBy (stopOffence (stopsIn (now (before .entry))) no (record { number = number; offset = 0; size = 0 })) ⌝ }
 {
     if is_barred(number) {
         return timetable::offends(7, no);
     }
-    if seen_earlier(Section::Stops, before, number) {
+    if has_number(Section::Stops, before, seen, number) {
         return timetable::offends(6, no);
     }
     Verdict::Fine
@@ -290,8 +329,18 @@ fn is_barred(number: u32) -> bool
 }
 
 // 7: the first record is not 9999999; after it 6 or 9: seen earlier, not in BAHNHOF.
-fn interchange_verdict(number: u32, before: &[u8], no: u32, bahnhof: &[u8], count: u32) -> Verdict
+fn interchange_verdict(
+    number: u32,
+    before: &[u8],
+    seen: &[u32],
+    no: u32,
+    bahnhof: &[u8],
+    stops: &[u32],
+    count: u32,
+) -> Verdict
     requires { ⌜ count ≡ length (numbers Interchanges (linesOf (now before))) ⌝ }
+    requires { ⌜ Seen Interchanges (linesOf (now before)) (now seen) ⌝ }
+    requires { ⌜ MapOf Stops (now bahnhof) (now stops) ⌝ }
     ensures { λ r. ⌜ r ≡ verdictBy (interchangeOffence (stopsIn (now (bahnhof .entry))) (interchangesIn (now (before .entry))) no (record { number = number; firstTime = 0; secondTime = 0 })) ⌝ }
 {
     if count == 0 {
@@ -300,10 +349,10 @@ fn interchange_verdict(number: u32, before: &[u8], no: u32, bahnhof: &[u8], coun
         }
         return timetable::offends(7, no);
     }
-    if seen_earlier(Section::Interchanges, before, number) {
+    if has_number(Section::Interchanges, before, seen, number) {
         return timetable::offends(6, no);
     }
-    if known_stop(bahnhof, number) {
+    if known_stop(bahnhof, stops, number) {
         return Verdict::Fine;
     }
     timetable::offends(9, no)

@@ -25,6 +25,7 @@ ghost use Rattle.timetable.specs.Legs.{fieldRuns};
 ghost use Rattle.timetable.specs.Checks.{eachOnce, legsFirst};
 ghost use Rattle.timetable.specs.Table.{rowsIn, dayAt, serviceAt};
 ghost use Rattle.draft.specs.Draft.{callsLent, rangesLent};
+ghost use Rattle.reading.specs.Maps.{FieldMap, StopMap};
 ghost use Rattle.reading.specs.Reading.{Boundary};
 ghost use Rattle.service.specs.Answers.{CheckedAs, Counted, serviceIn, draftFirst, checkBy, rowsBroken, rowsTorn, daysFirst, Sized};
 
@@ -35,25 +36,39 @@ pub enum ServiceCheck {
     Refused(Offence),
 }
 
-// The service that begins at a place, with line `no`: every line's own checks, then 14 to 19. `calls` and `ranges` are lent for its draft.
+// The service that begins at a place, with line `no`: every line's own checks, then 14 to 19. `fields` and `stops` are the maps of BITFELD and
+// BAHNHOF; `calls` and `ranges` are lent for its draft.
 pub fn check_service(
     fplan: &[u8],
     at: usize,
     no: u32,
     bitfeld: &[u8],
+    fields: &[u32],
     bahnhof: &[u8],
+    stops: &[u32],
     days: u32,
     calls: &mut [u32],
     ranges: &mut [u32],
 ) -> ServiceCheck
     requires { ⌜ (at < length (now fplan)) × (days ≤ mostPeriodDays) × (callsLent ≤ length (now calls)) × (rangesLent ≤ length (now ranges)) ⌝ }
     requires { ⌜ Boundary (now fplan) at no ⌝ }
+    requires { ⌜ FieldMap (now bitfeld) (now fields) × StopMap (now bahnhof) (now stops) ⌝ }
     ensures { λ r. ⌜ CheckedAs (bitFieldsIn (now (bitfeld .entry))) (stopsIn (now (bahnhof .entry))) days (now (fplan .entry)) at no r ⌝ }
 {
-    let read = reading::read_checked(fplan, at, no, bitfeld, bahnhof, calls, ranges);
+    let read = reading::read_checked(
+        fplan,
+        at,
+        no,
+        bitfeld,
+        fields,
+        bahnhof,
+        stops,
+        calls,
+        ranges,
+    );
     match read {
         Read::Refused(offence) => ServiceCheck::Refused(offence),
-        Read::Service(d) => draft_checks(d, calls, ranges, bitfeld, days),
+        Read::Service(d) => draft_checks(d, calls, ranges, bitfeld, fields, days),
     }
 }
 
@@ -64,10 +79,12 @@ fn draft_checks(
     calls: &[u32],
     ranges: &[u32],
     bitfeld: &[u8],
+    fields: &[u32],
     days: u32,
 ) -> ServiceCheck
     requires { ⌜ Counted (d .counts) (now calls) (now ranges) ⌝ }
     requires { ⌜ days ≤ mostPeriodDays ⌝ }
+    requires { ⌜ FieldMap (now bitfeld) (now fields) ⌝ }
     ensures { λ r. ⌜ r ≡ checkBy (draftFirst (bitFieldsIn (now (bitfeld .entry))) days d (now (calls .entry)) (now (ranges .entry))) (serviceIn d (now (calls .entry)) (now (ranges .entry))) d ⌝ }
 {
     let counts = d.counts;
@@ -82,13 +99,21 @@ fn draft_checks(
     if let Verdict::Offends(offence) = schedule::ends_wrong(ranges, n, calls, c) {
         return ServiceCheck::Refused(offence);
     }
-    leg_checks(d, calls, ranges, bitfeld, days)
+    leg_checks(d, calls, ranges, bitfeld, fields, days)
 }
 
 // 17 to 19, on the words of the service.
-fn leg_checks(d: Drafted, calls: &[u32], ranges: &[u32], bitfeld: &[u8], days: u32) -> ServiceCheck
+fn leg_checks(
+    d: Drafted,
+    calls: &[u32],
+    ranges: &[u32],
+    bitfeld: &[u8],
+    fields: &[u32],
+    days: u32,
+) -> ServiceCheck
     requires { ⌜ Counted (d .counts) (now calls) (now ranges) ⌝ }
     requires { ⌜ (2 ≤ d .counts .calls) × (days ≤ mostPeriodDays) ⌝ }
+    requires { ⌜ FieldMap (now bitfeld) (now fields) ⌝ }
     ensures { λ r. ⌜ r ≡ checkBy (legsFirst (bitFieldsIn (now (bitfeld .entry))) days (d .line) (serviceIn d (now (calls .entry)) (now (ranges .entry)))) (serviceIn d (now (calls .entry)) (now (ranges .entry))) d ⌝ }
 {
     let opening = d.opening;
@@ -105,7 +130,7 @@ fn leg_checks(d: Drafted, calls: &[u32], ranges: &[u32], bitfeld: &[u8], days: u
         &mut words,
         0,
     );
-    if let Verdict::Offends(offence) = legs_wrong(&words, d.line, bitfeld, days) {
+    if let Verdict::Offends(offence) = legs_wrong(&words, d.line, bitfeld, fields, days) {
         return ServiceCheck::Refused(offence);
     }
     ServiceCheck::Takes {
@@ -117,9 +142,10 @@ fn leg_checks(d: Drafted, calls: &[u32], ranges: &[u32], bitfeld: &[u8], days: u
 
 // ---- 17 to 19 of a service whose words are at the front of `words`, and its *Z line's number is `line`
 
-fn legs_wrong(words: &[u32], line: u32, bitfeld: &[u8], days: u32) -> Verdict
+fn legs_wrong(words: &[u32], line: u32, bitfeld: &[u8], fields: &[u32], days: u32) -> Verdict
     requires { ⌜ Sized (now words) ⌝ }
     requires { ⌜ days ≤ mostPeriodDays ⌝ }
+    requires { ⌜ FieldMap (now bitfeld) (now fields) ⌝ }
     ensures { λ r. ⌜ r ≡ verdictBy (legsFirst (bitFieldsIn (now (bitfeld .entry))) days line (serviceAt (now (words .entry)))) ⌝ }
 {
     let c = words[CALLS_AT];
@@ -129,18 +155,35 @@ fn legs_wrong(words: &[u32], line: u32, bitfeld: &[u8], days: u32) -> Verdict
     let operating = categories + CATEGORY_WORDS * g as usize;
     let end = operating + DAYS_WORDS * v as usize;
     if cover::each_once(&words[categories..operating], g, CATEGORY_WORDS, c - 1) {
-        return days_wrong(&words[operating..end], v, c - 1, line, bitfeld, days);
+        return days_wrong(
+            &words[operating..end],
+            v,
+            c - 1,
+            line,
+            bitfeld,
+            fields,
+            days,
+        );
     }
     timetable::offends(17, line)
 }
 
 // 18 and 19, where `ranges` holds v *A VE ranges.
-fn days_wrong(ranges: &[u32], v: u32, legs: u32, line: u32, bitfeld: &[u8], days: u32) -> Verdict
+fn days_wrong(
+    ranges: &[u32],
+    v: u32,
+    legs: u32,
+    line: u32,
+    bitfeld: &[u8],
+    fields: &[u32],
+    days: u32,
+) -> Verdict
     requires { ⌜ (v * daySize ≤ length (now ranges)) × (days ≤ mostPeriodDays) ⌝ }
+    requires { ⌜ FieldMap (now bitfeld) (now fields) ⌝ }
     ensures { λ r. ⌜ r ≡ verdictBy (daysFirst (bitFieldsIn (now (bitfeld .entry))) days line legs (rowsIn dayAt daySize v (now (ranges .entry)))) ⌝ }
 {
     if cover::each_once(ranges, v, DAYS_WORDS, legs) {
-        if two_stretches(ranges, v, legs, bitfeld, days) {
+        if two_stretches(ranges, v, legs, bitfeld, fields, days) {
             return timetable::offends(19, line);
         }
         return Verdict::Fine;
@@ -151,19 +194,28 @@ fn days_wrong(ranges: &[u32], v: u32, legs: u32, line: u32, bitfeld: &[u8], days
 // ---- 19, on all days at once
 
 // Whether on some day of the period the operated legs form two or more separate stretches, where each leg is covered once.
-fn two_stretches(ranges: &[u32], v: u32, legs: u32, bitfeld: &[u8], days: u32) -> bool
+fn two_stretches(
+    ranges: &[u32],
+    v: u32,
+    legs: u32,
+    bitfeld: &[u8],
+    fields: &[u32],
+    days: u32,
+) -> bool
     requires { ⌜ (v * daySize ≤ length (now ranges)) × (days ≤ mostPeriodDays) ⌝ }
     requires { ⌜ eachOnce (λ (r : DayRange). r .legs) legs (rowsIn dayAt daySize v (now ranges)) ≡ true ⌝ }
+    requires { ⌜ FieldMap (now bitfeld) (now fields) ⌝ }
     ensures { λ r. ⌜ r ≡ rowsTorn (bitFieldsIn (now (bitfeld .entry))) days legs (rowsIn dayAt daySize v (now (ranges .entry))) ⌝ }
 {
-    bitfield::some_day(torn_days(ranges, v, legs, bitfeld), days)
+    bitfield::some_day(torn_days(ranges, v, legs, bitfeld, fields), days)
 }
 
 // The days on which they do: a leg runs after one that ran and one that did not. The legs that one range covers run on the same days, so the
 // way along the route goes from range to range, and each range's bit field is looked up once.
-fn torn_days(ranges: &[u32], v: u32, legs: u32, bitfeld: &[u8]) -> [u32; 12]
+fn torn_days(ranges: &[u32], v: u32, legs: u32, bitfeld: &[u8], fields: &[u32]) -> [u32; 12]
     requires { ⌜ v * daySize ≤ length (now ranges) ⌝ }
     requires { ⌜ eachOnce (λ (r : DayRange). r .legs) legs (rowsIn dayAt daySize v (now ranges)) ≡ true ⌝ }
+    requires { ⌜ FieldMap (now bitfeld) (now fields) ⌝ }
     ensures { λ r. ⌜ ((d : ℕ) → d < mostPeriodDays → runsOn r d ≡ rowsBroken (bitFieldsIn (now (bitfeld .entry))) legs (rowsIn dayAt daySize v (now (ranges .entry))) d) ⌝ }
 {
     let mut begun = bitfield::no_bits();
@@ -174,7 +226,7 @@ fn torn_days(ranges: &[u32], v: u32, legs: u32, bitfeld: &[u8]) -> [u32; 12]
         let FirstRange::At(place) = cover::covering_place(ranges, v, DAYS_WORDS, leg) else {
             return broken;
         };
-        let on = field_days(bitfeld, ranges[place]);
+        let on = field_days(bitfeld, fields, ranges[place]);
         // named first: the check covers no call that is laid straight into an array that a loop carries
         let broken_now = bitfield::either(broken, bitfield::both(ended, on));
         let ended_now = bitfield::either(ended, bitfield::without(begun, on));
@@ -188,11 +240,12 @@ fn torn_days(ranges: &[u32], v: u32, legs: u32, bitfeld: &[u8]) -> [u32; 12]
 }
 
 // The days of a bit field by its number: 0 is every day.
-fn field_days(bitfeld: &[u8], number: u32) -> [u32; 12]
+fn field_days(bitfeld: &[u8], fields: &[u32], number: u32) -> [u32; 12]
+    requires { ⌜ FieldMap (now bitfeld) (now fields) ⌝ }
     ensures { λ r. ⌜ ((d : ℕ) → d < mostPeriodDays → runsOn r d ≡ fieldRuns (bitFieldsIn (now (bitfeld .entry))) number d) ⌝ }
 {
     if number == 0 {
         return bitfield::all_bits();
     }
-    sections::field_bits(bitfeld, number)
+    sections::field_bits(bitfeld, fields, number)
 }

@@ -44,6 +44,13 @@ extraSize = 4
 abbrev pub rowSize : ℕ
 rowSize = 7
 
+-- No. 13: "helper words are lent: 64, and four for each line of BITFELD, BAHNHOF and UMSTEIGB"
+abbrev pub helperHead : ℕ
+helperHead = 64
+
+abbrev pub helperLine : ℕ
+helperLine = 4
+
 -- the words of a service with c calls, g *G, v *A VE and a other *A: "11 + 4c + 3g + 3v + 4a"
 abbrev pub recordSize : ℕ → ℕ → ℕ → ℕ → ℕ
 recordSize c g v a = serviceHead + callSize * c + categorySize * g + daySize * v + extraSize * a

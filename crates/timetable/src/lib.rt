@@ -6,7 +6,7 @@ ghost use mathlib.Core.Path.{_≡_};
 ghost use mathlib.Core.List.{[], _∷_};
 ghost use mathlib.Core.Option.{some};
 ghost use Rattle.timetable.specs.Offences.{offenceAt, verdictBy};
-ghost use Rattle.timetable.specs.Layout.{headerSize, bitFieldSize, stopSize, interchangeSize, serviceHead, callSize, categorySize, daySize, extraSize, rowSize};
+ghost use Rattle.timetable.specs.Layout.{headerSize, bitFieldSize, stopSize, interchangeSize, serviceHead, callSize, categorySize, daySize, extraSize, rowSize, helperHead, helperLine};
 ghost use Rattle.timetable.specs.Layout.{mostFileBytes, mostPeriodDays, mostCalls, mostCategories, mostDays, mostExtras, mostRepeats, latestTime, allFlags};
 ghost use Rattle.timetable.specs.Ranges.{inOrder};
 
@@ -107,7 +107,7 @@ pub enum Checked {
 
 // ---- answers
 
-// What load answers: the words used, or number, file, line and column (0 unless 4) of the first offence, and the words needed (0 unless 20).
+// What load answers: the words used, or number, file, line and column (0 unless 4) of the first offence, and the words needed (0 unless 20 or 51).
 pub enum Loaded {
     Accepted(u32),
     Refused {
@@ -160,6 +160,11 @@ pub const DAYS_WORDS: usize = 3;
 pub const EXTRA_WORDS: usize = 4;
 
 pub const ROW_WORDS: usize = 7;
+
+// The helper words that a load is lent: these, and for each line of BITFELD, BAHNHOF and UMSTEIGB those.
+pub const HELPER_HEAD_WORDS: usize = 64;
+
+pub const HELPER_LINE_WORDS: usize = 4;
 
 // The twelve words of a bit field's 384 bits.
 pub const BIT_WORDS: usize = 12;
@@ -242,8 +247,8 @@ pub fn in_order(loose: bool, from: u32, to: u32) -> bool
 }
 
 // The sizes that the contracts name, by the names that the code uses.
-pub fn sizes_tied() -> [usize; 10]
-    ensures { λ r. ⌜ r ≡ headerSize ∷ bitFieldSize ∷ stopSize ∷ interchangeSize ∷ serviceHead ∷ callSize ∷ categorySize ∷ daySize ∷ extraSize ∷ rowSize ∷ [] ⌝ }
+pub fn sizes_tied() -> [usize; 12]
+    ensures { λ r. ⌜ r ≡ headerSize ∷ bitFieldSize ∷ stopSize ∷ interchangeSize ∷ serviceHead ∷ callSize ∷ categorySize ∷ daySize ∷ extraSize ∷ rowSize ∷ helperHead ∷ helperLine ∷ [] ⌝ }
 {
     [
         HEADER_WORDS,
@@ -256,6 +261,8 @@ pub fn sizes_tied() -> [usize; 10]
         DAYS_WORDS,
         EXTRA_WORDS,
         ROW_WORDS,
+        HELPER_HEAD_WORDS,
+        HELPER_LINE_WORDS,
     ]
 }
 

@@ -16,7 +16,8 @@ use Rattle.calendar.specs.Calendar.{lastDay}
 use Rattle.lines.specs.Lines.{linesOf}
 use Rattle.timetable.specs.Delivery.{Files, Service, Delivery}
 use Rattle.timetable.specs.Files.{hasStop, held-in, interchangeOf, interchangesFirst}
-use Rattle.timetable.specs.Load.{Where, delivered, offence, onto, loadedBy, loaded, writtenBy, written}
+use Rattle.timetable.specs.Offences.{_<|>_}
+use Rattle.timetable.specs.Load.{Where, delivered, lengthOffence, contentOffence, offence, onto, helperNeeded, refusedOr, shortOr, loaded, writtenBy, written}
 use Rattle.timetable.specs.Layout.{headerSize, serviceHead, firstService, mostPeriodDays, mostCalls, mostCategories, mostDays, mostExtras}
 use Rattle.timetable.specs.Table.{serviceSize, serviceWords, sections, tableWords}
 use Rattle.timetable.specs.Table.{recordWords, calls#, categories#, days#, extras#, usedWords, firstDay, periodDays, bitFields#, stops#, interchanges#, services#, servicesPlace}
@@ -134,34 +135,54 @@ words-table f e rest = sound-table (delivered f) (clear-sound f (clear f e)) res
 
 -- ---- acceptance
 
-pub accepted-none : (o : Option Where) (needed room u : ℕ) → loadedBy o needed room ≡ Accepted u → (o ≡ none) × (needed ≤ room) × (u ≡ needed)
-accepted-none (some x) needed room u e = apart (cc)
-accepted-none none needed room u e = go (ltb room needed) refl e
-  where
-    go : (t : Bool) → ltb room needed ≡ t → cond t (Refused 20 0 0 0 needed) (Accepted needed) ≡ Accepted u → (_≡_ {A = Option Where} none none) × (needed ≤ room) × (u ≡ needed)
-    go true q e = apart (cc)
-    go false q e = (refl, ltb-false room needed q, let z : needed ≡ u = cc in sym z)
+refused-none : (o : Option Where) (later : Loaded) (u : ℕ) → refusedOr o later ≡ Accepted u → (o ≡ none) × (later ≡ Accepted u)
+refused-none (some x) later u e = apart (cc)
+refused-none none later u e = (refl, e)
 
-module _ (f : Files) (t : List ℕ) (u : ℕ) (e : loaded f (length t) ≡ Accepted u) where
+short-none : (number lent needed : ℕ) (later : Loaded) (u : ℕ) → shortOr number lent needed later ≡ Accepted u → (needed ≤ lent) × (later ≡ Accepted u)
+short-none number lent needed later u e = go (ltb lent needed) refl e
+  where
+    go : (t : Bool) → ltb lent needed ≡ t → cond t (Refused number 0 0 0 needed) later ≡ Accepted u → (needed ≤ lent) × (later ≡ Accepted u)
+    go true q e = apart (cc)
+    go false q e = (ltb-false lent needed q, e)
+
+-- what an acceptance says, in the order of the refusals
+pub record Fits (f : Files) (room helper u : ℕ) : Type 0 where
+  pub short-files : lengthOffence f ≡ none
+  pub helper-room : helperNeeded f ≤ helper
+  pub clean : contentOffence f ≡ none
+  pub table-room : length (tableWords (delivered f)) ≤ room
+  pub used : u ≡ length (tableWords (delivered f))
+
+pub accepted : (f : Files) (room helper u : ℕ) → loaded f room helper ≡ Accepted u → Fits f room helper u
+unfolding loaded
+accepted f room helper u e =
+    let a = refused-none (lengthOffence f) _ u e in
+    let b = short-none 51 helper (helperNeeded f) _ u (a .1) in
+    let c = refused-none (contentOffence f) _ u (b .1) in
+    let d = short-none 20 room (length (tableWords (delivered f))) _ u (c .1) in
+    let z : length (tableWords (delivered f)) ≡ u = let q = d .1 in cc in
+    record { short-files = a .0; helper-room = b .0; clean = c .0; table-room = d .0; used = sym z }
+
+module _ (f : Files) (t : List ℕ) (helper u : ℕ) (e : loaded f (length t) helper ≡ Accepted u) where
   pub no-offence : offence f ≡ none
-  unfolding loaded
-  no-offence = accepted-none (offence f) (length (tableWords (delivered f))) (length t) u e .0
+  unfolding offence _<|>_
+  no-offence = rw (accepted f (length t) helper u e .short-files, accepted f (length t) helper u e .clean) refl
 
   -- the table holds the delivery's words, and the words lent after them
-  pub written-is : written f t ≡ tableWords (delivered f) ++ drop (length (tableWords (delivered f))) t
+  pub written-is : written f t helper ≡ tableWords (delivered f) ++ drop (length (tableWords (delivered f))) t
   unfolding written onto
   written-is = ap (λ (a : Loaded). writtenBy a (tableWords (delivered f)) t) e
 
   -- the words used are the delivery's, and no more
   pub used-words : u ≡ length (tableWords (delivered f))
-  unfolding loaded
-  used-words = accepted-none (offence f) (length (tableWords (delivered f))) (length t) u e .2
+  used-words = accepted f (length t) helper u e .used
 
   -- The table of an accepted delivery is a table, and holds that delivery.
-  pub table-is : isTable (written f t) ≡ true
+  pub table-is : isTable (written f t helper) ≡ true
   table-is = ap isTable written-is ∙ words-table f no-offence (drop (length (tableWords (delivered f))) t)
 
-  pub table-holds : tableOf (written f t) ≡ delivered f
+  pub table-holds : tableOf (written f t helper) ≡ delivered f
   table-holds = ap tableOf written-is ∙ table-back f (drop (length (tableWords (delivered f))) t)
 
 -- ---- questions of words that are a table and hold a delivery are questions of that delivery
@@ -180,12 +201,12 @@ module _ (w : List ℕ) (d : Delivery) (is : isTable w ≡ true) (holds : tableO
   interchange-held n a b = rw (is, holds)
 
 -- of an accepted delivery's table
-module _ (f : Files) (t : List ℕ) (u : ℕ) (e : loaded f (length t) ≡ Accepted u) where
-  pub walk-accepted : (i r day month year : ℕ) → walkOf (written f t) i r day month year ≡ journey (delivered f) i r day month year
-  walk-accepted = walk-held (written f t) (delivered f) (table-is f t u e) (table-holds f t u e)
+module _ (f : Files) (t : List ℕ) (helper u : ℕ) (e : loaded f (length t) helper ≡ Accepted u) where
+  pub walk-accepted : (i r day month year : ℕ) → walkOf (written f t helper) i r day month year ≡ journey (delivered f) i r day month year
+  walk-accepted = walk-held (written f t helper) (delivered f) (table-is f t helper u e) (table-holds f t helper u e)
 
-  pub day-accepted : (day month year b : ℕ) → dayAsked (written f t) day month year b ≡ dayBy (delivered f) b (dateOf (delivered f) day month year)
-  day-accepted = day-held (written f t) (delivered f) (table-is f t u e) (table-holds f t u e)
+  pub day-accepted : (day month year b : ℕ) → dayAsked (written f t helper) day month year b ≡ dayBy (delivered f) b (dateOf (delivered f) day month year)
+  day-accepted = day-held (written f t helper) (delivered f) (table-is f t helper u e) (table-holds f t helper u e)
 
-  pub interchange-accepted : (n a b : ℕ) → interchangeAsked (written f t) n a b ≡ cond (leb a 13 && leb b 13) (cond (hasStop n (delivered f .stops)) (Minutes (minutesFor (interchangeAtStop (delivered f) n) a b)) (InterchangeRefused 27)) (InterchangeRefused 26)
-  interchange-accepted = interchange-held (written f t) (delivered f) (table-is f t u e) (table-holds f t u e)
+  pub interchange-accepted : (n a b : ℕ) → interchangeAsked (written f t helper) n a b ≡ cond (leb a 13 && leb b 13) (cond (hasStop n (delivered f .stops)) (Minutes (minutesFor (interchangeAtStop (delivered f) n) a b)) (InterchangeRefused 27)) (InterchangeRefused 26)
+  interchange-accepted = interchange-held (written f t helper) (delivered f) (table-is f t helper u e) (table-holds f t helper u e)

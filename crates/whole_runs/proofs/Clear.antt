@@ -15,7 +15,7 @@ use Rattle.timetable.specs.Plan.{toldIn, tolds, asCall, asRange, callsOf, saidO
 use Rattle.timetable.specs.Service.{blocks, serviceOf}
 use Rattle.timetable.specs.Checks.{ownOffence, timesFirst, endsFirst, eachOnce, torn, serviceChecks, serviceFirst, servicesFirst, headFirst, planFirst}
 use Rattle.timetable.specs.Legs.{legCount}
-use Rattle.timetable.specs.Load.{delivered, offence}
+use Rattle.timetable.specs.Load.{delivered, contentOffence, offence}
 use Rattle.timetable.specs.declared.Offence.{Offence}
 use Rattle.timetable.specs.declared.Told.{Told}
 use Rattle.timetable.proofs.Lines.{said-more}
@@ -100,10 +100,9 @@ pub record Clear (f : Files) : Type 0 where
   pub services : All (Fair (delivered f)) (blocks (linesOf (f .fplan)))
 
 pub clear : (f : Files) → offence f ≡ none → Clear f
-unfolding offence planFirst
+unfolding contentOffence offence planFirst
 clear f e =
-    let a = then-none _ _ e in let b = then-none _ _ (a .1) in let c = then-none _ _ (b .1) in let d = then-none _ _ (c .1) in let g = then-none _ _ (d .1) in
-    let o1 = then-none _ _ (g .1) in let o2 = then-none _ _ (o1 .1) in let o3 = then-none _ _ (o2 .1) in let o4 = then-none _ _ (o3 .1) in
+    let o1 = then-none _ _ (then-none _ _ e .1) in let o2 = then-none _ _ (o1 .1) in let o3 = then-none _ _ (o2 .1) in let o4 = then-none _ _ (o3 .1) in
     record {
       period = in-none 1 _ (o1 .0);
       fields = in-none 2 _ (o2 .0);

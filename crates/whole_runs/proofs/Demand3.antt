@@ -134,10 +134,10 @@ walk-demand f c w is holds i r d m y day s a =
     }
 
 -- Demand 3: the walk of an accepted delivery's table.
-pub demand3 : (f : Files) (t : List ℕ) (u : ℕ) → loaded f (length t) ≡ Accepted u
+pub demand3 : (f : Files) (t : List ℕ) (helper u : ℕ) → loaded f (length t) helper ≡ Accepted u
     → (i r d m y day : ℕ) (s : Service) → Asked f i r d m y s day
-    → Demand3 f i s r (day - delivered f .period .start) (walkOf (written f t) i r d m y)
-demand3 f t u e = walk-demand f (clear f (no-offence f t u e)) (written f t) (table-is f t u e) (table-holds f t u e)
+    → Demand3 f i s r (day - delivered f .period .start) (walkOf (written f t helper) i r d m y)
+demand3 f t helper u e = walk-demand f (clear f (no-offence f t helper u e)) (written f t helper) (table-is f t helper u e) (table-holds f t helper u e)
 
 -- the same of its words alone, or copied to any other place, whatever follows them there
 pub demand3-copied : (f : Files) → offence f ≡ none → (rest : List ℕ)
@@ -174,26 +174,26 @@ module _ {d : Delivery} {s : Service} {r k : ℕ} where
       go false q e = apart (cc)
 
 -- Demand 3, for the answer and the rows, whatever room is lent.
-pub demand3-rows : (f : Files) (t : List ℕ) (u : ℕ) → loaded f (length t) ≡ Accepted u
+pub demand3-rows : (f : Files) (t : List ℕ) (helper u : ℕ) → loaded f (length t) helper ≡ Accepted u
     → (i r d m y day : ℕ) (s : Service) → Asked f i r d m y s day
     → (lent : List ℕ)
-    → Walk (delivered f) s r (day - delivered f .period .start) lent (walked (written f t) i r d m y (length lent)) (walkRows (written f t) i r d m y lent)
-demand3-rows f t u e i r d m y day s a lent = walk-by (demand3 f t u e i r d m y day s a .outcome) lent
+    → Walk (delivered f) s r (day - delivered f .period .start) lent (walked (written f t helper) i r d m y (length lent)) (walkRows (written f t helper) i r d m y lent)
+demand3-rows f t helper u e i r d m y day s a lent = walk-by (demand3 f t helper u e i r d m y day s a .outcome) lent
 
 -- Of code that keeps its promises: load answers a and leaves the words w, and walk of these answers b and leaves the rows v.
-pub demand3-promised : (f : Files) (t : List ℕ) {a : Loaded} {w : List ℕ} → a ≡ loaded f (length t) → w ≡ written f t → (u : ℕ) → a ≡ Accepted u
+pub demand3-promised : (f : Files) (t : List ℕ) (helper : ℕ) {a : Loaded} {w : List ℕ} → a ≡ loaded f (length t) helper → w ≡ written f t helper → (u : ℕ) → a ≡ Accepted u
     → (i r d m y day : ℕ) (s : Service) → Asked f i r d m y s day
     → (lent : List ℕ)
     → {b : Walked} {v : List ℕ} → b ≡ walked w i r d m y (length lent) → v ≡ walkRows w i r d m y lent
     → OwnRun f i s (day - delivered f .period .start) × Walk (delivered f) s r (day - delivered f .period .start) lent b v
-demand3-promised f t p q u e i r d m y day s a lent x z =
-    rw (x, z, q) (demand3 f t u (sym p ∙ e) i r d m y day s a .own, demand3-rows f t u (sym p ∙ e) i r d m y day s a lent)
+demand3-promised f t helper p q u e i r d m y day s a lent x z =
+    rw (x, z, q) (demand3 f t helper u (sym p ∙ e) i r d m y day s a .own, demand3-rows f t helper u (sym p ∙ e) i r d m y day s a lent)
 
 -- The only refusal is 29, and it names words that are enough.
-pub only-29 : (f : Files) (t : List ℕ) (u : ℕ) → loaded f (length t) ≡ Accepted u
+pub only-29 : (f : Files) (t : List ℕ) (helper u : ℕ) → loaded f (length t) helper ≡ Accepted u
     → (i r d m y day : ℕ) (s : Service) → Asked f i r d m y s day
-    → (room number needed : ℕ) → walked (written f t) i r d m y room ≡ Refused number needed → Short s (walkOf (written f t) i r d m y) room number needed
-only-29 f t u e i r d m y day s a room number needed w = refusal-by (demand3 f t u e i r d m y day s a .outcome) room number needed w
+    → (room number needed : ℕ) → walked (written f t helper) i r d m y room ≡ Refused number needed → Short s (walkOf (written f t helper) i r d m y) room number needed
+only-29 f t helper u e i r d m y day s a room number needed w = refusal-by (demand3 f t helper u e i r d m y day s a .outcome) room number needed w
 
 -- With room for every call of the service it is not refused.
 pub room-enough : {d : Delivery} {s : Service} {r k : ℕ} {lent : List ℕ} {a : Walked} {v : List ℕ} → Walk d s r k lent a v → rowSize * length (s .calls) ≤ length lent

@@ -1,14 +1,15 @@
 -- Every refusal has a number of at least 1: across the boundary a number of 0 says that nothing was refused. And a load's refusal has a column exactly
 -- if it is 4. Assumes nothing.
-use mathlib.Core.Path.{_≡_, refl, subst}
+use mathlib.Core.Path.{_≡_, refl, sym, ap, subst, _∙_}
+use mathlib.Core.Logic.{_⊎_, inl, inr}
 use mathlib.Core.List.{List, [], _∷_, _++_}
 use mathlib.Core.Bool.{Bool, true, false, cond, not, _&&_, _||_}
 use mathlib.Core.Option.{Option, none, some}
 use Prim.Native.Nat.{ℕ, _+_, _%_, _≤_}
 use native.Mathlib.Omega.{arith}
-use lib.ListN.{length}
+use lib.ListN.{length, replicate}
 use lib.Dec.{ltb, leb, eqb}
-use borrow.Author.Tests.{leb-true, eqb-false, not-true}
+use borrow.Author.Tests.{le-ltb, leb-true, eqb-false, not-true}
 use Rattle.base.proofs.Laws.{apart}
 use Rattle.base.proofs.Loops.{and-true}
 use Rattle.bitfield.specs.BitField.{framed}
@@ -26,16 +27,16 @@ use Rattle.forms.specs.declared.Form.the-variants.{Fits, Broken}
 use Rattle.lines.specs.Lines.{Line, linesOf, skipped}
 use Rattle.timetable.specs.Delivery.{Files, BitField as BitFieldRecord, StopRecord, Interchange as InterchangeRecord, CategoryRange, DayRange, Service}
 use Rattle.timetable.specs.declared.Offence.{Offence}
-use Rattle.timetable.specs.Offences.{given, formOffence, _<|>_, first}
+use Rattle.timetable.specs.Offences.{offenceAt, given, formOffence, _<|>_, first}
 use Rattle.timetable.specs.Files.{skip, held-in, heldBy, heldOffence, noDate, noPeriod, dayNumber, dateLineOffence, periodLineOffence, periodFirst}
 use Rattle.timetable.specs.Files.{hasField, bitFieldOf, bitFieldOffence, bitFieldLineOffence, bitFieldsFirst, hasStop, stopOf, stopOffence, stopLineOffence, stopsFirst}
 use Rattle.timetable.specs.Files.{hasInterchange, interchangeOf, interchangeOffence, interchangeLineOffence, interchangesFirst}
-use Rattle.timetable.specs.Table.{tableOf, isTable}
+use Rattle.timetable.specs.Table.{tableWords, tableOf, isTable}
 use Rattle.timetable.specs.Plan.{openingIn, categoryIn, attributeIn, callIn, formed, toldBy, toldIn, asCall, asRange, callsOf, partLines, saidOn}
 use Rattle.timetable.specs.Service.{headLines, blocks, firstLine, legsOn, serviceOf}
 use Rattle.timetable.specs.Legs.{fieldKnown, fieldRuns, legCount}
 use Rattle.timetable.specs.Checks.{most, toldOffence, isNone, eachOnce, torn, timesStated, timesRise, lastStated, timesFirst, endsFirst, legsFirst, serviceChecks, serviceFirst, servicesFirst, planFirst}
-use Rattle.timetable.specs.Load.{delivered, Where, inFile, tooLong, offence, loadedBy, loaded}
+use Rattle.timetable.specs.Load.{delivered, Where, inFile, tooLong, lengthOffence, contentOffence, helperNeeded, refusedOr, shortOr, onto, loaded, helpedBy, helped}
 use Rattle.timetable.specs.Layout.{mostFileBytes, mostCalls}
 use Rattle.timetable.specs.Questions.{minutesFor, interchangeAtStop, dateOf, Dated, undated, dated, dayBy, dayAsked, interchangeAsked, walked}
 use Rattle.timetable.specs.declared.Call.{Call}
@@ -50,6 +51,7 @@ use Rattle.timetable.specs.declared.Walked.the-variants.{Refused as WalkRefused
 use Rattle.timetable.proofs.Offences.{one-of}
 use Rattle.whole_runs.specs.Promise.{AnyWalk, lists, short, nowhere, refuses}
 use Rattle.whole_runs.proofs.Any.{date-refusal, any-walk}
+use Rattle.whole_runs.proofs.Accepted.{accepted}
 
 -- ---- the offences of a delivery
 
@@ -59,21 +61,37 @@ record Sound (number column : ℕ) : Type 0 where
   pub placed : number ≡ 4 → 1 ≤ column
   pub unplaced : (number ≡ 4 → ⊥) → column ≡ 0
 
+-- an offence of what stands in the files is neither 1 nor 51
+record Inside (number column : ℕ) : Type 0 where
+  pub sound : Sound number column
+  pub not-1 : number ≡ 1 → ⊥
+  pub not-51 : number ≡ 51 → ⊥
+
 -- an offence, if there is one, is so
 abbrev Numbered : Option Offence → Type 0
-Numbered x = (o : Offence) → x ≡ some o → Sound (o .number) (o .column)
+Numbered x = (o : Offence) → x ≡ some o → Inside (o .number) (o .column)
 
-it : (number line column : ℕ) → Sound number column → Numbered (some (record { number = number; line = line; column = column }))
-it number line column h o e = let z : number ≡ o .number = cc in let w : column ≡ o .column = cc in subst (λ (c : ℕ). Sound (o .number) c) w (subst (λ (n : ℕ). Sound n column) z h)
+it : (number line column : ℕ) → Inside number column → Numbered (some (record { number = number; line = line; column = column }))
+it number line column h o e = let z : number ≡ o .number = cc in let w : column ≡ o .column = cc in subst (λ (c : ℕ). Inside (o .number) c) w (subst (λ (n : ℕ). Inside n column) z h)
 
--- a number that is neither 0 nor 4
+-- a number without a column
+plain : (number : ℕ) → 1 ≤ number → (number ≡ 4 → ⊥) → Sound number 0
+plain number h n = record { numbered = h; placed = λ e. absurd (n e); unplaced = λ e. refl }
+
+-- a number that is none of 0, 1, 4 and 51
 abbrev other : ℕ → Bool
-other n = leb 1 n && not (eqb n 4)
+other n = leb 2 n && (not (eqb n 4) && not (eqb n 51))
 
-without : (number : ℕ) → other number ≡ true → Sound number 0
+without : (number : ℕ) → other number ≡ true → Inside number 0
 without number h =
-    let p = and-true (leb 1 number) (not (eqb number 4)) h in
-    record { numbered = leb-true 1 number (p .0); placed = λ e. absurd (eqb-false number 4 (not-true (eqb number 4) (p .1)) e); unplaced = λ e. refl }
+    let p = and-true (leb 2 number) (not (eqb number 4) && not (eqb number 51)) h in
+    let q = and-true (not (eqb number 4)) (not (eqb number 51)) (p .1) in
+    let l = leb-true 2 number (p .0) in
+    record {
+      sound = plain number (omega arith) (eqb-false number 4 (not-true (eqb number 4) (q .0)));
+      not-1 = λ e. absurd (omega (arith, e));
+      not-51 = eqb-false number 51 (not-true (eqb number 51) (q .1));
+    }
 
 by-given : (t : Bool) (number line : ℕ) → other number ≡ true → Numbered (given t number line)
 by-given true number line h o e = it number line 0 (without number h) o e
@@ -81,7 +99,7 @@ by-given false number line h o e = apart (cc)
 
 by-form : (f : Form) (line : ℕ) → ((c : ℕ) → f ≡ Broken c → 1 ≤ c) → Numbered (formOffence f line)
 by-form Fits line h o e = apart (cc)
-by-form (Broken c) line h o e = it 4 line c (record { numbered = omega arith; placed = λ z. h c refl; unplaced = λ z. absurd (z refl) }) o e
+by-form (Broken c) line h o e = it 4 line c (record { sound = record { numbered = omega arith; placed = λ z. h c refl; unplaced = λ z. absurd (z refl) }; not-1 = λ z. absurd (omega (arith, z)); not-51 = λ z. absurd (omega (arith, z)) }) o e
 
 either : (a b : Option Offence) → Numbered a → Numbered b → Numbered (a <|> b)
 either a b p q o e = one-of a b e (p o) (q o)
@@ -207,41 +225,76 @@ module _ (fields : List BitFieldRecord) (stops : List StopRecord) (n : ℕ) wher
 
 module _ {w : Where} where
   -- what an offence of a file says is its number and its column
-  by-file : (f : ℕ) (o : Option Offence) → Numbered o → inFile f o ≡ some w → Sound (w .offence .number) (w .offence .column)
+  by-file : (f : ℕ) (o : Option Offence) → Numbered o → inFile f o ≡ some w → Inside (w .offence .number) (w .offence .column)
   by-file f none h e = apart (cc)
-  by-file f (some x) h e = let z : x ≡ w .offence = cc in let p = h x refl in subst (λ (y : Offence). Sound (y .number) (y .column)) z p
+  by-file f (some x) h e = let z : x ≡ w .offence = cc in let p = h x refl in subst (λ (y : Offence). Inside (y .number) (y .column)) z p
 
-  by-length : (f : ℕ) (s : List ℕ) → tooLong f s ≡ some w → Sound (w .offence .number) (w .offence .column)
-  by-length f s = by-file f (given (ltb mostFileBytes (length s)) 1 0) (by-given (ltb mostFileBytes (length s)) 1 0 refl)
-
-  offence-sound : (f : Files) → offence f ≡ some w → Sound (w .offence .number) (w .offence .column)
-  unfolding offence bitFieldsFirst stopsFirst
-  offence-sound f e =
-      one-of _ _ e (by-length 1 (f .eckdaten)) (λ e. one-of _ _ e (by-length 2 (f .bitfeld)) (λ e. one-of _ _ e (by-length 3 (f .bahnhof))
-      (λ e. one-of _ _ e (by-length 4 (f .umsteigb)) (λ e. one-of _ _ e (by-length 5 (f .fplan))
-      (λ e. one-of _ _ e (by-file 1 _ (by-period (linesOf (f .eckdaten))))
+  content-inside : (f : Files) → contentOffence f ≡ some w → Inside (w .offence .number) (w .offence .column)
+  unfolding contentOffence bitFieldsFirst stopsFirst
+  content-inside f e =
+      one-of _ _ e (by-file 1 _ (by-period (linesOf (f .eckdaten))))
       (λ e. one-of _ _ e (by-file 2 _ (by-line _ (by-field (delivered f .period .days)) [] (linesOf (f .bitfeld))))
       (λ e. one-of _ _ e (by-file 3 _ (by-line _ by-stop [] (linesOf (f .bahnhof))))
       (λ e. one-of _ _ e (by-file 4 _ (by-interchanges (delivered f .stops) (linesOf (f .umsteigb))))
-      (by-file 5 _ (by-plan (delivered f .fields) (delivered f .stops) (delivered f .period .days) (linesOf (f .fplan))))))))))))
+      (by-file 5 _ (by-plan (delivered f .fields) (delivered f .stops) (delivered f .period .days) (linesOf (f .fplan)))))))
+
+  -- a file's length is an offence 1
+  by-length : (f : ℕ) (s : List ℕ) → tooLong f s ≡ some w → w .offence ≡ offenceAt 1 0
+  by-length f s e = go (ltb mostFileBytes (length s)) e
+    where
+      go : (t : Bool) → inFile f (given t 1 0) ≡ some w → w .offence ≡ offenceAt 1 0
+      go true e = let z : offenceAt 1 0 ≡ w .offence = cc in sym z
+      go false e = apart (cc)
+
+  length-1 : (f : Files) → lengthOffence f ≡ some w → w .offence ≡ offenceAt 1 0
+  unfolding lengthOffence
+  length-1 f e =
+      one-of _ _ e (by-length 1 (f .eckdaten)) (λ e. one-of _ _ e (by-length 2 (f .bitfeld)) (λ e. one-of _ _ e (by-length 3 (f .bahnhof))
+      (λ e. one-of _ _ e (by-length 4 (f .umsteigb)) (by-length 5 (f .fplan)))))
 
 -- ---- the answers
 
-module _ (f : Files) (room number file line column needed : ℕ) (e : loaded f room ≡ Refused number file line column needed) where
-  load-sound : Sound number column
-  unfolding loaded
-  load-sound = go (offence f) refl _ e
-    where
-      short : (t : Bool) (n : ℕ) → cond t (Refused 20 0 0 0 n) (Accepted n) ≡ Refused number file line column needed → Sound number column
-      short true n e = let z : _≡_ {A = ℕ} 20 number = cc in let w : _≡_ {A = ℕ} 0 column = cc in subst (λ (c : ℕ). Sound number c) w (subst (λ (n : ℕ). Sound n 0) z (without 20 refl))
-      short false n e = apart (cc)
+-- how a load is refused: 1 for a file's length, 51, or 20 or an offence of what stands in the files
+data Refusal (f : Files) (helper : ℕ) : ℕ → ℕ → Type 0 where
+  long : (w : Where) → lengthOffence f ≡ some w → Refusal f helper 1 0
+  few : lengthOffence f ≡ none → ltb helper (helperNeeded f) ≡ true → Refusal f helper 51 0
+  inside : {number column : ℕ} → lengthOffence f ≡ none → ltb helper (helperNeeded f) ≡ false → Inside number column → Refusal f helper number column
 
-      go : (o : Option Where) → offence f ≡ o → (n : ℕ) → loadedBy o n room ≡ Refused number file line column needed → Sound number column
-      go none q n e = short (ltb room n) n e
-      go (some x) q n e =
+module _ (f : Files) (room helper number file line column needed : ℕ) (e : loaded f room helper ≡ Refused number file line column needed) where
+  refusal : Refusal f helper number column
+  unfolding loaded
+  refusal = at-length (lengthOffence f) refl e
+    where
+      at-room : lengthOffence f ≡ none → ltb helper (helperNeeded f) ≡ false → (t : Bool) (n : ℕ) → cond t (Refused 20 0 0 0 n) (Accepted n) ≡ Refused number file line column needed → Refusal f helper number column
+      at-room p q true n e = let z : _≡_ {A = ℕ} 20 number = cc in let w : _≡_ {A = ℕ} 0 column = cc in subst (λ (c : ℕ). Refusal f helper number c) w (subst (λ (n : ℕ). Refusal f helper n 0) z (inside p q (without 20 refl)))
+      at-room p q false n e = apart (cc)
+
+      at-content : lengthOffence f ≡ none → ltb helper (helperNeeded f) ≡ false → (o : Option Where) → contentOffence f ≡ o → (n : ℕ) → refusedOr o (shortOr 20 room n (Accepted n)) ≡ Refused number file line column needed → Refusal f helper number column
+      at-content p q none c n e = at-room p q (ltb room n) n e
+      at-content p q (some x) c n e =
           let z : x .offence .number ≡ number = cc in
           let w : x .offence .column ≡ column = cc in
-          subst (λ (c : ℕ). Sound number c) w (subst (λ (n : ℕ). Sound n (x .offence .column)) z (offence-sound {w = x} f q))
+          subst (λ (c : ℕ). Refusal f helper number c) w (subst (λ (n : ℕ). Refusal f helper n (x .offence .column)) z (inside p q (content-inside {w = x} f c)))
+
+      at-helper : lengthOffence f ≡ none → (t : Bool) → ltb helper (helperNeeded f) ≡ t → (n : ℕ) → cond t (Refused 51 0 0 0 n) (refusedOr (contentOffence f) (shortOr 20 room (length (tableWords (delivered f))) (Accepted (length (tableWords (delivered f)))))) ≡ Refused number file line column needed → Refusal f helper number column
+      at-helper p true q n e = let z : _≡_ {A = ℕ} 51 number = cc in let w : _≡_ {A = ℕ} 0 column = cc in subst (λ (c : ℕ). Refusal f helper number c) w (subst (λ (n : ℕ). Refusal f helper n 0) z (few p q))
+      at-helper p false q n e = at-content p q (contentOffence f) refl _ e
+
+      at-length : (o : Option Where) → lengthOffence f ≡ o → refusedOr o (shortOr 51 helper (helperNeeded f) (refusedOr (contentOffence f) (shortOr 20 room (length (tableWords (delivered f))) (Accepted (length (tableWords (delivered f))))))) ≡ Refused number file line column needed → Refusal f helper number column
+      at-length none p e = at-helper p (ltb helper (helperNeeded f)) refl (helperNeeded f) e
+      at-length (some x) p e =
+          let o = length-1 {w = x} f p in
+          let z : x .offence .number ≡ number = cc in
+          let w : x .offence .column ≡ column = cc in
+          subst (λ (c : ℕ). Refusal f helper number c) (sym (ap (λ (y : Offence). y .column) o) ∙ w) (subst (λ (n : ℕ). Refusal f helper n 0) (sym (ap (λ (y : Offence). y .number) o) ∙ z) (long x p))
+
+  load-sound : Sound number column
+  load-sound = go refusal
+    where
+      go : {n c : ℕ} → Refusal f helper n c → Sound n c
+      go (long w p) = plain 1 (omega arith) (λ z. absurd (omega (arith, z)))
+      go (few p q) = plain 51 (omega arith) (λ z. absurd (omega (arith, z)))
+      go (inside p q h) = h .sound
 
   pub load-numbered : 1 ≤ number
   load-numbered = load-sound .numbered
@@ -249,6 +302,41 @@ module _ (f : Files) (room number file line column needed : ℕ) (e : loaded f r
   -- "A refusal 4 also returns the column ..; all other refusals return 0 there."
   pub load-columned : (number ≡ 4 → 1 ≤ column) × ((number ≡ 4 → ⊥) → column ≡ 0)
   load-columned = (load-sound .placed, load-sound .unplaced)
+
+-- No. 13: "Those words hold 0 afterwards; any further ones stay. .. after 1 and 51 all helper words stay." By the number that is answered:
+module _ (f : Files) (h : List ℕ) where
+  kept-long : (w : Where) → lengthOffence f ≡ some w → helped f h ≡ h
+  unfolding helped
+  kept-long w p = rw p refl
+
+  kept-few : lengthOffence f ≡ none → ltb (length h) (helperNeeded f) ≡ true → helped f h ≡ h
+  unfolding helped
+  kept-few p q = rw (p, q) refl
+
+  zeros : lengthOffence f ≡ none → ltb (length h) (helperNeeded f) ≡ false → helped f h ≡ onto (replicate (helperNeeded f) 0) h
+  unfolding helped
+  zeros p q = rw (p, q) refl
+
+  module _ (room number file line column needed : ℕ) (e : loaded f room (length h) ≡ Refused number file line column needed) where
+    pub helper-stays : (number ≡ 1) ⊎ (number ≡ 51) → helped f h ≡ h
+    helper-stays = go (refusal f room (length h) number file line column needed e)
+      where
+        go : {n c : ℕ} → Refusal f (length h) n c → (n ≡ 1) ⊎ (n ≡ 51) → helped f h ≡ h
+        go (long w p) x = kept-long w p
+        go (few p q) x = kept-few p q
+        go (inside p q i) (inl x) = absurd (i .not-1 x)
+        go (inside p q i) (inr x) = absurd (i .not-51 x)
+
+    pub helper-zeros : (number ≡ 1 → ⊥) → (number ≡ 51 → ⊥) → helped f h ≡ onto (replicate (helperNeeded f) 0) h
+    helper-zeros = go (refusal f room (length h) number file line column needed e)
+      where
+        go : {n c : ℕ} → Refusal f (length h) n c → (n ≡ 1 → ⊥) → (n ≡ 51 → ⊥) → helped f h ≡ onto (replicate (helperNeeded f) 0) h
+        go (long w p) x y = absurd (x refl)
+        go (few p q) x y = absurd (y refl)
+        go (inside p q i) x y = zeros p q
+
+  pub helper-accepted : (room u : ℕ) → loaded f room (length h) ≡ Accepted u → helped f h ≡ onto (replicate (helperNeeded f) 0) h
+  helper-accepted room u e = let a = accepted f room (length h) u e in zeros (a .short-files) (le-ltb (length h) (helperNeeded f) (a .helper-room))
 
 pub day-numbered : (w : List ℕ) (d m y b number : ℕ) → dayAsked w d m y b ≡ DayRefused number → 1 ≤ number
 unfolding dayAsked

@@ -15,7 +15,7 @@ use Rattle.base.proofs.Laws.{clash, by-ltb, by-eqb}
 use Rattle.timetable.specs.Layout.{rowSize, allFlags}
 use Rattle.timetable.specs.Delivery.{Files, Interchange, CategoryRange, Service, Delivery}
 use Rattle.timetable.specs.Legs.{covers}
-use Rattle.timetable.specs.Load.{onto, loaded, written}
+use Rattle.timetable.specs.Load.{onto, loaded, written, helped}
 use Rattle.timetable.specs.Questions.{dayAsked, interchangeAsked, walked, walkRows}
 use Rattle.timetable.specs.declared.Call.{Call}
 use Rattle.timetable.specs.declared.DayAnswer.{DayAnswer}
@@ -29,9 +29,9 @@ use Rattle.whole_runs.proofs.Lists.{every-below}
 
 -- ---- the entry points
 
--- load: its answer, and all words of the table afterwards
-pub load-no-slack : (f : Files) (lent : List ℕ) {a b : Loaded} {t u : List ℕ} → a ≡ loaded f (length lent) → t ≡ written f lent → b ≡ loaded f (length lent) → u ≡ written f lent → (a ≡ b) × (t ≡ u)
-load-no-slack f lent a t b u = (a ∙ sym b, t ∙ sym u)
+-- load: its answer, all words of the table afterwards, and all helper words
+pub load-no-slack : (f : Files) (lent helper : List ℕ) {a b : Loaded} {t u g h : List ℕ} → a ≡ loaded f (length lent) (length helper) → t ≡ written f lent (length helper) → g ≡ helped f helper → b ≡ loaded f (length lent) (length helper) → u ≡ written f lent (length helper) → h ≡ helped f helper → (a ≡ b) × (t ≡ u) × (g ≡ h)
+load-no-slack f lent helper a t g b u h = (a ∙ sym b, t ∙ sym u, g ∙ sym h)
 
 -- walk: its answer, and all words of the rows afterwards
 pub walk-no-slack : (w : List ℕ) (i r d m y : ℕ) (lent : List ℕ) {a b : Walked} {t u : List ℕ} → a ≡ walked w i r d m y (length lent) → t ≡ walkRows w i r d m y lent → b ≡ walked w i r d m y (length lent) → u ≡ walkRows w i r d m y lent → (a ≡ b) × (t ≡ u)

@@ -1,6 +1,6 @@
 //! An ordinary loader of document 01's rules, with maps: each file is read once, line by line, numbers are looked up in a
 //! `HashMap`, and the table is built in a `Vec` and copied to the words lent. Document 02, No. 13 asks for it: the proved
-//! loader should take at most three times as long. It is written from the papers, with the open points read as
+//! loader should take at most three times as long. It is lent no helper words: its maps are its own. It is written from the papers, with the open points read as
 //! docs/DECISIONS.md reads them, and shares no code with the proved loader or with the comparison's reader.
 
 #![warn(missing_docs)]

@@ -18,6 +18,20 @@ pub fn shortest_records(rng: &mut Rng, bytes: usize, numbers: Numbers) -> [Vec<u
     [year(), bit_field_file(rng, &fields), names, interchange_file(rng, own), Vec::new()]
 }
 
+/// The same in one of these files alone, 2 to 4; but UMSTEIGB's stops are in BAHNHOF too.
+pub fn shortest_in(rng: &mut Rng, bytes: usize, file: usize) -> [Vec<u8>; 5] {
+    let mut files = shortest_records(rng, bytes, Numbers::Consecutive);
+    for other in [2, 3, 4] {
+        if other != file && !(file == 4 && other == 3) {
+            files[other - 1].clear();
+        }
+    }
+    if file != 4 {
+        files[3] = interchange_file(rng, &[]);
+    }
+    files
+}
+
 /// So many line ends in BITFELD and BAHNHOF, and in UMSTEIGB before its first record.
 pub fn empty_lines(bytes: usize) -> [Vec<u8>; 5] {
     const RECORD: &[u8] = b"9999999  2  3\n";

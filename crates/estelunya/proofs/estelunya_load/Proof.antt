@@ -13,8 +13,13 @@ load-result-requires c κs = search tests
 same-length : tie.Need-same-length
 same-length c = search tests
 
+same-length-2 : tie.Need-same-length-2
+same-length-2 c = search tests
+
 returns : tie.Need-returns
-returns c = (c .load-result .ensures ∙ ap loadResult (c .before .before .before .load .ensures .0), c .before .before .before .load .ensures .1)
+returns c =
+    let loaded = c .before .before .before .before .before in
+    (c .load-result .ensures ∙ ap loadResult (loaded .load .ensures .0), (loaded .load .ensures .1 .0, loaded .load .ensures .1 .1))
 
 pub estelunya-load-spec : {M : Type 1} → statement M
-estelunya-load-spec = tie.close (tie.spec load-requires load-result-requires same-length returns)
+estelunya-load-spec = tie.close (tie.spec load-requires load-result-requires same-length same-length-2 returns)

@@ -1,19 +1,12 @@
+use mathlib.Core.Path.{_∙_}
 use Rattle.base.proofs.Laws.{tests}
-use Rattle.load.proofs.Files.{short-period, short-fields, short-stops, short-interchanges, short-plan, days-few, fields-few, stops-few, interchanges-few, words-few, all-right, lengths, orders}
+use Rattle.load.proofs.Helper.{lent-fields, lent-stops, lent-interchanges, maps-inside, fields-held, stops-still}
+use Rattle.load.proofs.Files.{days-few, fields-few, stops-few, interchanges-few, words-few, plan-out, all-right, orders}
 use Rattle.load.proofs.check_delivery.Statement.{statement}
 use Rattle.load.proofs.check_delivery.Tie as tie
 
-too-long-requires : tie.Need-too-long-requires
-too-long-requires c κs = search tests
-
-offence-at-requires : tie.Need-offence-at-requires
-offence-at-requires c κs = search tests
-
-returns : tie.Need-returns
-returns c = search lengths
-
 check-period-requires : tie.Need-check-period-requires
-check-period-requires c κs = search short-period
+check-period-requires c κs = search tests
 
 enum-known-period : tie.Need-enum-known-period
 enum-known-period c = search tests
@@ -24,11 +17,11 @@ enum-told c = search tests
 refused-requires : tie.Need-refused-requires
 refused-requires c κs = search tests
 
-returns-2 : tie.Need-returns-2
-returns-2 c = search orders
+returns : tie.Need-returns
+returns c = search orders
 
-check-bit-fields-requires : tie.Need-check-bit-fields-requires
-check-bit-fields-requires c κs = (search short-fields, search days-few)
+fields-in-requires : tie.Need-fields-in-requires
+fields-in-requires c κs = ((search tests, search days-few), search lent-fields)
 
 enum-known-field-section : tie.Need-enum-known-field-section
 enum-known-field-section c = search tests
@@ -39,11 +32,18 @@ enum-told-2 c = search tests
 refused-requires-2 : tie.Need-refused-requires-2
 refused-requires-2 c κs = search tests
 
-returns-3 : tie.Need-returns-3
-returns-3 c = search orders
+same-length : tie.Need-same-length
+same-length c = search tests
 
-check-stops-requires : tie.Need-check-stops-requires
-check-stops-requires c κs = search short-stops
+returns-2 : tie.Need-returns-2
+returns-2 c = search orders
+
+stops-in-requires : tie.Need-stops-in-requires
+stops-in-requires c κs =
+    let fields = c .before .before .before .before .before .before in
+    let period = fields .before .before .before .before .before in
+    let start = period .before .before .before .before .before .before .before in
+    (start .pre .0 .bahnhof, search (lent-stops, start .pre .0, start .pre .1, fields .fields-in .ensures .1))
 
 enum-known-stop-section : tie.Need-enum-known-stop-section
 enum-known-stop-section c = search tests
@@ -54,11 +54,21 @@ enum-told-3 c = search tests
 refused-requires-3 : tie.Need-refused-requires-3
 refused-requires-3 c κs = search tests
 
-returns-4 : tie.Need-returns-4
-returns-4 c = search orders
+same-length-2 : tie.Need-same-length-2
+same-length-2 c = search tests
 
-check-interchanges-requires : tie.Need-check-interchanges-requires
-check-interchanges-requires c κs = search short-interchanges
+returns-3 : tie.Need-returns-3
+returns-3 c = search orders
+
+interchanges-in-requires : tie.Need-interchanges-in-requires
+interchanges-in-requires c κs =
+    let stops = c .before .before .before .before .before .before in
+    let fields = stops .before .before .before .before .before .before .before in
+    let period = fields .before .before .before .before .before in
+    let start = period .before .before .before .before .before .before .before in (
+      start .pre .0 .umsteigb,
+      (stops .stops-in .ensures .1 .held _ _ (c .before .before .stop-section .given .1), lent-interchanges _ _ _ _ _ _ _ (start .pre .0) (start .pre .1) _ _ (fields .fields-in .ensures .1) _ _ (stops .stops-in .ensures .1)),
+    )
 
 enum-known-interchange-section : tie.Need-enum-known-interchange-section
 enum-known-interchange-section c = search tests
@@ -69,11 +79,22 @@ enum-told-4 c = search tests
 refused-requires-4 : tie.Need-refused-requires-4
 refused-requires-4 c κs = search tests
 
-returns-5 : tie.Need-returns-5
-returns-5 c = search orders
+same-length-3 : tie.Need-same-length-3
+same-length-3 c = search tests
 
-check-plan-requires : tie.Need-check-plan-requires
-check-plan-requires c κs = (search short-plan, search days-few)
+returns-4 : tie.Need-returns-4
+returns-4 c = search orders
+
+plan-by-requires : tie.Need-plan-by-requires
+plan-by-requires c κs =
+    let interchanges = c .before .before .before .before .before .before in
+    let stops = interchanges .before .before .before .before .before .before .before in
+    let fields = stops .before .before .before .before .before .before .before in
+    let period = fields .before .before .before .before .before in
+    let start = period .before .before .before .before .before .before .before in (
+      (start .pre .0 .fplan, search (days-few, period .check-period .ensures, fields .before .before .before .period .given .1), maps-inside _ _ _ _ _ _ _ (start .pre .0) (start .pre .1) _ _ (fields .fields-in .ensures .1) _ _ (stops .stops-in .ensures .1) _ (interchanges .interchanges-in .kept .1 .1 .0) (interchanges .interchanges-in .ensures .1)),
+      (fields-held _ _ _ _ _ _ _ (start .pre .0) (start .pre .1) _ _ (fields .fields-in .ensures .1) _ _ (stops .stops-in .ensures .1) _ (interchanges .interchanges-in .kept .1 .1 .0) (interchanges .interchanges-in .ensures .1) _ _ (stops .before .before .before .field-section .given .1), stops-still _ _ _ _ _ _ _ (start .pre .0) (start .pre .1) _ _ (fields .fields-in .ensures .1) _ _ (stops .stops-in .ensures .1) _ (interchanges .interchanges-in .kept .1 .1 .0) (interchanges .interchanges-in .ensures .1) _ _ (interchanges .before .before .before .stop-section .given .1)),
+    )
 
 enum-known-plan : tie.Need-enum-known-plan
 enum-known-plan c = search tests
@@ -84,33 +105,72 @@ enum-told-5 c = search tests
 refused-requires-5 : tie.Need-refused-requires-5
 refused-requires-5 c κs = search tests
 
-returns-6 : tie.Need-returns-6
-returns-6 c = search orders
+same-length-4 : tie.Need-same-length-4
+same-length-4 c = search tests
+
+returns-5 : tie.Need-returns-5
+returns-5 c =
+    let plan = c .before .before .before in
+    let interchanges = plan .before .before .before .before .before .before .before in
+    let stops = interchanges .before .before .before .before .before .before .before in
+    let fields = stops .before .before .before .before .before .before .before in
+    let period = fields .before .before .before .before .before in
+    search (
+      plan-out,
+      period .check-period .ensures,
+      fields .before .before .before .period .given .1,
+      fields .fields-in .ensures .0,
+      stops .before .before .before .field-section .given .1,
+      stops .stops-in .ensures .0,
+      interchanges .before .before .before .stop-section .given .1,
+      interchanges .interchanges-in .ensures .0,
+      plan .before .before .before .interchange-section .given .1,
+      plan .plan-by .ensures,
+      c .before .enum-told5 .given .1,
+      c .refused5 .ensures,
+    )
 
 header-of-requires : tie.Need-header-of-requires
-header-of-requires c κs = (search (fields-few, short-fields), search (stops-few, short-stops), search (interchanges-few, short-interchanges), search (words-few, short-plan))
+header-of-requires c κs =
+    let plan = c .before .before .before in
+    let interchanges = plan .before .before .before .before .before .before .before in
+    let stops = interchanges .before .before .before .before .before .before .before in
+    let fields = stops .before .before .before .before .before .before .before in
+    let period = fields .before .before .before .before .before in
+    let start = period .before .before .before .before .before .before .before in (
+      search (fields-few, fields .fields-in .ensures .0, stops .before .before .before .field-section .given .1, start .pre .0 .bitfeld),
+      search (stops-few, stops .stops-in .ensures .0, interchanges .before .before .before .stop-section .given .1, start .pre .0 .bahnhof),
+      search (interchanges-few, interchanges .interchanges-in .ensures .0, plan .before .before .before .interchange-section .given .1, start .pre .0 .umsteigb),
+      search (words-few, plan .plan-by .ensures, c .before .plan .given .1, start .pre .0 .fplan),
+    )
 
-returns-7 : tie.Need-returns-7
-returns-7 c =
+same-length-5 : tie.Need-same-length-5
+same-length-5 c =
     let plan = c .before .before .before .before in
-    let interchanges = plan .before .before .before .before in
-    let stops = interchanges .before .before .before .before in
-    let fields = stops .before .before .before .before in
-    let period = fields .before .before .before .before in
+    let interchanges = plan .before .before .before .before .before .before .before in
+    let stops = interchanges .before .before .before .before .before .before .before in
+    let fields = stops .before .before .before .before .before .before .before in
+    interchanges .interchanges-in .kept .1 .1 .0 ∙ (stops .stops-in .kept .1 .0 ∙ fields .fields-in .kept .1 .1 .0)
+
+returns-6 : tie.Need-returns-6
+returns-6 c =
+    let plan = c .before .before .before .before in
+    let interchanges = plan .before .before .before .before .before .before .before in
+    let stops = interchanges .before .before .before .before .before .before .before in
+    let fields = stops .before .before .before .before .before .before .before in
+    let period = fields .before .before .before .before .before in
     search (
       all-right,
-      period .before .before .too-long .ensures,
-      period .before .if1 .left,
       period .check-period .ensures,
-      fields .before .known-told .given .1,
-      fields .check-bit-fields .ensures,
-      stops .before .known-told2 .given .1,
-      stops .check-stops .ensures,
-      interchanges .before .known-told3 .given .1,
-      interchanges .check-interchanges .ensures,
-      plan .before .known-told4 .given .1,
-      plan .check-plan .ensures,
-      c .before .known-told5 .given .1,
+      fields .before .before .before .period .given .1,
+      fields .fields-in .ensures .0,
+      stops .before .before .before .field-section .given .1,
+      stops .stops-in .ensures .0,
+      interchanges .before .before .before .stop-section .given .1,
+      interchanges .interchanges-in .ensures .0,
+      plan .before .before .before .interchange-section .given .1,
+      plan .plan-by .ensures,
+      c .before .before .plan .given .1,
       c .header-of .ensures,
     )
 
@@ -118,33 +178,35 @@ pub check-delivery-spec : {M : Type 1} → statement M
 check-delivery-spec =
     tie.close
     (tie.spec
-    too-long-requires
-    offence-at-requires
-    returns
     check-period-requires
     enum-known-period
     enum-told
     refused-requires
-    returns-2
-    check-bit-fields-requires
+    returns
+    fields-in-requires
     enum-known-field-section
     enum-told-2
     refused-requires-2
-    returns-3
-    check-stops-requires
+    same-length
+    returns-2
+    stops-in-requires
     enum-known-stop-section
     enum-told-3
     refused-requires-3
-    returns-4
-    check-interchanges-requires
+    same-length-2
+    returns-3
+    interchanges-in-requires
     enum-known-interchange-section
     enum-told-4
     refused-requires-4
-    returns-5
-    check-plan-requires
+    same-length-3
+    returns-4
+    plan-by-requires
     enum-known-plan
     enum-told-5
     refused-requires-5
-    returns-6
+    same-length-4
+    returns-5
     header-of-requires
-    returns-7)
+    same-length-5
+    returns-6)

@@ -18,7 +18,7 @@ slice-aggregate-check-services-2 : tie.Need-slice-aggregate-check-services-2
 slice-aggregate-check-services-2 c = search planning
 
 check-services-requires : tie.Need-check-services-requires
-check-services-requires c κs = search planning
+check-services-requires c κs = (search planning, (search planning, search planning))
 
 returns : tie.Need-returns
 returns c = search planning

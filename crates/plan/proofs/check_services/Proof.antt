@@ -6,6 +6,8 @@ use Rattle.timetable.specs.Files.{bitFieldsIn, stopsIn}
 use Rattle.timetable.specs.Service.{blocks}
 use Rattle.timetable.specs.Checks.{servicesFirst}
 use Rattle.draft.specs.Draft.{callsLent, rangesLent}
+use Rattle.base.proofs.Laws.{tests}
+use Rattle.reading.specs.Maps.{FieldMap, StopMap}
 use Rattle.reading.specs.Reading.{Boundary}
 use Rattle.plan.specs.Services.{blockWords}
 use Rattle.plan.proofs.Checking.{checking}
@@ -13,23 +15,24 @@ use Rattle.plan.proofs.check_services.Statement.{statement}
 use Rattle.plan.proofs.check_services.Tie as tie
 
 abbrev Inv-loop : tie.InvT-loop
-Inv-loop fplan start first bitfeld bahnhof days calls₀ ranges₀ at₀ line₀ count₀ total₀ calls ranges at line count total =
+Inv-loop fplan start first bitfeld fields bahnhof stops days calls₀ ranges₀ at₀ line₀ count₀ total₀ calls ranges at line count total =
     (length calls ≡ length calls₀) × (length ranges ≡ length ranges₀)
     × (callsLent ≤ length calls) × (rangesLent ≤ length ranges)
     × Boundary fplan at line
     × (count + length (blocks (linesAt fplan at line)) ≡ length (blocks (linesAt fplan start first)))
     × (total + length (blockWords (blocks (linesAt fplan at line))) ≡ length (blockWords (blocks (linesAt fplan start first))))
     × (servicesFirst (bitFieldsIn bitfeld) (stopsIn bahnhof) days (blocks (linesAt fplan at line)) ≡ servicesFirst (bitFieldsIn bitfeld) (stopsIn bahnhof) days (blocks (linesAt fplan start first)))
+    × (FieldMap bitfeld fields × StopMap bahnhof stops)
 
 abbrev μ-loop : tie.MeasureT-loop
-μ-loop fplan start first bitfeld bahnhof days calls₀ ranges₀ at₀ line₀ count₀ total₀ calls ranges at line count total =
+μ-loop fplan start first bitfeld fields bahnhof stops days calls₀ ranges₀ at₀ line₀ count₀ total₀ calls ranges at line count total =
     length fplan - at
 
 loop-holds : tie.Need-loop-holds Inv-loop μ-loop
 loop-holds c = search checking
 
 check-service-requires : tie.Need-check-service-requires Inv-loop μ-loop
-check-service-requires c κs = ((search checking, search checking, search checking, search checking), search checking)
+check-service-requires c κs = ((search checking, search checking, search checking, search checking), (search checking, search tests))
 
 enum-known-checked : tie.Need-enum-known-checked Inv-loop μ-loop
 enum-known-checked c = search checking
@@ -56,7 +59,7 @@ loop-less : tie.Need-loop-less Inv-loop μ-loop
 loop-less c = search checking
 
 loop-again : tie.Need-loop-again Inv-loop μ-loop
-loop-again c = (search checking, search checking, search checking, search checking, search checking, search checking, search checking, search checking)
+loop-again c = (search checking, search checking, search checking, search checking, search checking, search checking, search checking, search checking, search tests)
 
 same-length-3 : tie.Need-same-length-3 Inv-loop μ-loop
 same-length-3 c = search checking

@@ -1,4 +1,4 @@
-use Rattle.reading.proofs.Own.{own}
+use Rattle.reading.proofs.Own.{stop-map, own}
 use Rattle.reading.proofs.call_offence.Statement.{statement}
 use Rattle.reading.proofs.call_offence.Tie as tie
 
@@ -9,7 +9,7 @@ returns : tie.Need-returns
 returns c = search own
 
 known-stop-requires : tie.Need-known-stop-requires
-known-stop-requires c κs = search own
+known-stop-requires c κs = search stop-map
 
 returns-2 : tie.Need-returns-2
 returns-2 c = search own

@@ -1,4 +1,4 @@
-use Rattle.reading.proofs.Own.{lookups}
+use Rattle.reading.proofs.Own.{field-map, lookups}
 use Rattle.reading.proofs.field_known.Statement.{statement}
 use Rattle.reading.proofs.field_known.Tie as tie
 
@@ -6,7 +6,7 @@ returns : tie.Need-returns
 returns c = search lookups
 
 known-field-requires : tie.Need-known-field-requires
-known-field-requires c κs = search lookups
+known-field-requires c κs = search field-map
 
 returns-2 : tie.Need-returns-2
 returns-2 c = search lookups

@@ -1,19 +1,26 @@
 use mathlib.Core.Path.{_≡_}
+use native.Mathlib.Omega.{arith}
 use Prim.Native.Nat.{_-_}
 use lib.ListN.{length}
+use Rattle.base.proofs.Laws.{tests}
 use Rattle.timetable.specs.Files.{bitFieldsIn, stopsIn}
 use Rattle.reading.proofs.Passing.{pass-less}
-use Rattle.reading.proofs.Checking.{Clean, checking}
+use Rattle.reading.proofs.Checking.{Clean, clean-first, clean-within, clean-more, checking}
+use Rattle.reading.specs.Maps.{FieldMap, StopMap}
 use Rattle.reading.proofs.read_checked.Statement.{statement}
 use Rattle.reading.proofs.read_checked.Tie as tie
 
 abbrev Inv-loop : tie.InvT-loop
-Inv-loop fplan at no' bitfeld bahnhof calls₀ ranges₀ stop counts₀ opening end₀ line₀ calls ranges counts end line =
-    (length calls ≡ length calls₀) × (length ranges ≡ length ranges₀) × Clean (bitFieldsIn bitfeld) (stopsIn bahnhof) fplan at no' opening end line counts calls ranges
+Inv-loop fplan at no' bitfeld fields bahnhof stops calls₀ ranges₀ stop counts₀ opening end₀ line₀ calls ranges counts end line =
+    (length calls ≡ length calls₀) × (length ranges ≡ length ranges₀) × Clean (bitFieldsIn bitfeld) (stopsIn bahnhof) fplan at no' opening end line counts calls ranges × (FieldMap bitfeld fields × StopMap bahnhof stops)
 
 abbrev μ-loop : tie.MeasureT-loop
-μ-loop fplan at no' bitfeld bahnhof calls₀ ranges₀ stop counts₀ opening end₀ line₀ calls ranges counts end line =
+μ-loop fplan at no' bitfeld fields bahnhof stops calls₀ ranges₀ stop counts₀ opening end₀ line₀ calls ranges counts end line =
     length fplan - end
+
+-- what the loop is entered with, and the start
+abbrev entry : tie.After-opening-of Inv-loop μ-loop → tie.Start Inv-loop μ-loop
+entry c = c .before .before .before .before .before .before .before .before .before .before .before .before .before .before .before
 
 line-from-requires : tie.Need-line-from-requires Inv-loop μ-loop
 line-from-requires c κs = search checking
@@ -49,7 +56,29 @@ opening-of-requires : tie.Need-opening-of-requires Inv-loop μ-loop
 opening-of-requires c κs = search checking
 
 loop-holds : tie.Need-loop-holds Inv-loop μ-loop
-loop-holds c = search checking
+loop-holds c =
+    let checked = c .before .before .before in
+    let counts = checked .before in
+    let told = counts .before in
+    let cut = told .before .before in
+    let start = entry c in (
+      search tests,
+      search tests,
+      search (
+        clean-first,
+        start .pre .0 .0,
+        start .pre .0 .1,
+        start .pre .1 .1 .0,
+        start .pre .1 .1 .1,
+        cut .line-from .ensures,
+        told .told-in .ensures,
+        counts .no-counts .ensures,
+        checked .offence-after .ensures,
+        c .before .enum-told .given .1,
+        c .opening-of .ensures,
+      ),
+      start .pre .1 .0,
+    )
 
 next-line-requires : tie.Need-next-line-requires Inv-loop μ-loop
 next-line-requires c κs = search checking
@@ -70,7 +99,7 @@ returns-2 : tie.Need-returns-2 Inv-loop μ-loop
 returns-2 c = search checking
 
 offence-after-requires-2 : tie.Need-offence-after-requires-2 Inv-loop μ-loop
-offence-after-requires-2 c κs = search checking
+offence-after-requires-2 c κs = search tests
 
 enum-known-offence-2 : tie.Need-enum-known-offence-2 Inv-loop μ-loop
 enum-known-offence-2 c = search checking
@@ -88,13 +117,46 @@ enum-told-3 : tie.Need-enum-told-3 Inv-loop μ-loop
 enum-told-3 c = search checking
 
 draft-line-requires : tie.Need-draft-line-requires Inv-loop μ-loop
-draft-line-requires c κs = (search checking, (search checking, search checking))
+draft-line-requires c κs =
+    let told = c .before .before in
+    let checked = told .before .before in
+    let said = checked .before in
+    let next = said .before .before .before in (
+      search (
+        clean-within,
+        next .before .loop .inv .2,
+        next .next-line .ensures,
+        said .known-told2 .given .1,
+        checked .offence-after2 .ensures,
+        told .enum-told3 .given .1,
+      ),
+      (omega (arith, entry (next .before .before) .pre .1 .1, next .before .loop .inv .0), omega (arith, entry (next .before .before) .pre .1 .1, next .before .loop .inv .1)),
+    )
 
 loop-less : tie.Need-loop-less Inv-loop μ-loop
 loop-less c = search pass-less
 
 loop-again : tie.Need-loop-again Inv-loop μ-loop
-loop-again c = (search checking, search checking, search checking)
+loop-again c =
+    let drafted = c .before .before .before .before in
+    let told = drafted .before .before .before in
+    let checked = told .before .before in
+    let said = checked .before in
+    let next = said .before .before .before in (
+      search checking,
+      search checking,
+      search (
+        clean-more,
+        next .before .loop .inv .2,
+        next .next-line .ensures,
+        said .known-told2 .given .1,
+        checked .offence-after2 .ensures,
+        told .enum-told3 .given .1,
+        drafted .draft-line .ensures,
+        drafted .draft-line .kept,
+      ),
+      next .before .loop .inv .3,
+    )
 
 pub read-checked-spec : {M : Type 1} → statement M
 read-checked-spec =

@@ -1,5 +1,5 @@
--- `sections::check_section` meets its contract: what the lines from the loop's place on answer, after those before it, is what all answer.
--- Assumes nothing.
+-- `sections::check_section` meets its contract: what the lines from the loop's place on answer, after those before it, is what all answer,
+-- and those before it are in the map. Assumes nothing.
 use mathlib.Core.Path.{_≡_}
 use mathlib.Core.List.{[]}
 use Prim.Native.Nat.{_+_, _-_}
@@ -10,20 +10,22 @@ use Rattle.timetable.specs.Files.{held-in, stopOf}
 use Rattle.sections.specs.Sections.{numbers, lineOffence}
 use Rattle.sections.proofs.Walk.{Walked}
 use Rattle.sections.proofs.Scans.{scanFrom, scans}
+use Rattle.sections.proofs.Fills.{Filling, fills}
 use Rattle.sections.proofs.check_section.Statement.{statement}
 use Rattle.sections.proofs.check_section.Tie as tie
 
 abbrev Inv-loop : tie.InvT-loop
-Inv-loop section f days bahnhof at₀ no₀ count₀ at no' count =
+Inv-loop section f days bahnhof m₀ split at₀ no₀ count₀ m at no' count =
     Walked f at no' × (count ≡ length (numbers section (linesOf (take at f))))
     × (scanFrom (lineOffence section days (held-in stopOf (linesOf bahnhof))) section (linesOf (take at f)) count no' (linesFrom no' at (drop at f))
     ≡ checkedBy (first (lineOffence section days (held-in stopOf (linesOf bahnhof))) [] (linesOf f)) (length (numbers section (linesOf f))) (length (linesOf f) + 1))
+    × Filling section f m₀ split at count m
 
 abbrev μ-loop : tie.MeasureT-loop
-μ-loop section f days bahnhof at₀ no₀ count₀ at no' count = length f - at
+μ-loop section f days bahnhof m₀ split at₀ no₀ count₀ m at no' count = length f - at
 
 loop-holds : tie.Need-loop-holds Inv-loop μ-loop
-loop-holds c = search scans
+loop-holds c = (search scans, search scans, search scans, search fills)
 
 line-from-requires : tie.Need-line-from-requires Inv-loop μ-loop
 line-from-requires c κs = search scans
@@ -50,31 +52,34 @@ part-line-verdict-end : tie.Need-part-line-verdict-end Inv-loop μ-loop
 part-line-verdict-end c = search scans
 
 line-verdict-requires : tie.Need-line-verdict-requires Inv-loop μ-loop
-line-verdict-requires c κs = search scans
+line-verdict-requires c κs = (search scans, (search scans, search fills))
 
 enum-known-own : tie.Need-enum-known-own Inv-loop μ-loop
 enum-known-own c = search scans
 
+same-length : tie.Need-same-length Inv-loop μ-loop
+same-length c = search scans
+
 returns : tie.Need-returns Inv-loop μ-loop
-returns c = search scans
+returns c = (search scans, (search fills, search fills))
 
 enum-told : tie.Need-enum-told Inv-loop μ-loop
 enum-told c = search scans
 
-records-of-requires : tie.Need-records-of-requires Inv-loop μ-loop
-records-of-requires c κs = search scans
-
-add-count : tie.Need-add-count Inv-loop μ-loop
-add-count c = search scans
+put-number-requires : tie.Need-put-number-requires Inv-loop μ-loop
+put-number-requires c κs = search fills
 
 loop-less : tie.Need-loop-less Inv-loop μ-loop
 loop-less c = search scans
 
 loop-again : tie.Need-loop-again Inv-loop μ-loop
-loop-again c = search scans
+loop-again c = (search scans, search scans, search scans, search fills)
+
+same-length-2 : tie.Need-same-length-2 Inv-loop μ-loop
+same-length-2 c = search scans
 
 returns-2 : tie.Need-returns-2 Inv-loop μ-loop
-returns-2 c = search scans
+returns-2 c = (search scans, (search fills, search fills))
 
 pub check-section-spec : {M : Type 1} → statement M
 check-section-spec =
@@ -93,10 +98,11 @@ check-section-spec =
     part-line-verdict-end
     line-verdict-requires
     enum-known-own
+    same-length
     returns
     enum-told
-    records-of-requires
-    add-count
+    put-number-requires
     loop-less
     loop-again
+    same-length-2
     returns-2)

@@ -8,8 +8,8 @@ offends-requires c κs = search field-checks
 returns : tie.Need-returns
 returns c = search field-checks
 
-seen-earlier-requires : tie.Need-seen-earlier-requires
-seen-earlier-requires c κs = search field-checks
+has-number-requires : tie.Need-has-number-requires
+has-number-requires c κs = search field-checks
 
 offends-requires-2 : tie.Need-offends-requires-2
 offends-requires-2 c κs = search field-checks
@@ -38,7 +38,7 @@ field-verdict-spec =
     (tie.spec
     offends-requires
     returns
-    seen-earlier-requires
+    has-number-requires
     offends-requires-2
     returns-2
     bits-in-requires

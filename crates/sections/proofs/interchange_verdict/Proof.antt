@@ -11,8 +11,8 @@ offends-requires c κs = search interchange-checks
 returns-2 : tie.Need-returns-2
 returns-2 c = search interchange-checks
 
-seen-earlier-requires : tie.Need-seen-earlier-requires
-seen-earlier-requires c κs = search interchange-checks
+has-number-requires : tie.Need-has-number-requires
+has-number-requires c κs = search interchange-checks
 
 offends-requires-2 : tie.Need-offends-requires-2
 offends-requires-2 c κs = search interchange-checks
@@ -39,7 +39,7 @@ interchange-verdict-spec =
     returns
     offends-requires
     returns-2
-    seen-earlier-requires
+    has-number-requires
     offends-requires-2
     returns-3
     known-stop-requires

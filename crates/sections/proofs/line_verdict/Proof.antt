@@ -11,6 +11,18 @@ enum-known-n c = search line-checks
 enum-known-n-2 : tie.Need-enum-known-n-2
 enum-known-n-2 c = search line-checks
 
+mul-seen : tie.Need-mul-seen
+mul-seen c = search line-checks
+
+sub-seen : tie.Need-sub-seen
+sub-seen c = search line-checks
+
+part-seen-start : tie.Need-part-seen-start
+part-seen-start c = search line-checks
+
+part-seen-end : tie.Need-part-seen-end
+part-seen-end c = search line-checks
+
 enum-told-2 : tie.Need-enum-told-2
 enum-told-2 c = search line-checks
 
@@ -25,6 +37,15 @@ stop-verdict-requires c κs = search line-checks
 
 enum-told-4 : tie.Need-enum-told-4
 enum-told-4 c = search line-checks
+
+sub-interchange-verdict : tie.Need-sub-interchange-verdict
+sub-interchange-verdict c = search line-checks
+
+part-interchange-verdict-start : tie.Need-part-interchange-verdict-start
+part-interchange-verdict-start c = search line-checks
+
+part-interchange-verdict-end : tie.Need-part-interchange-verdict-end
+part-interchange-verdict-end c = search line-checks
 
 interchange-verdict-requires : tie.Need-interchange-verdict-requires
 interchange-verdict-requires c κs = search line-checks
@@ -51,11 +72,18 @@ line-verdict-spec =
     enum-told
     enum-known-n
     enum-known-n-2
+    mul-seen
+    sub-seen
+    part-seen-start
+    part-seen-end
     enum-told-2
     field-verdict-requires
     enum-told-3
     stop-verdict-requires
     enum-told-4
+    sub-interchange-verdict
+    part-interchange-verdict-start
+    part-interchange-verdict-end
     interchange-verdict-requires
     returns
     returns-2

@@ -11,8 +11,8 @@ offends-requires c κs = search stop-checks
 returns : tie.Need-returns
 returns c = search stop-checks
 
-seen-earlier-requires : tie.Need-seen-earlier-requires
-seen-earlier-requires c κs = search stop-checks
+has-number-requires : tie.Need-has-number-requires
+has-number-requires c κs = search stop-checks
 
 offends-requires-2 : tie.Need-offends-requires-2
 offends-requires-2 c κs = search stop-checks
@@ -30,7 +30,7 @@ stop-verdict-spec =
     is-barred-requires
     offends-requires
     returns
-    seen-earlier-requires
+    has-number-requires
     offends-requires-2
     returns-2
     returns-3)

@@ -12,7 +12,10 @@ enum-known-read-2 : tie.Need-enum-known-read-2
 enum-known-read-2 c = search serving
 
 draft-checks-requires : tie.Need-draft-checks-requires
-draft-checks-requires c κs = search serving
+draft-checks-requires c κs =
+    let read = c .before .before .before .before .before .before .before .before .before in
+    let start = read .before .before .before .before .before .before .before .before .before .before in
+    (search serving, (start .pre .0 .1, start .pre .1 .1 .0))
 
 same-length : tie.Need-same-length
 same-length c = search serving

@@ -1,4 +1,5 @@
 use Rattle.service.proofs.Stretches.{sweeps}
+use Rattle.reading.proofs.Own.{field-map}
 use Rattle.service.proofs.field_days.Statement.{statement}
 use Rattle.service.proofs.field_days.Tie as tie
 
@@ -9,7 +10,7 @@ returns : tie.Need-returns
 returns c = search sweeps
 
 field-bits-requires : tie.Need-field-bits-requires
-field-bits-requires c κs = search sweeps
+field-bits-requires c κs = search field-map
 
 returns-2 : tie.Need-returns-2
 returns-2 c = search sweeps

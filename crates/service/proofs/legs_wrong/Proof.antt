@@ -72,7 +72,7 @@ sub-days-wrong-2 : tie.Need-sub-days-wrong-2
 sub-days-wrong-2 c = search parting
 
 days-wrong-requires : tie.Need-days-wrong-requires
-days-wrong-requires c κs = search parting
+days-wrong-requires c κs = (search parting, search parting)
 
 returns : tie.Need-returns
 returns c = search parting

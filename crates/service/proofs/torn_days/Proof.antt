@@ -1,14 +1,17 @@
 use Prim.Native.Nat.{_-_}
 use Rattle.timetable.specs.Files.{bitFieldsIn}
 use Rattle.service.proofs.Stretches.{Swept, swept-next, sweeps}
+use Rattle.base.proofs.Laws.{tests}
+use Rattle.reading.specs.Maps.{FieldMap}
 use Rattle.service.proofs.torn_days.Statement.{statement}
 use Rattle.service.proofs.torn_days.Tie as tie
 
 abbrev Inv-loop : tie.InvT-loop
-Inv-loop ranges v legs bitfeld begun₀ ended₀ broken₀ leg₀ begun ended broken leg = Swept (bitFieldsIn bitfeld) ranges v legs begun ended broken leg
+Inv-loop ranges v legs bitfeld fields begun₀ ended₀ broken₀ leg₀ begun ended broken leg =
+    Swept (bitFieldsIn bitfeld) ranges v legs begun ended broken leg × FieldMap bitfeld fields
 
 abbrev μ-loop : tie.MeasureT-loop
-μ-loop ranges v legs bitfeld begun₀ ended₀ broken₀ leg₀ begun ended broken leg = legs - leg
+μ-loop ranges v legs bitfeld fields begun₀ ended₀ broken₀ leg₀ begun ended broken leg = legs - leg
 
 no-bits-requires : tie.Need-no-bits-requires Inv-loop μ-loop
 no-bits-requires c κs = search sweeps
@@ -20,7 +23,7 @@ no-bits-requires-3 : tie.Need-no-bits-requires-3 Inv-loop μ-loop
 no-bits-requires-3 c κs = search sweeps
 
 loop-holds : tie.Need-loop-holds Inv-loop μ-loop
-loop-holds c = search sweeps
+loop-holds c = (search sweeps, search tests)
 
 covering-place-requires : tie.Need-covering-place-requires Inv-loop μ-loop
 covering-place-requires c κs = search sweeps
@@ -41,7 +44,7 @@ shared-slice-read-field-days : tie.Need-shared-slice-read-field-days Inv-loop μ
 shared-slice-read-field-days c = search sweeps
 
 field-days-requires : tie.Need-field-days-requires Inv-loop μ-loop
-field-days-requires c κs = search sweeps
+field-days-requires c κs = search tests
 
 both-requires : tie.Need-both-requires Inv-loop μ-loop
 both-requires c κs = search sweeps
@@ -75,11 +78,13 @@ loop-again c =
     let on = c .before .before .before .before .before .before in
     let found = on .before .before .before in
     let turn = found .before .before .before in
-    let start = turn .before .before .before .before .before .before .before in
-    swept-next _ _ _ _ _ _ (start .pre .1) (found .before .before .covering-place .ensures) _ (found .place .given .1) _ _ _
-    (turn .loop-test .taken) (on .field-days .ensures)
-    (c .before .before .before .before .before .both .ensures) (c .before .before .before .before .either .ensures)
-    (c .before .before .before .without .ensures) (c .before .before .either2 .ensures) (c .before .either3 .ensures) (turn .before .loop .inv)
+    let start = turn .before .before .before .before .before .before .before .before in (
+      swept-next _ _ _ _ _ _ (start .pre .1 .0) (found .before .before .covering-place .ensures) _ (found .place .given .1) _ _ _
+          (turn .loop-test .taken) (on .field-days .ensures)
+          (c .before .before .before .before .before .both .ensures) (c .before .before .before .before .either .ensures)
+          (c .before .before .before .without .ensures) (c .before .before .either2 .ensures) (c .before .either3 .ensures) (turn .before .loop .inv .0),
+      turn .before .loop .inv .1,
+    )
 
 returns-2 : tie.Need-returns-2 Inv-loop μ-loop
 returns-2 c = search sweeps

@@ -1,0 +1,227 @@
+-- The helper words: their room, and the parts of them that the maps take. Assumes nothing.
+use mathlib.Core.Path.{_≡_, refl, sym, ap, subst, _∙_}
+use mathlib.Core.List.{List, _++_}
+use Prim.Native.Nat.{ℕ, _+_, _*_, _-_, _≤_, _<_}
+use native.Mathlib.Nat.{sub-zero}
+use native.Mathlib.Omega.{arith}
+use lib.ListN.{length, take, drop, replicate, length-replicate, length-drop, replicate-append-replicate}
+use lib.Seq.{length-take-le, length-front, take-all, take-at, drop-at, take-take, take-add, drop-drop, take-append-le, drop-append-le}
+use borrow.Rule.Slice.PartMut.{same-len-mid, take-put, drop-put}
+use Rattle.base.proofs.Laws.{tests}
+use Rattle.lines.specs.Lines.{linesOf}
+use Rattle.lines.proofs.Laws.{lines-le}
+use Rattle.timetable.specs.Layout.{helperHead, helperLine, mostFileBytes}
+use Rattle.timetable.specs.declared.Checked.{Checked}
+use Rattle.timetable.specs.declared.Checked.the-variants.{Holds}
+use Rattle.sections.specs.SectionMap.{MapOf, Lent, MapAfter}
+use Rattle.sections.specs.declared.Section.the-variants.{BitFields, Stops}
+use Rattle.reading.specs.Maps.{FieldMap, StopMap}
+use Rattle.load.specs.Helper.{Short, roomOf, Emptied, LentAt, FieldsAfter, StopsAfter}
+use Rattle.load.specs.declared.Room.{Room}
+
+-- ---- the room
+
+module _ (b s u : List ℕ) (r : Room) (q : r ≡ roomOf b s u) where
+  words-are : r .words ≡ helperHead + helperLine * (length (linesOf b) + length (linesOf s) + length (linesOf u))
+  words-are = ap (λ (x : Room). x .words) q
+
+  fields-are : r .fields ≡ helperLine * length (linesOf b)
+  fields-are = ap (λ (x : Room). x .fields) q
+
+  stops-are : r .stops ≡ helperLine * length (linesOf s)
+  stops-are = ap (λ (x : Room). x .stops) q
+
+  pub room-small : length b ≤ mostFileBytes → length s ≤ mostFileBytes → length u ≤ mostFileBytes → r .words < 4294967296
+  room-small x y z = omega (arith, words-are, lines-le 1 0 b, lines-le 1 0 s, lines-le 1 0 u)
+
+  pub head-fits : helperHead ≤ r .words
+  head-fits = omega (arith, words-are)
+
+pub room-counted : (b s u : List ℕ) (x y z : ℕ) → x ≡ length (linesOf b) → y ≡ length (linesOf s) → z ≡ length (linesOf u)
+    → _≡_ {A = Room} (record { fields = helperLine * x; stops = helperLine * y; words = helperHead + helperLine * (x + y + z) }) (roomOf b s u)
+room-counted b s u x y z i j k = rw (i, j, k) refl
+
+-- ---- words that are all 0
+
+split-zeros : (n k : ℕ) → k ≤ n → replicate {A = ℕ} n 0 ≡ replicate k 0 ++ replicate (n - k) 0
+split-zeros n k h = let e : k + (n - k) ≡ n = omega arith in sym (replicate-append-replicate {A = ℕ} k (n - k) 0 ∙ ap (λ (j : ℕ). replicate {A = ℕ} j 0) e)
+
+take-zeros : (n k : ℕ) → k ≤ n → take k (replicate {A = ℕ} n 0) ≡ replicate k 0
+take-zeros n k h = ap (take k) (split-zeros n k h) ∙ take-at (replicate {A = ℕ} k 0) (replicate (n - k) 0) k (length-replicate {A = ℕ} k 0)
+
+drop-zeros : (n k : ℕ) → k ≤ n → drop k (replicate {A = ℕ} n 0) ≡ replicate (n - k) 0
+drop-zeros n k h = ap (drop k) (split-zeros n k h) ∙ drop-at (replicate {A = ℕ} k 0) (replicate (n - k) 0) k (length-replicate {A = ℕ} k 0)
+
+-- ---- a part of the words, lent for the map of a file
+
+part-length : (m : List ℕ) (at words : ℕ) → at + words ≤ length m → length (take words (drop at m)) ≡ words
+part-length m at words h = length-take-le words (drop at m) (omega (arith, length-drop at m))
+
+lent : (f : List ℕ) (at words : ℕ) (m : List ℕ) → LentAt f at words m → Lent f (take words (drop at m))
+lent f at words m h =
+    let n = part-length m at words (h .inside) in
+    record { room = omega (arith, n, h .room); size = omega (arith, n, h .inside, h .small); zeros = h .zeros ∙ ap (λ (j : ℕ). replicate {A = ℕ} j 0) (sym n) }
+
+pub lent-first : (f : List ℕ) (words : ℕ) (m : List ℕ) → LentAt f 0 words m → Lent f (take (words - 0) m)
+lent-first f words m h = rw (sub-zero words) (lent f 0 words m h)
+
+pub lent-part : (f : List ℕ) (at words : ℕ) (m : List ℕ) → LentAt f at words m → Lent f (take (at + words - at) (drop at m))
+lent-part f at words m h = let e : at + words - at ≡ words = omega arith in rw e (lent f at words m h)
+
+-- m′ is what is left in the first words
+pub fields-after : (b : List ℕ) (r : Checked) (words : ℕ) (m m′ : List ℕ) → LentAt b 0 words m → length m′ ≡ length (take (words - 0) m) → MapAfter BitFields b r m′
+    → FieldsAfter b r words m (m′ ++ drop (words - 0) m)
+unfolding FieldMap
+fields-after b r words m m′ h l a =
+    let n : length m′ ≡ words = l ∙ ap (λ (j : ℕ). length (take j m)) (sub-zero words) ∙ part-length m 0 words (h .inside) in
+    record {
+      held = λ count next e. subst (MapOf BitFields b) (sym (take-at m′ (drop (words - 0) m) words n)) (a .held count next e);
+      same = length-front m m′ (words - 0) l;
+      rest = drop-at m′ (drop (words - 0) m) words n ∙ ap (λ (j : ℕ). drop j m) (sub-zero words);
+    }
+
+-- m′ is what is left in so many words from a place on
+pub stops-after : (s : List ℕ) (r : Checked) (at words : ℕ) (m m′ : List ℕ) → LentAt s at words m → length m′ ≡ length (take (at + words - at) (drop at m)) → MapAfter Stops s r m′
+    → StopsAfter s r at words m (take at m ++ (m′ ++ drop (at + words - at) (drop at m)))
+unfolding StopMap
+stops-after s r at words m m′ h l a =
+    let e : at + words - at ≡ words = omega arith in
+    let n : length m′ ≡ words = l ∙ ap (λ (j : ℕ). length (take j (drop at m))) e ∙ part-length m at words (h .inside) in
+    let i = h .inside in
+    record {
+      held = λ count next y. subst (MapOf Stops s)
+          (sym (ap (take words) (drop-at (take at m) (m′ ++ drop (at + words - at) (drop at m)) at (length-take-le at m (omega arith))) ∙ take-at m′ (drop (at + words - at) (drop at m)) words n))
+          (a .held count next y);
+      same = same-len-mid at (at + words - at) m m′ l;
+      front = take-put at (at + words - at) m m′ (omega arith);
+      rest = drop-put at (at + words) m m′ (omega arith) i (omega arith);
+    }
+
+-- ---- the words from a place on, to their end
+
+to-end : (m : List ℕ) (at : ℕ) → take (length m - at) (drop at m) ≡ drop at m
+to-end m at = take-all (length m - at) (drop at m) (omega (arith, length-drop at m))
+
+-- the maps, cut from them
+pub map-first : (b : List ℕ) (at : ℕ) (m : List ℕ) → FieldMap b (take at m) → FieldMap b (take (at - 0) m)
+map-first b at m h = rw (sub-zero at) h
+
+pub map-part : (s : List ℕ) (at words : ℕ) (m : List ℕ) → StopMap s (take words (drop at m)) → StopMap s (take (at + words - at) (drop at m))
+map-part s at words m h = let e : at + words - at ≡ words = omega arith in rw e h
+
+module _ (u : List ℕ) (at words : ℕ) (m : List ℕ) (h : LentAt u (at + words) (length m - (at + words)) m) where
+  pub split-inside : words ≤ length (take (length m - at) (drop at m))
+  split-inside = let i = h .inside in let n = ap length (to-end m at) ∙ length-drop at m in omega (arith, n)
+
+  pub split-stops : (s : List ℕ) → StopMap s (take words (drop at m)) → MapOf Stops s (take words (take (length m - at) (drop at m)))
+  unfolding StopMap
+  split-stops s g = rw (to-end m at) g
+
+  pub split-lent : Lent u (drop words (take (length m - at) (drop at m)))
+  split-lent = rw (to-end m at, drop-drop words at m) (subst (Lent u) (to-end m (at + words)) (lent u (at + words) (length m - (at + words)) m h))
+
+  -- m′ is what is left of them: the first words, so many, stay
+  pub front-stays : (m′ : List ℕ) → length m′ ≡ length (take (length m - at) (drop at m)) → take words m′ ≡ take words (take (length m - at) (drop at m))
+      → take (at + words) (take at m ++ (m′ ++ drop (length m - at) (drop at m))) ≡ take (at + words) m
+  front-stays m′ l e =
+      let i = h .inside in
+      let after : List ℕ = drop (length m - at) (drop at m) in
+      let long : words ≤ length m′ = let j = split-inside in omega (arith, l) in
+      take-add at words (take at m ++ (m′ ++ after))
+      ∙ (ap (λ (x : List ℕ). x ++ take words (drop at (take at m ++ (m′ ++ after)))) (take-put at (length m - at) m m′ (omega arith))
+      ∙ ap (λ (x : List ℕ). take at m ++ x)
+      (ap (take words) (drop-at (take at m) (m′ ++ after) at (length-take-le at m (omega arith))) ∙ take-append-le words m′ after long ∙ e ∙ ap (take words) (to-end m at))
+      ∙ sym (take-add at words m))
+
+-- ---- from file to file
+
+module _ (e b s u p : List ℕ) (r : Room) (m : List ℕ) (h : Short e b s u p) (q : Emptied b s u r m) where
+  size : length m ≡ r .words - helperHead
+  size = ap length (q .words) ∙ length-replicate {A = ℕ} (r .words - helperHead) 0
+
+  small : r .words < 4294967296
+  small = room-small b s u r (q .is) (h .bitfeld) (h .bahnhof) (h .umsteigb)
+
+  pub lent-fields : LentAt b 0 (r .fields) m
+  lent-fields =
+      let x = fields-are b s u r (q .is) in let w = words-are b s u r (q .is) in
+      record {
+        room = omega (arith, x);
+        inside = omega (arith, x, w, size);
+        small = omega (arith, size, small);
+        zeros = ap (take (r .fields)) (q .words) ∙ take-zeros (r .words - helperHead) (r .fields) (omega (arith, x, w));
+      }
+
+  module _ (x : Checked) (m₁ : List ℕ) (a : FieldsAfter b x (r .fields) m m₁) where
+    pub lent-stops : LentAt s (r .fields) (r .stops) m₁
+    lent-stops =
+        let f = fields-are b s u r (q .is) in let g = stops-are b s u r (q .is) in let w = words-are b s u r (q .is) in let l = a .same in
+        record {
+          room = omega (arith, g);
+          inside = omega (arith, f, g, w, size, l);
+          small = omega (arith, size, small, l);
+          zeros = ap (take (r .stops)) (a .rest ∙ ap (drop (r .fields)) (q .words) ∙ drop-zeros (r .words - helperHead) (r .fields) (omega (arith, f, w)))
+              ∙ take-zeros (r .words - helperHead - r .fields) (r .stops) (omega (arith, f, g, w));
+        }
+
+    module _ (y : Checked) (m₂ : List ℕ) (c : StopsAfter s y (r .fields) (r .stops) m₁ m₂) where
+      behind : drop (r .fields + r .stops) m₂ ≡ replicate (r .words - helperHead - (r .fields + r .stops)) 0
+      behind =
+          let f = fields-are b s u r (q .is) in let g = stops-are b s u r (q .is) in let w = words-are b s u r (q .is) in
+          c .rest ∙ (sym (drop-drop (r .stops) (r .fields) m₁) ∙ ap (drop (r .stops)) (a .rest) ∙ drop-drop (r .stops) (r .fields) m)
+          ∙ ap (drop (r .fields + r .stops)) (q .words) ∙ drop-zeros (r .words - helperHead) (r .fields + r .stops) (omega (arith, f, g, w))
+
+      pub lent-interchanges : LentAt u (r .fields + r .stops) (length m₂ - (r .fields + r .stops)) m₂
+      lent-interchanges =
+          let f = fields-are b s u r (q .is) in let g = stops-are b s u r (q .is) in let w = words-are b s u r (q .is) in let l = a .same in let k = c .same in
+          let n : length m₂ ≡ r .words - helperHead = k ∙ l ∙ size in
+          record {
+            room = omega (arith, f, g, w, n);
+            inside = omega (arith, f, g, w, n);
+            small = omega (arith, small, n);
+            zeros = to-end m₂ (r .fields + r .stops) ∙ behind ∙ ap (λ (j : ℕ). replicate {A = ℕ} (j - (r .fields + r .stops)) 0) (sym n);
+          }
+
+      module _ (m₃ : List ℕ) (l : length m₃ ≡ length m₂) (d : take (r .fields + r .stops) m₃ ≡ take (r .fields + r .stops) m₂) where
+        pub maps-inside : r .fields + r .stops ≤ length m₃
+        maps-inside = let i = lent-interchanges .inside in omega (arith, l)
+
+        pub fields-held : (k j : ℕ) → x ≡ Holds k j → FieldMap b (take (r .fields) m₃)
+        fields-held k j v =
+            let same : take (r .fields) m₃ ≡ take (r .fields) m₁ =
+            sym (take-take (r .fields) (r .fields + r .stops) m₃ (omega arith)) ∙ ap (take (r .fields)) d ∙ take-take (r .fields) (r .fields + r .stops) m₂ (omega arith) ∙ c .front in
+            subst (FieldMap b) (sym same) (a .held k j v)
+
+        -- the words behind a place, from those before the end
+        pub stops-still : (k j : ℕ) → y ≡ Holds k j → StopMap s (take (r .stops) (drop (r .fields) m₃))
+        stops-still k j v =
+            let i = maps-inside in
+            subst (StopMap s) (sym (sym (middle m₃ (r .fields) (r .stops) (omega arith)) ∙ ap (drop (r .fields)) d ∙ middle m₂ (r .fields) (r .stops) (omega (arith, l)))) (c .held k j v)
+          where
+            middle : (m : List ℕ) (x y : ℕ) → x ≤ length m → drop x (take (x + y) m) ≡ take y (drop x m)
+            middle m x y h = ap (drop x) (take-add x y m) ∙ drop-at (take x m) (take y (drop x m)) x (length-take-le x m h)
+
+-- ---- lent, used and given back: h is lent, h₁ cleared
+
+module _ (b s u : List ℕ) (r : Room) (q : r ≡ roomOf b s u) (h h₁ : List ℕ) (e : h₁ ≡ replicate (r .words) 0 ++ drop (r .words) h) where
+  pub emptied : Emptied b s u r (take (r .words - helperHead) (drop helperHead h₁))
+  emptied =
+      let f = head-fits b s u r q in
+      record {
+        is = q;
+        words = ap (λ (x : List ℕ). take (r .words - helperHead) (drop helperHead x)) e
+            ∙ ap (take (r .words - helperHead)) (drop-append-le helperHead (replicate (r .words) 0) (drop (r .words) h) (omega (arith, length-replicate {A = ℕ} (r .words) 0)) ∙ ap (λ (x : List ℕ). x ++ drop (r .words) h) (drop-zeros (r .words) helperHead f))
+            ∙ take-at (replicate {A = ℕ} (r .words - helperHead) 0) (drop (r .words) h) (r .words - helperHead) (length-replicate {A = ℕ} (r .words - helperHead) 0);
+      }
+
+  -- m′ is what is left of the part, h₃ cleared again
+  pub given-back : (m′ h₃ : List ℕ) → r .words ≤ length h → length h₁ ≡ length h → length m′ ≡ length (take (r .words - helperHead) (drop helperHead h₁))
+      → h₃ ≡ replicate (r .words) 0 ++ drop (r .words) (take helperHead h₁ ++ (m′ ++ drop (r .words - helperHead) (drop helperHead h₁)))
+      → h₃ ≡ replicate (r .words) 0 ++ drop (r .words) h
+  given-back m′ h₃ l k n d =
+      let f = head-fits b s u r q in
+      let j : length m′ ≡ r .words - helperHead = n ∙ length-take-le (r .words - helperHead) (drop helperHead h₁) (omega (arith, length-drop helperHead h₁)) in
+      d ∙ ap (λ (x : List ℕ). replicate (r .words) 0 ++ x)
+      (drop-put helperHead (r .words) h₁ m′ f (omega arith) j ∙ ap (drop (r .words)) e ∙ drop-at (replicate {A = ℕ} (r .words) 0) (drop (r .words) h) (r .words) (length-replicate {A = ℕ} (r .words) 0))
+
+pub ruleset lends = (tests, head-fits, emptied, given-back)

@@ -1,0 +1,96 @@
+// A look-up map in lent words: which record has this number. The words are four for each record that there is room for. Of the four of place i
+// the first belongs to bucket i: the last record of that bucket, counted from 1, or 0. The others are record i's: its number, its place, and the
+// record before it in its bucket, counted from 1, or 0.
+ghost use mathlib.Core.Path.{_≡_};
+ghost use mathlib.Core.List.{_++_};
+ghost use Prim.Native.Nat.{_+_, _*_, _≤_, _<_};
+ghost use lib.ListN.{length, drop, replicate, getD};
+ghost use Rattle.map.specs.Map.{recordWords, wordValues, mostRecords, bucketOf, Chained, Mapped, Finds, Added};
+
+// Which record, counted from 0.
+pub enum Found {
+    At(usize),
+    Nowhere,
+}
+
+// ---- the map
+
+// The last record that has this number. Words for no record have no bucket.
+pub fn find(m: &[u32], number: u32) -> Found
+    requires { ⌜ Mapped (now m) ⌝ }
+    ensures { λ r. ⌜ Finds number (now (m .entry)) r ⌝ }
+{
+    if m.len() < 4 {
+        return Found::Nowhere;
+    }
+    let b = bucket(m.len() / 4, number);
+    let mut next = wide(m[4 * b]);
+    while next != 0 {
+        if m[4 * next - 3] == number {
+            return Found::At(next - 1);
+        }
+        next = wide(m[4 * next - 1]);
+    }
+    Found::Nowhere
+}
+
+// Adds record `count`, with its number and its place.
+pub fn put(m: &mut [u32], count: usize, number: u32, place: u32)
+    requires { ⌜ Chained count (now m) ⌝ }
+    requires { ⌜ recordWords * count + recordWords ≤ length (now m) ⌝ }
+    ensures { λ _. ⌜ Added count number place (now (m .entry)) (now (m .exit)) ⌝ }
+{
+    let b = bucket(m.len() / 4, number);
+    let before = m[4 * b];
+    let at = 4 * count;
+    m[at + 1] = number;
+    m[at + 2] = place;
+    m[at + 3] = before;
+    m[4 * b] = narrow(count + 1);
+}
+
+// The place of record i.
+pub fn place_of(m: &[u32], i: usize) -> usize
+    requires { ⌜ recordWords * i + recordWords ≤ length (now m) ⌝ }
+    ensures { λ r. ⌜ r ≡ getD (now (m .entry)) (recordWords * i + 2) 0 ⌝ }
+{
+    wide(m[4 * i + 2])
+}
+
+// Zeros the first words; the words after them stay.
+pub fn clear(t: &mut [u32], words: usize)
+    requires { ⌜ words ≤ length (now t) ⌝ }
+    ensures { λ _. ⌜ now (t .exit) ≡ replicate words 0 ++ drop words (now (t .entry)) ⌝ }
+{
+    let mut k: usize = 0;
+    while k < words {
+        t[k] = 0;
+        k += 1;
+    }
+}
+
+// ---- buckets
+
+// The bucket of a number: the high part of a product, so that consecutive numbers and numbers with equal endings spread as random ones do.
+fn bucket(size: usize, number: u32) -> usize
+    requires { ⌜ 0 < size ⌝ }
+    requires { ⌜ size ≤ mostRecords ⌝ }
+    ensures { λ r. ⌜ r ≡ bucketOf size number ⌝ }
+    ensures { λ r. ⌜ r < size ⌝ }
+{
+    let spread = number as usize * 2654435761 % 4294967296;
+    spread * size / 4294967296
+}
+
+fn wide(x: u32) -> usize
+    ensures { λ r. ⌜ r ≡ x ⌝ }
+{
+    x as usize
+}
+
+fn narrow(x: usize) -> u32
+    requires { ⌜ x < wordValues ⌝ }
+    ensures { λ r. ⌜ r ≡ x ⌝ }
+{
+    x as u32
+}
