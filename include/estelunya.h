@@ -101,8 +101,11 @@ typedef struct EstelunyaDayCountResult {
 #define ESTELUNYA_EXTRAS_AT 9         /* other *A */
 #define ESTELUNYA_OPENING_LINE_AT 10  /* line of its *Z in FPLAN */
 
-/* Call: number of the stop; arrival; departure, both in minutes, 0 if there is none; flags */
-#define ESTELUNYA_CALL_WORDS 4
+/*
+ * Call: number of the stop; arrival; departure, both in minutes, 0 if there is none; flags; number and administration (two words of three bytes) of the service
+ * that hold from this call on
+ */
+#define ESTELUNYA_CALL_WORDS 7
 
 /* *G: category in three bytes; from; to. From and to are indexes of calls, from 0. */
 #define ESTELUNYA_CATEGORY_WORDS 3
@@ -114,14 +117,16 @@ typedef struct EstelunyaDayCountResult {
 #define ESTELUNYA_EXTRA_WORDS 4
 
 /* Row of a walk */
-#define ESTELUNYA_ROW_WORDS 7
-#define ESTELUNYA_ROW_STOP_AT 0        /* number of the stop */
-#define ESTELUNYA_ROW_ARRIVAL_AT 1     /* in minutes from the start of the date, so that it may pass 1,440; 0 in the first row */
-#define ESTELUNYA_ROW_DEPARTURE_AT 2   /* in the same way; 0 in the last row */
-#define ESTELUNYA_ROW_FLAGS_AT 3       /* ARRIVAL and NO_ALIGHTING are not set in the first row, DEPARTURE and NO_BOARDING not in the last */
-#define ESTELUNYA_ROW_CATEGORY_AT 4    /* of the leg that leaves: columns 4-6 of its *G line; 0 in the last row */
-#define ESTELUNYA_ROW_FIRST_TIME_AT 5  /* the stop's interchange time for two classes that are both 0, 1 or 2 */
-#define ESTELUNYA_ROW_SECOND_TIME_AT 6 /* the stop's interchange time for all other classes */
+#define ESTELUNYA_ROW_WORDS 10
+#define ESTELUNYA_ROW_STOP_AT 0           /* number of the stop */
+#define ESTELUNYA_ROW_ARRIVAL_AT 1        /* in minutes from the start of the date, so that it may pass 1,440; 0 in the first row */
+#define ESTELUNYA_ROW_DEPARTURE_AT 2      /* in the same way; 0 in the last row */
+#define ESTELUNYA_ROW_FLAGS_AT 3          /* ARRIVAL and NO_ALIGHTING are not set in the first row, DEPARTURE and NO_BOARDING not in the last */
+#define ESTELUNYA_ROW_NUMBER_AT 4         /* the service's number that holds from this call on; in every row */
+#define ESTELUNYA_ROW_ADMINISTRATION_AT 5 /* the administration in the same way, two words of three bytes */
+#define ESTELUNYA_ROW_CATEGORY_AT 7       /* of the leg that leaves: columns 4-6 of its *G line; 0 in the last row */
+#define ESTELUNYA_ROW_FIRST_TIME_AT 8     /* the stop's interchange time for two classes that are both 0, 1 or 2 */
+#define ESTELUNYA_ROW_SECOND_TIME_AT 9    /* the stop's interchange time for all other classes */
 
 /* Helper words of a load: these, and so many for each line of BITFELD, BAHNHOF and UMSTEIGB. */
 #define ESTELUNYA_HELPER_HEAD_WORDS 64

@@ -32,7 +32,7 @@ filled() {
 }
 
 fresh
-says 'the trial week' 'accepted days 7 bitfields 1 stops 3 interchange 1 services 1 words 66'
+says 'the trial week' 'accepted days 7 bitfields 1 stops 3 interchange 1 services 1 words 78'
 fresh
 echo '31.02.2025' >"$place/ECKDATEN"
 says 'no such date' 'refused 5 file 1 line 1 column 0'
@@ -63,7 +63,7 @@ mkdir "$place/FPLAN"
 says 'FPLAN is a directory' 'unread file 5'
 fresh
 filled BAHNHOF 8192
-says '8,192 bytes' 'accepted days 7 bitfields 1 stops 3 interchange 1 services 1 words 66'
+says '8,192 bytes' 'accepted days 7 bitfields 1 stops 3 interchange 1 services 1 words 78'
 filled BAHNHOF 8194
 says 'a longer file' 'unread file 3'
 fresh
@@ -72,7 +72,7 @@ for file in BITFELD BAHNHOF UMSTEIGB; do
     size=$(wc -c <"$place/$file")
     printf '%*s' "$((8192 - size))" '' | tr ' ' '\n' >>"$place/$file"
 done
-says 'the most lines' 'accepted days 7 bitfields 1 stops 3 interchange 1 services 1 words 66'
+says 'the most lines' 'accepted days 7 bitfields 1 stops 3 interchange 1 services 1 words 78'
 fresh
 filled FPLAN 8193
 says '8,193 bytes' 'unread file 5'

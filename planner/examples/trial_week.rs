@@ -60,7 +60,8 @@ fn directory() -> PathBuf {
 fn row_text(row: Row<'_>, table: Table<'_>, bahnhof: &[u8]) -> String {
     let name = text(table.stop_name(row.stop(), bahnhof).unwrap_or(b"?"));
     let category = row.category().map_or(String::new(), |bytes| text(&bytes));
-    format!("{} {} {:3} {} {}", clock(row.arrival()), clock(row.departure()), category, row.stop(), name)
+    let (times, service) = ([row.arrival(), row.departure()].map(clock), text(&row.administration()));
+    format!("{} {} {:3} {:05} {} {} {}", times[0], times[1], category, row.number(), service, row.stop(), name)
 }
 
 fn clock(time: Option<u32>) -> String {

@@ -52,8 +52,8 @@ pub const EXTRAS_AT: usize = 9;
 /// Head of a service: line of its *Z in FPLAN.
 pub const OPENING_LINE_AT: usize = 10;
 
-/// Words of a call: stop, arrival, departure, flags.
-pub const CALL_WORDS: usize = 4;
+/// Words of a call: stop, arrival, departure, flags, number, administration (two words).
+pub const CALL_WORDS: usize = 7;
 /// Words of a *G: category, from, to.
 pub const CATEGORY_WORDS: usize = 3;
 /// Words of a *A VE: bit field, from, to.
@@ -62,7 +62,7 @@ pub const DAYS_WORDS: usize = 3;
 pub const EXTRA_WORDS: usize = 4;
 
 /// Words of a row.
-pub const ROW_WORDS: usize = 7;
+pub const ROW_WORDS: usize = 10;
 /// Row: number of the stop.
 pub const ROW_STOP_AT: usize = 0;
 /// Row: arrival.
@@ -71,12 +71,16 @@ pub const ROW_ARRIVAL_AT: usize = 1;
 pub const ROW_DEPARTURE_AT: usize = 2;
 /// Row: flags.
 pub const ROW_FLAGS_AT: usize = 3;
+/// Row: the service's number that holds from this call on.
+pub const ROW_NUMBER_AT: usize = 4;
+/// Row: the administration that holds from this call on, two words of three bytes.
+pub const ROW_ADMINISTRATION_AT: usize = 5;
 /// Row: category of the leaving leg.
-pub const ROW_CATEGORY_AT: usize = 4;
+pub const ROW_CATEGORY_AT: usize = 7;
 /// Row: the stop's interchange time for two classes of which both are 0, 1 or 2.
-pub const ROW_FIRST_TIME_AT: usize = 5;
+pub const ROW_FIRST_TIME_AT: usize = 8;
 /// Row: the stop's interchange time for all other classes.
-pub const ROW_SECOND_TIME_AT: usize = 6;
+pub const ROW_SECOND_TIME_AT: usize = 9;
 
 /// Helper words that every load is lent.
 pub const HELPER_HEAD_WORDS: usize = 64;

@@ -29,6 +29,7 @@
 //!     Walk::Rows(rows) => {
 //!         let stops: Vec<u32> = rows.iter().map(|row| row.stop()).collect();
 //!         assert_eq!(stops, [1_000_011, 1_000_022, 1_000_033, 1_000_022]);
+//!         assert!(rows.iter().all(|row| row.number() == 42 && row.administration() == *b"FERRY_"));
 //!         assert_eq!(table.stop_name(stops[0], &bahnhof), Some(&b"Quay A"[..]));
 //!     }
 //!     Walk::NotRunning => panic!("it runs on Fridays"),

@@ -103,7 +103,7 @@ extern "C" {
         departing: u32,
     ) -> InterchangeResult;
 
-    /// Walks a repeat of a service on a date into the words lent, 7 a row. Listed: later words stay. Not running or
+    /// Walks a repeat of a service on a date into the words lent, 10 a row. Listed: later words stay. Not running or
     /// refused: all words stay.
     pub fn estelunya_walk(
         table: *const u32,

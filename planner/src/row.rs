@@ -1,8 +1,8 @@
 //! The rows of a walk.
 
 use crate::layout::{
-    ARRIVAL, DEPARTURE, NO_ALIGHTING, NO_BOARDING, ROW_ARRIVAL_AT, ROW_CATEGORY_AT, ROW_DEPARTURE_AT,
-    ROW_FIRST_TIME_AT, ROW_FLAGS_AT, ROW_SECOND_TIME_AT, ROW_STOP_AT, ROW_WORDS,
+    ARRIVAL, DEPARTURE, NO_ALIGHTING, NO_BOARDING, ROW_ADMINISTRATION_AT, ROW_ARRIVAL_AT, ROW_CATEGORY_AT,
+    ROW_DEPARTURE_AT, ROW_FIRST_TIME_AT, ROW_FLAGS_AT, ROW_NUMBER_AT, ROW_SECOND_TIME_AT, ROW_STOP_AT, ROW_WORDS,
 };
 
 /// One call of a walk. Times are minutes from the start of the date that was asked; they may pass 1,440.
@@ -12,7 +12,8 @@ pub struct Row<'r> {
 }
 
 impl<'r> Row<'r> {
-    /// The row's words: stop, arrival, departure, flags, category, the stop's two interchange times.
+    /// The row's words: stop, arrival, departure, flags, number, administration in two, category, the stop's two interchange
+    /// times.
     pub fn words(self) -> &'r [u32] {
         self.words
     }
@@ -42,10 +43,23 @@ impl<'r> Row<'r> {
         self.words[ROW_FLAGS_AT] & (DEPARTURE | NO_BOARDING) == DEPARTURE
     }
 
+    /// The service's number that holds from this call on, as a conductor announces it: columns 44-48 of the last schedule line up
+    /// to this call that states one, else columns 4-8 of the *Z line. Every row has one.
+    pub fn number(self) -> u32 {
+        self.words[ROW_NUMBER_AT]
+    }
+
+    /// The administration that holds from this call on: columns 50-55 of the last schedule line up to this call that states one,
+    /// else columns 10-15 of the *Z line. Number and administration change each by itself.
+    pub fn administration(self) -> [u8; 6] {
+        let [a, b, c] = three_bytes(self.words[ROW_ADMINISTRATION_AT]);
+        let [d, e, f] = three_bytes(self.words[ROW_ADMINISTRATION_AT + 1]);
+        [a, b, c, d, e, f]
+    }
+
     /// The category of the leaving leg, columns 4-6 of its *G line; `None` at the last row.
     pub fn category(self) -> Option<[u8; 3]> {
-        let [_, first, second, third] = self.words[ROW_CATEGORY_AT].to_be_bytes();
-        self.stated(DEPARTURE, [first, second, third])
+        self.stated(DEPARTURE, three_bytes(self.words[ROW_CATEGORY_AT]))
     }
 
     /// The stop's first interchange time, for two classes of which both are 0, 1 or 2, and its second, for all others.
@@ -60,6 +74,12 @@ impl<'r> Row<'r> {
             None
         }
     }
+}
+
+/// The three bytes that share a word, the first highest.
+fn three_bytes(word: u32) -> [u8; 3] {
+    let [_, first, second, third] = word.to_be_bytes();
+    [first, second, third]
 }
 
 /// The rows of a walk, one for each call of that day's stretch: two or more.

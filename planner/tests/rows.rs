@@ -7,8 +7,8 @@ const FPLAN: &str = "\
 *G BAT                                                    %
 *A VE                                                     %
 1000011                       02355  02359                %
-1000022                      -02410 -02412                %
-1000033                       02430  02435                %
+1000022                      -02410 -02412 00008          %
+1000033                       02430  02435       NIGHT_   %
 ";
 
 const NEW_YEAR: Date = Date { day: 31, month: 12, year: 2025 };
@@ -54,6 +54,9 @@ fn typed() {
     assert_eq!(rows.iter().map(|row| row.stop()).collect::<Vec<_>>(), [1_000_011, 1_000_022, 1_000_033]);
     assert_eq!((first.category(), between.category(), last.category()), (Some(*b"BAT"), Some(*b"BAT"), None));
     assert_eq!((first.interchange_times(), between.interchange_times()), ([2, 3], [4, 15]));
+    // number and administration change each by itself
+    let announced: Vec<(u32, [u8; 6])> = rows.iter().map(|row| (row.number(), row.administration())).collect();
+    assert_eq!(announced, [(7, *b"FERRY_"), (8, *b"FERRY_"), (8, *b"NIGHT_")]);
     assert_eq!(between.words().len(), ROW_WORDS);
     assert_eq!(lent[3 * ROW_WORDS..], [9, 9]);
 }
@@ -63,7 +66,7 @@ fn refused() {
     let words = words();
     let table = Table::new(&words);
     let mut lent = [9; 20];
-    assert_eq!(table.walk(0, 0, NEW_YEAR, &mut lent), Err(Refusal::RowsTooShort { needed: 21 }));
+    assert_eq!(table.walk(0, 0, NEW_YEAR, &mut lent), Err(Refusal::RowsTooShort { needed: 30 }));
     assert_eq!(table.walk(0, 3, NEW_YEAR, &mut lent), Err(Refusal::NoSuchRepeat));
     assert_eq!(table.walk(1, 0, NEW_YEAR, &mut lent), Err(Refusal::NoSuchService));
     assert_eq!(table.walk(0, 0, Date { day: 1, month: 1, year: 2026 }, &mut lent), Err(Refusal::OutsidePeriod));
@@ -75,6 +78,24 @@ fn refused() {
     );
     assert_eq!(Table::new(&words[1..]).interchange(1, 0, 0), Err(Refusal::NotATable));
     assert_eq!(lent, [9; 20]);
+}
+
+/// A stretch that begins in mid-route shows what holds there.
+#[test]
+fn from_mid_route() {
+    let fplan = FPLAN.replace(
+        "*A VE                                                     %\n",
+        "*A VE         #1      000001                              %\n*A VE #1                                                  %\n",
+    );
+    // One day, on which 000001 does not run.
+    let never = format!("000001 D8{:0<94}", "");
+    let words = table_of(&Files { fplan: fplan.as_bytes(), bitfeld: never.as_bytes(), ..ONE_NIGHT }).unwrap();
+    let mut lent = [9; 2 * ROW_WORDS];
+    let announced: Vec<(u32, u32, [u8; 6])> = match Table::new(&words).walk(0, 0, NEW_YEAR, &mut lent).unwrap() {
+        Walk::Rows(rows) => rows.iter().map(|row| (row.stop(), row.number(), row.administration())).collect(),
+        Walk::NotRunning => panic!("not running"),
+    };
+    assert_eq!(announced, [(1_000_022, 8, *b"FERRY_"), (1_000_033, 8, *b"NIGHT_")]);
 }
 
 // "380 days pass, 381 answer 5": at line 2. 01.01.2025 to 31.12.2025 are 365 days.

@@ -14,7 +14,7 @@ fn trial_week() -> Vec<u32> {
         fplan: include_bytes!("../../crates/ferry/data/FPLAN"),
     };
     let mut words = vec![7; 100];
-    assert_eq!(load(&files, &mut words).unwrap().words, 66);
+    assert_eq!(load(&files, &mut words).unwrap().words, 78);
     words
 }
 
@@ -51,7 +51,8 @@ fn december(day: u32) -> Date {
     Date { day, month: 12, year: 2025 }
 }
 
-/// "The walk on 05.12.2025 gives four rows, the first 1000011, 0, 480, 2, 4342100, 2, 3; on 06.12.2025 it is not running."
+/// "The walk on 05.12.2025 gives four rows, the first 1000011, 0, 480, 2, 4342100, 2, 3; on 06.12.2025 it is not running." With
+/// document 02, No. 5, number and administration follow the flags.
 #[test]
 fn walked() {
     let words = trial_week();
@@ -60,7 +61,7 @@ fn walked() {
     match table.walk(0, 0, december(5), &mut lent) {
         Ok(Walk::Rows(rows)) => {
             assert_eq!(rows.iter().len(), 4);
-            assert_eq!(rows.words()[..7], [1_000_011, 0, 480, 2, 4_342_100, 2, 3]);
+            assert_eq!(rows.words()[..10], [1_000_011, 0, 480, 2, 42, 0x46_4552, 0x52_595F, 4_342_100, 2, 3]);
         }
         other => panic!("{:?}", other),
     }
@@ -130,8 +131,8 @@ fn any_words() {
     for length in 0..words.len() {
         all_read(&words[..length]);
     }
-    for at in 0..66 {
-        for value in [0, 1, 8, 65, 66, 67, 1 << 31, u32::MAX] {
+    for at in 0..78 {
+        for value in [0, 1, 8, 77, 78, 79, 1 << 31, u32::MAX] {
             let mut changed = words.clone();
             changed[at] = value;
             all_read(&changed);

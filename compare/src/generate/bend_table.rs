@@ -27,6 +27,7 @@ pub const BENDS: &[Bend] = &[
     record_twice,
     one_record,
     other_flags,
+    other_number,
     other_time,
     other_categories,
     other_days,
@@ -149,6 +150,13 @@ fn one_record(rng: &mut Rng, table: &mut RawTable) -> Option<()> {
 
 fn other_flags(rng: &mut Rng, table: &mut RawTable) -> Option<()> {
     some_call(rng, table)?[3] = rng.below(16);
+    Some(())
+}
+
+/// A call's number or administration; no condition of 21 is about these.
+fn other_number(rng: &mut Rng, table: &mut RawTable) -> Option<()> {
+    let which = rng.between(4, 6) as usize;
+    some_call(rng, table)?[which] = rng.pick(&[0, 100_000, 1 << 24, u32::MAX]);
     Some(())
 }
 

@@ -29,6 +29,14 @@ pub struct Call {
     pub stop: u32,
     pub arrival: Option<u32>,
     pub departure: Option<u32>,
+    pub change: Change,
+}
+
+/// The number and the administration that hold from a call on; `None` is written as blanks.
+#[derive(Clone, Copy, Debug, Default)]
+pub struct Change {
+    pub number: Option<u32>,
+    pub administration: Option<[u8; 6]>,
 }
 
 #[derive(Clone, Copy, Debug, PartialEq, Eq)]
@@ -203,13 +211,26 @@ fn random_service(rng: &mut Rng, plan: &mut Plan, size: Size) -> Service {
         Size::Medium => rng.between(2, 14),
         Size::Large => rng.pick(&[200, 199, 120, 60]),
     };
-    let mut administration = [0; 6];
-    administration.iter_mut().for_each(|byte| *byte = if rng.once_in(6) { rng.byte(false) } else { b'_' });
+    let administration = random_administration(rng);
     let calls = random_calls(rng, &plan.stops, calls as usize);
     let mut ranges = random_categories(rng, calls.len() - 1, size);
     ranges.extend(random_operation(rng, plan, calls.len() - 1, size));
     ranges.extend(random_others(rng, plan, calls.len(), size));
     Service { number: rng.below(100_000), administration, repeats: random_repeats(rng), calls, ranges }
+}
+
+fn random_administration(rng: &mut Rng) -> [u8; 6] {
+    let mut administration = [0; 6];
+    administration.iter_mut().for_each(|byte| *byte = if rng.once_in(6) { rng.byte(false) } else { b'_' });
+    administration
+}
+
+/// Another number or administration, each by itself, once in so many times.
+fn random_change(rng: &mut Rng, rare: u32) -> Change {
+    let any = rng.below(100_000);
+    let number = Some(rng.pick(&[any, any, 0, 99_999])).filter(|_| rng.once_in(rare));
+    let administration = Some(random_administration(rng)).filter(|_| rng.once_in(rare));
+    Change { number, administration }
 }
 
 fn random_repeats(rng: &mut Rng) -> Option<(u32, u32)> {
@@ -234,12 +255,13 @@ fn random_calls(rng: &mut Rng, stops: &[u32], calls: usize) -> Vec<Call> {
         now = (now + rng.below(slow)).min(59_999);
         now
     };
+    let changes = rng.pick(&[2, 4, 1_000]);
     (0..calls)
         .map(|i| {
             let mut stated = |needed: bool| if needed || rng.once_in(3) { Some(later(rng)) } else { None };
             let arrival = stated(i > 0);
             let departure = stated(i + 1 < calls);
-            Call { stop: stops[rng.index(few)], arrival, departure }
+            Call { stop: stops[rng.index(few)], arrival, departure, change: random_change(rng, changes) }
         })
         .collect()
 }

@@ -251,11 +251,11 @@ fn call_text(rng: &mut Rng, service: &Service, i: usize) -> Vec<u8> {
     if rng.coin() {
         line.put(9, &rng.text(21));
     }
-    if rng.once_in(4) {
-        line.put(44, format!("{:05}", service.number).as_bytes());
+    if let Some(number) = call.change.number {
+        line.put(44, format!("{:05}", number).as_bytes());
     }
-    if rng.once_in(4) {
-        line.put(50, &service.administration);
+    if let Some(administration) = call.change.administration {
+        line.put(50, &administration);
     }
     if rng.once_in(4) {
         line.put(57, b"X");

@@ -47,6 +47,8 @@ struct Call {
     arrival: u32,
     departure: u32,
     flags: u32,
+    number: u32,
+    administration: [u32; 2],
 }
 
 #[derive(Clone, Debug)]
@@ -123,7 +125,7 @@ fn service(words: &[u32]) -> Option<Service> {
     if !(2..=MOST_CALLS).contains(&c) || g > 50 || v > 50 || a > 100 || repeats > 999 || offset > 999 {
         return None;
     }
-    // "a count differs from 11 + 4c + 3g + 3v + 4a"
+    // "a count differs from 11 + 4c + 3g + 3v + 4a", where No. 5 says 7c
     let count = SERVICE_WORDS + CALL_WORDS * c + CATEGORY_WORDS * g + DAYS_WORDS * v + EXTRA_WORDS * a;
     if words[SIZE_AT] as usize != count || count > words.len() {
         return None;
@@ -147,7 +149,14 @@ fn service(words: &[u32]) -> Option<Service> {
 }
 
 fn call(words: &[u32]) -> Call {
-    Call { stop: words[0], arrival: words[1], departure: words[2], flags: words[3] }
+    Call {
+        stop: words[0],
+        arrival: words[1],
+        departure: words[2],
+        flags: words[3],
+        number: words[4],
+        administration: [words[5], words[6]],
+    }
 }
 
 fn over(words: &[u32]) -> Over {
@@ -324,7 +333,9 @@ fn row(
         category = only_one(&service.categories, i).ok_or(33_u32)?;
     }
     let [same, other] = table.interchange_times(call.stop);
-    Ok([call.stop, arrival, departure, flags, category, same, other])
+    // Document 02, No. 5: "Rows grow to 10 in the same way".
+    let [high, low] = call.administration;
+    Ok([call.stop, arrival, departure, flags, call.number, high, low, category, same, other])
 }
 
 /// 36: "a time needed ... missing or below the needed one before". Open point: missing goes by the flags.

@@ -5,8 +5,8 @@ use std::collections::{HashMap, HashSet};
 use super::bits::{frame_ok, BitWords};
 use super::calendar::period;
 use super::fields::{
-    count, date, detail, digits, digits_or_blank, hex_words, kind, means_days, packed, range_end, repeats_and_offset,
-    time, Date, Detail, LineKind, RangeEnd,
+    all_blank, count, date, detail, digits, digits_or_blank, hex_words, kind, means_days, packed, range_end,
+    repeats_and_offset, time, Date, Detail, LineKind, RangeEnd,
 };
 use super::forms::{form_a, form_bitfield, form_date, form_g, form_interchange, form_schedule, form_stop, form_z};
 use super::lines::{lines, skipped, Line};
@@ -319,7 +319,11 @@ impl Fplan {
         if !self.stops.contains(&stop) {
             return refuse(9, 5, line.no);
         }
-        Ok(Call { line: line.no, stop, arrival: time(line.text, 30), departure: time(line.text, 37) })
+        // Document 02, No. 5: "Columns 44-48 and 50-55 of schedule lines are now kept."
+        let number = if all_blank(line.text, 44, 48) { None } else { digits(line.text, 44, 48) };
+        let administration = if all_blank(line.text, 50, 55) { None } else { Some(administration(line.text, 50)) };
+        let (arrival, departure) = (time(line.text, 30), time(line.text, 37));
+        Ok(Call { line: line.no, stop, arrival, departure, number, administration })
     }
 
     fn read_a(&self, line: &Line, before: &[Range]) -> Result<Range, Offence> {
@@ -346,14 +350,18 @@ fn same_kind(ranges: &[Range], given: Given) -> usize {
     ranges.iter().filter(|range| std::mem::discriminant(&range.given) == kind).count()
 }
 
+/// "administration (two words of three bytes, first byte highest)", from this column on
+fn administration(line: &[u8], a: usize) -> [u32; 2] {
+    [packed(line, a, a + 2), packed(line, a + 3, a + 5)]
+}
+
 fn read_z(line: &Line) -> Result<Draft, Offence> {
     must_hold(form_z(line.text), 5, line)?;
     let (repeats, offset) = repeats_and_offset(line.text).unwrap_or((0, 0));
     Ok(Draft {
         line: line.no,
         number: digits(line.text, 4, 8).unwrap_or(0),
-        // "administration (two words of three bytes, first byte highest)"
-        administration: [packed(line.text, 10, 12), packed(line.text, 13, 15)],
+        administration: administration(line.text, 10),
         repeats,
         offset,
         calls: Vec::new(),

@@ -5,13 +5,15 @@ use std::collections::HashMap;
 use super::bits::{runs_on, BitWords};
 use super::fields::{Detail, RangeEnd, Time};
 
-/// A schedule line.
+/// A schedule line. Number and administration are `None` where they are blank.
 #[derive(Clone, Copy, Debug)]
 pub struct Call {
     pub line: u32,
     pub stop: u32,
     pub arrival: Time,
     pub departure: Time,
+    pub number: Option<u32>,
+    pub administration: Option<[u32; 2]>,
 }
 
 /// A *from* or *to* with its detail. Beside no stop number the detail is not read and stands as `Plain`.

@@ -41,10 +41,18 @@ pub fn words(delivery: &Delivery) -> Vec<u32> {
 }
 
 /// "Service: its word count, number, administration ..., repeats, offset, calls c, *G g, *A VE v, other a, *Z line:
-/// 11 words. Then calls of 4 ..., *G of 3 ..., *A VE of 3 ..., other of 4".
+/// 11 words. Then calls of 4 ..., *G of 3 ..., *A VE of 3 ..., other of 4"; document 02, No. 5: "Each call grows from 4 to 7 words:
+/// number and the two administration words follow the flags. A blank field repeats the call before; the first call's blanks take
+/// the *Z values."
 fn service_words(service: &Service) -> Vec<u32> {
     let draft = &service.draft;
-    let calls: Vec<u32> = draft.calls.iter().flat_map(call_words).collect();
+    let (mut number, mut administration) = (draft.number, draft.administration);
+    let mut calls: Vec<u32> = Vec::new();
+    for call in &draft.calls {
+        number = call.number.unwrap_or(number);
+        administration = call.administration.unwrap_or(administration);
+        calls.extend_from_slice(&call_words(call, number, administration));
+    }
     let (mut categories, mut days, mut others) = (Vec::new(), Vec::new(), Vec::new());
     for range in &service.ranges {
         let (from, to) = (range.from as u32, range.to as u32);
@@ -74,11 +82,12 @@ fn service_words(service: &Service) -> Vec<u32> {
     words
 }
 
-/// "calls of 4 (stop, arrival, departure, flags: 1 arrival, 2 departure, 4 no alighting, 8 no boarding; absent time 0)"
-fn call_words(call: &Call) -> [u32; CALL_WORDS] {
+/// "calls of 4 (stop, arrival, departure, flags: 1 arrival, 2 departure, 4 no alighting, 8 no boarding; absent time 0)",
+/// and the number and administration that hold there.
+fn call_words(call: &Call, number: u32, [high, low]: [u32; 2]) -> [u32; CALL_WORDS] {
     let (arrival, arrival_flags) = time_words(call.arrival, ARRIVAL, NO_ALIGHTING);
     let (departure, departure_flags) = time_words(call.departure, DEPARTURE, NO_BOARDING);
-    [call.stop, arrival, departure, arrival_flags | departure_flags]
+    [call.stop, arrival, departure, arrival_flags | departure_flags, number, high, low]
 }
 
 fn time_words(time: Time, has: u32, no: u32) -> (u32, u32) {

@@ -2,7 +2,8 @@
 
 use crate::boundary::{Boundary, Reader};
 use crate::differ::{compare, Tally, OVERSIZED_EVERY};
-use crate::layout::ROW_WORDS;
+use crate::generate::raw_table::parts;
+use crate::layout::{ADMINISTRATION_AT, NUMBER_AT, ROW_CATEGORY_AT, ROW_NUMBER_AT, ROW_WORDS};
 use crate::reader::lines::{lines, skipped};
 use crate::reader::{helper_needed, Combination};
 
@@ -44,6 +45,11 @@ slips!(
     SkippedLinesFree,
     LastLineFree,
     OtherFilesCounted,
+    NumberOfOpening,
+    NumberOfNextCall,
+    BothTakenOver,
+    FirstRowOfOpening,
+    LastRowUnnumbered,
     DayZeroRests,
     OldClassTwo,
     NoRows,
@@ -108,6 +114,9 @@ impl Boundary for Slip {
             ColumnOfRun if number == 4 && file == 5 && (51..=55).contains(&column) => return [4, 5, line, 0, 50],
             RepeatsBlamed if number == 4 && column == 27 => return [4, file, line, 0, 23],
             ColumnOfDate if number == 5 => return [5, file, line, 0, 1],
+            NumberOfOpening | NumberOfNextCall | BothTakenOver if number == 0 => {
+                self.renumber(&mut table[..words as usize])
+            }
             _ => {}
         }
         answer
@@ -135,6 +144,11 @@ impl Boundary for Slip {
             RowsOnShort if answer[0] == 29 => bump(rows, 0),
             WordAfterRows if answer[0] == 0 => bump(rows, ROW_WORDS * answer[1] as usize),
             AlwaysIdle if answer[0] == 0 => return [0, 0, 0],
+            FirstRowOfOpening if answer[1] > 0 => {
+                let head = parts(table).services[service as usize].head;
+                rows[ROW_NUMBER_AT..ROW_CATEGORY_AT].copy_from_slice(&head[NUMBER_AT..=ADMINISTRATION_AT + 1]);
+            }
+            LastRowUnnumbered if answer[1] > 0 => rows[ROW_WORDS * (answer[1] as usize - 1) + ROW_NUMBER_AT] = 0,
             _ => {}
         }
         answer
@@ -181,6 +195,29 @@ impl Boundary for Slip {
 }
 
 impl Slip {
+    /// Numbers and administrations of calls as a slip in No. 5 has them.
+    fn renumber(&self, table: &mut [u32]) {
+        let mut raw = parts(table);
+        for service in &mut raw.services {
+            let mut before: Vec<u32> = service.head[NUMBER_AT..=ADMINISTRATION_AT + 1].to_vec();
+            let calls = service.calls.clone();
+            for (i, call) in service.calls.iter_mut().enumerate() {
+                let held = &mut call[4..];
+                match self {
+                    NumberOfNextCall if i + 1 < calls.len() => held.copy_from_slice(&calls[i + 1][4..]),
+                    // the administration is taken over where the number is
+                    BothTakenOver if held[0] == before[0] => held.copy_from_slice(&before),
+                    NumberOfOpening => held.copy_from_slice(&before),
+                    _ => {}
+                }
+                if !matches!(self, NumberOfOpening) {
+                    before = held.to_vec();
+                }
+            }
+        }
+        table.copy_from_slice(&raw.words());
+    }
+
     /// The helper words that a slip asks for, where so many are needed.
     fn helper_asked(&self, files: [&[u8]; 5], needed: usize) -> usize {
         let of = |at: usize| lines(files[at]);

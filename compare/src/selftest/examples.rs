@@ -16,7 +16,8 @@ fn stated(minutes: u32) -> Time {
 
 /// Route R: 1000011 (dep 00800), 1000022 (00810, 00812), 1000033 (00830, 00835), 1000022 (arr 00855).
 fn route_r() -> Vec<Call> {
-    let call = |stop, arrival, departure| Call { line: 0, stop, arrival, departure };
+    let call =
+        |stop, arrival, departure| Call { line: 0, stop, arrival, departure, number: None, administration: None };
     vec![
         call(1_000_011, Time::Absent, stated(480)),
         call(1_000_022, stated(490), stated(492)),
@@ -49,6 +50,10 @@ fn trial(dates: [&str; 2], bitfields: &[String], ranges: &[String]) -> [Vec<u8>;
         file(&fplan),
     ]
 }
+
+/// "FERRY_" in two words of three bytes.
+const FER: u32 = 0x46_4552;
+const RY_: u32 = 0x52_595F;
 
 const WEEK: [&str; 2] = ["01.12.2025", "07.12.2025"];
 
@@ -122,7 +127,7 @@ fn frames() {
 #[test]
 fn periods_in_files() {
     let daily = [g("BAT", ALL, ALL), a("VE", ALL, ALL, "")];
-    let words = 8 + 9 + 3 + 11 + 16 + 3 + 3;
+    let words = 8 + 9 + 3 + 11 + 28 + 3 + 3;
     assert_eq!(load_in(&trial(["01.01.2025", "15.01.2026"], &[], &daily), 99).0, Loaded::Accepted { words });
     assert_eq!(load_in(&trial(["01.01.2025", "16.01.2026"], &[], &daily), 99).0, refused(5, 1, 2));
     assert_eq!(load_in(&trial(["01.01.2025", "31.12.2024"], &[], &daily), 99).0, refused(5, 1, 2));
@@ -153,8 +158,8 @@ fn ends_in_files() {
     assert_eq!(load_in(&with(ALL, ("1000022", "#2")), 99).0, refused(16, 5, 4));
     assert_eq!(load_in(&with(("#4", ""), ALL), 99).0, refused(16, 5, 4));
     let (loaded, table) = load_in(&with(("1000022", ""), ("1000022", " 00810")), 99);
-    assert_eq!(loaded, Loaded::Accepted { words: 57 });
-    assert_eq!(table[53..57], [0x4641, 0, 1, 1]);
+    assert_eq!(loaded, Loaded::Accepted { words: 69 });
+    assert_eq!(table[65..69], [0x4641, 0, 1, 1]);
 }
 
 #[test]
@@ -171,20 +176,20 @@ fn stretches_by_days() {
 fn the_trial_week() {
     let files = trial_week();
     let (loaded, table) = load_in(&files, 100);
-    assert_eq!(loaded, Loaded::Accepted { words: 66 });
-    assert_eq!(table[66..], [7; 34]);
+    assert_eq!(loaded, Loaded::Accepted { words: 78 });
+    assert_eq!(table[78..], [7; 22]);
     assert!(is_table(&table));
     let first = day_number(1, 12, 2025).unwrap();
-    assert_eq!(table[..8], [66, first, 7, 1, 3, 1, 1, 33]);
+    assert_eq!(table[..8], [78, first, 7, 1, 3, 1, 1, 33]);
     assert_eq!(table[8..21], [1, 0xFE60_0000, 0, 0, 0, 0, 0, 0, 0, 0, 0, 0, 0]);
     assert_eq!(table[21..30], [1_000_011, 12, 5, 1_000_022, 30, 4, 1_000_033, 47, 5]);
     assert_eq!(table[30..33], [9_999_999, 2, 3]);
-    assert_eq!(table[33..44], [33, 42, 0x46_4552, 0x52_595F, 0, 0, 4, 1, 1, 0, 1]);
-    assert_eq!(table[44..52], [1_000_011, 0, 480, 2, 1_000_022, 490, 492, 3]);
-    assert_eq!(table[52..60], [1_000_033, 510, 515, 3, 1_000_022, 535, 0, 1]);
-    assert_eq!(table[60..66], [4_342_100, 0, 3, 1, 0, 3]);
-    assert_eq!(load_in(&files, 65).0, Loaded::Refused { number: 20, file: 0, line: 0, column: 0, needed: 66 });
-    assert_eq!(load_in(&files, 65).1, [7; 65]);
+    assert_eq!(table[33..44], [45, 42, FER, RY_, 0, 0, 4, 1, 1, 0, 1]);
+    assert_eq!(table[44..58], [1_000_011, 0, 480, 2, 42, FER, RY_, 1_000_022, 490, 492, 3, 42, FER, RY_]);
+    assert_eq!(table[58..72], [1_000_033, 510, 515, 3, 42, FER, RY_, 1_000_022, 535, 0, 1, 42, FER, RY_]);
+    assert_eq!(table[72..78], [4_342_100, 0, 3, 1, 0, 3]);
+    assert_eq!(load_in(&files, 77).0, Loaded::Refused { number: 20, file: 0, line: 0, column: 0, needed: 78 });
+    assert_eq!(load_in(&files, 77).1, [7; 77]);
 }
 
 /// Document 02, No. 13: "64, and four for each line of BITFELD, BAHNHOF and UMSTEIGB", which are five lines here. Each refusal
@@ -200,39 +205,39 @@ fn helper_words() {
     let short = |needed| Loaded::Refused { number: 51, file: 0, line: 0, column: 0, needed };
     let emptied = |needed: usize, further: usize| [vec![0; needed], vec![9; further]].concat();
     let week = trial_week();
-    assert_eq!(with(&week, 66, 84), (Loaded::Accepted { words: 66 }, false, emptied(84, 0)));
-    assert_eq!(with(&week, 66, 90), (Loaded::Accepted { words: 66 }, false, emptied(84, 6)));
-    assert_eq!(with(&week, 66, 83), (short(84), true, vec![9; 83]));
+    assert_eq!(with(&week, 78, 84), (Loaded::Accepted { words: 78 }, false, emptied(84, 0)));
+    assert_eq!(with(&week, 78, 90), (Loaded::Accepted { words: 78 }, false, emptied(84, 6)));
+    assert_eq!(with(&week, 78, 83), (short(84), true, vec![9; 83]));
     assert_eq!(with(&week, 0, 0), (short(84), true, vec![]));
-    assert_eq!(with(&week, 65, 85).2, emptied(84, 1));
+    assert_eq!(with(&week, 77, 85).2, emptied(84, 1));
     // skipped lines, and a last one without LF; neither ECKDATEN nor FPLAN
     let mut more = trial_week();
     more[1].extend_from_slice(b"\n%");
     more[3].extend_from_slice(b"  \r\n\r");
     more[4].extend_from_slice(b"\n\n\n");
-    assert_eq!(with(&more, 66, 99).0, short(100));
-    assert_eq!(with(&more, 66, 101), (Loaded::Accepted { words: 66 }, false, emptied(100, 1)));
+    assert_eq!(with(&more, 78, 99).0, short(100));
+    assert_eq!(with(&more, 78, 101), (Loaded::Accepted { words: 78 }, false, emptied(100, 1)));
     more[0] = b"broken".to_vec();
-    assert_eq!(with(&more, 66, 99).0, short(100));
-    assert_eq!(with(&more, 66, 101), (broken(1, 1, 1), true, emptied(100, 1)));
+    assert_eq!(with(&more, 78, 99).0, short(100));
+    assert_eq!(with(&more, 78, 101), (broken(1, 1, 1), true, emptied(100, 1)));
     // "directly after 1"
     more[4].resize(16_777_217, b' ');
-    assert_eq!(with(&more, 66, 99), (refused(1, 5, 0), true, vec![9; 99]));
-    assert_eq!(with(&more, 66, 101), (refused(1, 5, 0), true, vec![9; 101]));
+    assert_eq!(with(&more, 78, 99), (refused(1, 5, 0), true, vec![9; 99]));
+    assert_eq!(with(&more, 78, 101), (refused(1, 5, 0), true, vec![9; 101]));
 }
 
 #[test]
 fn questions_on_the_trial_week() {
-    let table = load_in(&trial_week(), 66).1;
-    let mut rows = vec![9; 30];
+    let table = load_in(&trial_week(), 78).1;
+    let mut rows = vec![9; 42];
     assert_eq!(walk(&table, 0, 0, 5, 12, 2025, &mut rows), Walked::Rows(4));
-    assert_eq!(rows[..7], [1_000_011, 0, 480, 2, 4_342_100, 2, 3]);
-    assert_eq!(rows[7..14], [1_000_022, 490, 492, 3, 4_342_100, 2, 3]);
-    assert_eq!(rows[14..21], [1_000_033, 510, 515, 3, 4_342_100, 2, 3]);
-    assert_eq!(rows[21..], [1_000_022, 535, 0, 1, 0, 2, 3, 9, 9]);
+    assert_eq!(rows[..10], [1_000_011, 0, 480, 2, 42, FER, RY_, 4_342_100, 2, 3]);
+    assert_eq!(rows[10..20], [1_000_022, 490, 492, 3, 42, FER, RY_, 4_342_100, 2, 3]);
+    assert_eq!(rows[20..30], [1_000_033, 510, 515, 3, 42, FER, RY_, 4_342_100, 2, 3]);
+    assert_eq!(rows[30..], [1_000_022, 535, 0, 1, 42, FER, RY_, 0, 2, 3, 9, 9]);
     let mut none = [];
     assert_eq!(walk(&table, 0, 0, 6, 12, 2025, &mut none), Walked::NotRunning);
-    assert_eq!(walk(&table, 0, 0, 5, 12, 2025, &mut none), Walked::Refused { number: 29, needed: 28 });
+    assert_eq!(walk(&table, 0, 0, 5, 12, 2025, &mut none), Walked::Refused { number: 29, needed: 40 });
     assert_eq!(walk(&table, 0, 0, 8, 12, 2025, &mut none), Walked::Refused { number: 23, needed: 0 });
     assert_eq!(walk(&table, 1, 0, 5, 12, 2025, &mut none), Walked::Refused { number: 24, needed: 0 });
     assert_eq!(walk(&table, 0, 1, 5, 12, 2025, &mut none), Walked::Refused { number: 25, needed: 0 });
@@ -247,7 +252,7 @@ fn questions_on_the_trial_week() {
     assert_eq!(day(&table, 6, 12, 2025, 1), DayAnswer::Rests);
     assert_eq!(day(&table, 6, 12, 2025, 0), DayAnswer::Runs);
     assert_eq!(day(&table, 6, 12, 2025, 2), DayAnswer::Refused { number: 28 });
-    assert_eq!(day(&table[..65], 6, 12, 2025, 2), DayAnswer::Refused { number: 21 });
+    assert_eq!(day(&table[..77], 6, 12, 2025, 2), DayAnswer::Refused { number: 21 });
     assert_eq!(day(&table, 31, 11, 2025, 1), DayAnswer::Refused { number: 22 });
 }
 
@@ -256,15 +261,67 @@ fn repeats() {
     let mut files = trial_week();
     let fplan = String::from_utf8(files[4].clone()).unwrap();
     files[4] = fplan.replace(&z("00042", "FERRY_", "", ""), &z("00042", "FERRY_", "023", "010")).into_bytes();
-    let table = load_in(&files, 66).1;
-    let mut rows = [0; 28];
+    let table = load_in(&files, 78).1;
+    let mut rows = [0; 40];
     let runs = (0..100).filter(|repeat| walk(&table, 0, *repeat, 5, 12, 2025, &mut rows) == Walked::Rows(4)).count();
     assert_eq!(runs, 24);
     assert_eq!(rows[1..3], [0, 480 + 230]);
-    assert_eq!(rows[22..24], [535 + 230, 0]);
+    assert_eq!(rows[31..33], [535 + 230, 0]);
     assert_eq!(form_z(z("00042", "FERRY_", "023", "000").as_bytes()), Some(27));
     assert_eq!(form_z(z("00042", "FERRY_", "000", "000").as_bytes()), None);
     assert_eq!(form_z(z("00042", "FERRY_", "000", "").as_bytes()), Some(27));
+}
+
+/// Document 02, No. 5: "A blank field repeats the call before; the first call's blanks take the *Z values." Each field by itself.
+#[test]
+fn changes_of_number() {
+    let changed = |stop: &str, arrival: &str, departure: &str, number: &str, administration: &str| {
+        line(&[(1, stop), (30, arrival), (37, departure), (44, number), (50, administration), (59, "%")])
+    };
+    let holding = |changes: [(&str, &str); 4], days: [&str; 3]| {
+        let mut files = trial_week();
+        files[1] = file(&[bitfield("000001", "FE6"), bitfield("000002", "FFE")]);
+        let ve = |leg: usize| a("VE", (&format!("#{}", leg), ""), (&format!("#{}", leg + 1), ""), days[leg]);
+        let [first, second, third, fourth] = changes;
+        files[4] = file(&[
+            z("00042", "FERRY_", "", ""),
+            g("BAT", ALL, ALL),
+            ve(0),
+            ve(1),
+            ve(2),
+            changed("1000011", "", " 00800", first.0, first.1),
+            changed("1000022", " 00810", " 00812", second.0, second.1),
+            changed("1000033", " 00830", " 00835", third.0, third.1),
+            changed("1000022", " 00855", "", fourth.0, fourth.1),
+        ]);
+        let (loaded, table) = load_in(&files, 200);
+        let words = match loaded {
+            Loaded::Accepted { words } => words as usize,
+            refused => panic!("{:?}", refused),
+        };
+        let calls: Vec<u32> =
+            table[words - 40..words - 12].chunks(7).flat_map(|call| call[4..].iter().copied()).collect();
+        // a Saturday, on which only 000002 runs
+        let mut rows = [0; 40];
+        let listed = match walk(&table, 0, 0, 6, 12, 2025, &mut rows) {
+            Walked::Rows(listed) => listed as usize,
+            other => panic!("{:?}", other),
+        };
+        let told: Vec<u32> = rows.chunks(10).take(listed).flat_map(|row| row[4..7].iter().copied()).collect();
+        (calls, told)
+    };
+    let daily = ["000002"; 3];
+    let (calls, told) = holding([("", ""), ("00043", ""), ("", "QUAY_1"), ("00000", "")], daily);
+    let [quay, one] = [0x51_5541, 0x59_5F31];
+    assert_eq!(calls, [42, FER, RY_, 43, FER, RY_, 43, quay, one, 0, quay, one]);
+    assert_eq!(told, calls);
+    let (calls, _) = holding([("", "QUAY_1"), ("", ""), ("99999", "FERRY_"), ("", "")], daily);
+    assert_eq!(calls, [42, quay, one, 42, quay, one, 99_999, FER, RY_, 99_999, FER, RY_]);
+    // from mid-route on: what holds there
+    let (calls, told) =
+        holding([("00007", "QUAY_1"), ("", ""), ("", "FERRY_"), ("", "")], ["000001", "000002", "000002"]);
+    assert_eq!(calls, [7, quay, one, 7, quay, one, 7, FER, RY_, 7, FER, RY_]);
+    assert_eq!(told, calls[3..]);
 }
 
 #[test]
@@ -273,7 +330,7 @@ fn sixty_minutes() {
     assert_eq!(form_interchange(b"9999999 61 99"), Some(9));
     let mut files = trial_week();
     files[3] = text(&["9999999 61  3"]);
-    assert_eq!(load_in(&files, 66).0, broken(4, 1, 9));
+    assert_eq!(load_in(&files, 78).0, broken(4, 1, 9));
 }
 
 /// Document 02, No. 6.
@@ -282,7 +339,7 @@ fn columns_of_a_broken_form() {
     let first = |line: String| {
         let mut files = trial_week();
         files[4] = file(&[z("00042", "FERRY_", "", ""), line]);
-        load_in(&files, 66).0
+        load_in(&files, 78).0
     };
     let opened = |repeats: &str, offset: &str| form_z(z("00042", "FERRY_", repeats, offset).as_bytes());
     // "59 for a missing "%"; for repeats and offset that do not fit each other, 27"
@@ -317,22 +374,22 @@ fn pieces() {
 fn orders_of_offence() {
     let mut files = trial_week();
     files[0] = b"01.12.2025\n07.12.2025\nTrial week\n\r".to_vec();
-    assert_eq!(load_in(&files, 66).0, refused(3, 1, 4));
+    assert_eq!(load_in(&files, 78).0, refused(3, 1, 4));
     files[0] = b"01.12.2025\n30.11.2025".to_vec();
-    assert_eq!(load_in(&files, 66).0, refused(5, 1, 2));
+    assert_eq!(load_in(&files, 78).0, refused(5, 1, 2));
     files[0] = b"01.12.2025\n07.12.2025".to_vec();
-    assert_eq!(load_in(&files, 66).0, refused(2, 1, 3));
+    assert_eq!(load_in(&files, 78).0, refused(2, 1, 3));
     let mut files = trial_week();
     files[3] = b"% none\n\n".to_vec();
-    assert_eq!(load_in(&files, 66).0, refused(2, 4, 3));
+    assert_eq!(load_in(&files, 78).0, refused(2, 4, 3));
     let mut files = trial_week();
     files[4].splice(0..0, *b"*G\n");
-    assert_eq!(load_in(&files, 66).0, refused(12, 5, 1));
+    assert_eq!(load_in(&files, 78).0, refused(12, 5, 1));
     files[4].splice(0..3, *b"*Z\n");
-    assert_eq!(load_in(&files, 66).0, broken(5, 1, 4));
+    assert_eq!(load_in(&files, 78).0, broken(5, 1, 4));
     let mut files = trial_week();
     files[4].extend_from_slice(b"*G");
-    assert_eq!(load_in(&files, 66).0, broken(5, 8, 4));
+    assert_eq!(load_in(&files, 78).0, broken(5, 8, 4));
 }
 
 /// Lines of a service with so many calls and ranges, and the FPLAN lines after them.

@@ -1,6 +1,6 @@
 //! What a plan means, as a table and as walks: a second way to the same words.
 
-use crate::generate::plan::{Call, Given, Plan, Range, Service};
+use crate::generate::plan::{Given, Plan, Range, Service};
 use crate::generate::sheet::{Sheet, Tag};
 use crate::layout::{
     ARRIVAL, CALL_WORDS, CATEGORY_WORDS, DAYS_WORDS, DEPARTURE, EXTRA_WORDS, FIRST_SERVICE_AT, NO_ALIGHTING,
@@ -53,7 +53,7 @@ fn expected_service(service: &Service, s: usize, sheet: &Sheet) -> Vec<u32> {
         let range = |i: usize| &service.ranges[i];
         match row.tag {
             Tag::Z(t) if t == s => line = no,
-            Tag::Call(t, i) if t == s => calls.push(call_words(&service.calls[i], &row.text)),
+            Tag::Call(t, i) if t == s => calls.push(call_words(service, i, &row.text)),
             Tag::G(t, i) if t == s => g.extend(range_words(range(i))),
             Tag::Ve(t, i) if t == s => v.extend(range_words(range(i))),
             Tag::Other(t, i) if t == s => a.extend(range_words(range(i))),
@@ -72,13 +72,23 @@ fn expected_service(service: &Service, s: usize, sheet: &Sheet) -> Vec<u32> {
     words
 }
 
-fn call_words(call: &Call, line: &[u8]) -> [u32; CALL_WORDS] {
+/// The number and the administration that hold at a call: those of the last call up to it that states them, else the *Z line's.
+pub fn holding(service: &Service, i: usize) -> [u32; 3] {
+    let up_to = || service.calls[..=i].iter().rev();
+    let number = up_to().find_map(|call| call.change.number).unwrap_or(service.number);
+    let administration = up_to().find_map(|call| call.change.administration).unwrap_or(service.administration);
+    [number, packed(&administration[..3]), packed(&administration[3..])]
+}
+
+fn call_words(service: &Service, i: usize, line: &[u8]) -> [u32; CALL_WORDS] {
+    let call = &service.calls[i];
     let flag = |holds: bool, value: u32| if holds { value } else { 0 };
     let flags = flag(call.arrival.is_some(), ARRIVAL)
         + flag(call.departure.is_some(), DEPARTURE)
         + flag(line[29] == b'-', NO_ALIGHTING)
         + flag(line[36] == b'-', NO_BOARDING);
-    [call.stop, call.arrival.unwrap_or(0), call.departure.unwrap_or(0), flags]
+    let [number, high, low] = holding(service, i);
+    [call.stop, call.arrival.unwrap_or(0), call.departure.unwrap_or(0), flags, number, high, low]
 }
 
 fn range_words(range: &Range) -> Vec<u32> {
@@ -122,5 +132,7 @@ fn expected_row(plan: &Plan, service: &Service, i: usize, late: u32, first: bool
     let record = plan.interchange.iter().find(|record| record.0 == call.stop).unwrap_or(&plan.interchange[0]);
     let arrival = if first { 0 } else { call.arrival.unwrap() + late };
     let departure = if last { 0 } else { call.departure.unwrap() + late };
-    [call.stop, arrival, departure, 0, if last { 0 } else { category.unwrap() }, record.1, record.2]
+    let category = if last { 0 } else { category.unwrap() };
+    let [number, high, low] = holding(service, i);
+    [call.stop, arrival, departure, 0, number, high, low, category, record.1, record.2]
 }

@@ -5,12 +5,12 @@ use std::collections::BTreeMap;
 use super::expected::{expected_table, expected_walk};
 use crate::differ::{rng_of, senseless};
 use crate::generate::bend_table::{BENDS, NO_TABLES, POKES};
-use crate::generate::plan::date_of;
+use crate::generate::plan::{self, date_of};
 use crate::generate::raw_table::parts;
 use crate::generate::{
     counted_helper, damaged_table, mixed, oversized, question, valid, Aim, Case, Question, Rng, Size, DAMAGES,
 };
-use crate::layout::{ROW_FLAGS_AT, ROW_WORDS};
+use crate::layout::{ROW_CATEGORY_AT, ROW_FLAGS_AT, ROW_NUMBER_AT, ROW_WORDS};
 use crate::reader::{day, interchange, is_table, load, walk, Changed, DayAnswer, Loaded, Walked};
 
 const LENT: u32 = 0xAAAA_AAAA;
@@ -167,6 +167,9 @@ fn walks() {
                 let mut rows = vec![LENT; expected.len() + 3];
                 let walked = walk(&table, s as u32, repeat, d, m, y, &mut rows);
                 note(&mut histogram, format!("{:?}", walked).split('(').next().unwrap().to_string());
+                if let Some(kind) = change_shown(service, &expected) {
+                    note(&mut histogram, kind.to_string());
+                }
                 let listed = (expected.len() / ROW_WORDS) as u32;
                 assert_eq!(walked, if listed == 0 { Walked::NotRunning } else { Walked::Rows(listed) });
                 rows.chunks_mut(ROW_WORDS).take(listed as usize).for_each(|row| row[ROW_FLAGS_AT] = 0);
@@ -176,6 +179,28 @@ fn walks() {
         }
     });
     show("walks of planned services", &histogram);
+    for kind in CHANGES {
+        assert!(histogram[kind] > 100, "{} only {} times", kind, histogram[kind]);
+    }
+}
+
+const CHANGES: [&str; 3] = ["from mid-route, number changed", "a change on the way", "only one of both changed"];
+
+/// What the rows of a walk show of changes of number and administration.
+fn change_shown(service: &plan::Service, rows: &[u32]) -> Option<&'static str> {
+    let shown: Vec<&[u32]> = rows.chunks(ROW_WORDS).map(|row| &row[ROW_NUMBER_AT..ROW_CATEGORY_AT]).collect();
+    let first = *shown.first()?;
+    let starts_late = shown.len() < service.calls.len() && service.calls[0].stop != rows[0];
+    let one_alone = |pair: &[&[u32]]| (pair[0][0] != pair[1][0]) != (pair[0][1..] != pair[1][1..]);
+    if starts_late && first[0] != service.number {
+        Some(CHANGES[0])
+    } else if shown.windows(2).any(one_alone) {
+        Some(CHANGES[2])
+    } else if shown.iter().any(|row| *row != first) {
+        Some(CHANGES[1])
+    } else {
+        None
+    }
 }
 
 fn answer(words: &[u32], question: Question) -> String {

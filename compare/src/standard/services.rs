@@ -171,7 +171,9 @@ fn rows_114(calls: usize, late: u32) -> Vec<u32> {
         let departure = if last { [0, 0, 0] } else { [minutes(*departure), 2, bus] };
         // Line 23: "the boarding is not allowed here".
         let no_boarding = if i == 16 { 8 } else { 0 };
-        rows.extend([*stop, arrival[0], departure[0], arrival[1] + departure[1] + no_boarding, departure[2], 2, 3]);
+        rows.extend([*stop, arrival[0], departure[0], arrival[1] + departure[1] + no_boarding]);
+        // No call states a number or an administration: those of the *Z line, 114 and BVG_1B.
+        rows.extend([114, 0x42_5647, 0x5F_3142, departure[2], 2, 3]);
     }
     rows
 }

@@ -16,11 +16,29 @@ use Rattle.timetable.specs.declared.RangeLine.{RangeLine}
 use Rattle.draft.specs.Draft.{callBack, placeBack, detailBack, partBack, endBack, lineBack, rangeBack}
 
 pub call-read : (w : List ℕ) (at : ℕ)
-    → record { stop = getD w at 0; arrival = getD w (at + 1) 0; departure = getD w (at + 2) 0; flags = getD w (at + 3) 0 } ≡ callBack (drop at w) .1
-call-read w at = rw (getD-drop at w 0 0, add-zero at, getD-drop at w 1 0, getD-drop at w 2 0, getD-drop at w 3 0) refl
+    → record {
+      stop = getD w at 0;
+      arrival = getD w (at + 1) 0;
+      departure = getD w (at + 2) 0;
+      flags = getD w (at + 3) 0;
+      number = getD w (at + 4) 0;
+      high = getD w (at + 5) 0;
+      low = getD w (at + 6) 0;
+    } ≡ callBack (drop at w) .1
+call-read w at =
+    rw (
+      getD-drop at w 0 0,
+      add-zero at,
+      getD-drop at w 1 0,
+      getD-drop at w 2 0,
+      getD-drop at w 3 0,
+      getD-drop at w 4 0,
+      getD-drop at w 5 0,
+      getD-drop at w 6 0,
+    ) refl
 
-pub call-line : (w : List ℕ) (at : ℕ) → getD w (at + 4) 0 ≡ callBack (drop at w) .0
-call-line w at = sym (getD-drop at w 4 0)
+pub call-line : (w : List ℕ) (at : ℕ) → getD w (at + 7) 0 ≡ callBack (drop at w) .0
+call-line w at = sym (getD-drop at w 7 0)
 
 pub range-line : (w : List ℕ) (at : ℕ) → getD w at 0 ≡ rangeBack (drop at w) .0
 range-line w at = rw (getD-drop at w 0 0, add-zero at) refl

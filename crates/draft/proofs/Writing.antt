@@ -1,17 +1,18 @@
 -- What a line says, written behind a draft. Assumes nothing.
 use mathlib.Core.Path.{_≡_, refl, sym, ap, _∙_}
 use mathlib.Core.List.{List, [], _∷_, _++_, append-nil}
+use mathlib.Core.Bool.{Bool, true, false, cond}
 use mathlib.Core.Logic.{⊎-elim}
 use denote.Enum.Declared.{tagOf}
 use types.Run.{OneOf}
-use Prim.Native.Nat.{ℕ, _+_, _*_, _^_, _≤_, _<_}
+use Prim.Native.Nat.{ℕ, _+_, _-_, _*_, _^_, _≤_, _<_}
 use native.Mathlib.Nat.{mul-comm, add-assoc}
 use native.Mathlib.Omega.{arith}
-use lib.ListN.{length, getD, take, drop, set}
-use lib.Seq.{getD-take}
+use lib.ListN.{length, getD, take, drop}
+use lib.Seq.{getD-take, getD-drop}
 use Rattle.base.proofs.Laws.{tests}
 use Rattle.words.specs.Words.{write}
-use Rattle.words.proofs.Laws.{length-write, write-write, write-one, drop-write, take-before}
+use Rattle.words.proofs.Laws.{length-write, write-write, drop-write, take-before}
 use Rattle.fields.specs.declared.RouteIndex.{RouteIndex}
 use Rattle.fields.specs.declared.StopNumber.{StopNumber}
 use Rattle.fields.specs.declared.Appearance.{Appearance}
@@ -21,9 +22,13 @@ use Rattle.fields.specs.declared.Detail.{Detail}
 use Rattle.fields.specs.declared.Detail.the-variants.{Plain, Nth, Timed, NoDetail}
 use Rattle.timetable.specs.Layout.{mostCalls}
 use Rattle.timetable.specs.Plan.{asCall, asRange, partNumber}
+use Rattle.timetable.specs.Service.{opened, announced, callBy, holding}
 use Rattle.timetable.specs.Table.{rowsIn}
 use Rattle.timetable.proofs.Rows.{rows-last, rows-within}
+use Rattle.timetable.specs.declared.Announced.{Announced}
 use Rattle.timetable.specs.declared.Call.{Call}
+use Rattle.timetable.specs.declared.CallLine.{CallLine}
+use Rattle.timetable.specs.declared.Opening.{Opening}
 use Rattle.timetable.specs.declared.End.{End}
 use Rattle.timetable.specs.declared.Part.{Part}
 use Rattle.timetable.specs.declared.Part.the-variants.{Category, Days, Extra}
@@ -31,7 +36,7 @@ use Rattle.timetable.specs.declared.RangeLine.{RangeLine}
 use Rattle.timetable.specs.declared.Told.{Told}
 use Rattle.timetable.specs.declared.Told.the-variants.{Skip, Other, Broken, Opens, Ranges, Calls}
 use Rattle.timetable.proofs.Told.{the-type}
-use Rattle.draft.specs.Draft.{draftCall, draftRange, callsLent, rangesLent, mostRanges, callDraft, placeTag, placeValue, detailTag, detailValue, endDraft, rangeDraft, callBack, placeBack, detailBack, partBack, endBack, rangeBack, callsOn, rangesOn, onLine, countCalls, countPart, countRanges, counted, ranges#, Within}
+use Rattle.draft.specs.Draft.{draftCall, draftRange, callsLent, rangesLent, mostRanges, callDraft, placeTag, placeValue, detailTag, detailValue, endDraft, rangeDraft, callBack, placeBack, detailBack, partBack, endBack, rangeBack, callsOn, rangesOn, onLine, lastOf, callsAfter, countCalls, countPart, countRanges, counted, ranges#, Within}
 use Rattle.draft.specs.declared.Counts.{Counts}
 use Rattle.draft.specs.declared.Code.{Code}
 
@@ -72,7 +77,17 @@ word-own : (w : List ℕ) (k i : ℕ) → i < k → getD (take k w) i 0 ≡ getD
 word-own w k i h = getD-take k w i 0 h
 
 call-own : (w : List ℕ) (k : ℕ) → draftCall ≤ k → callBack (take k w) ≡ callBack w
-call-own w k h = rw (word-own w k 0 (omega arith), word-own w k 1 (omega arith), word-own w k 2 (omega arith), word-own w k 3 (omega arith), word-own w k 4 (omega arith)) refl
+call-own w k h =
+    rw (
+      word-own w k 0 (omega arith),
+      word-own w k 1 (omega arith),
+      word-own w k 2 (omega arith),
+      word-own w k 3 (omega arith),
+      word-own w k 4 (omega arith),
+      word-own w k 5 (omega arith),
+      word-own w k 6 (omega arith),
+      word-own w k 7 (omega arith),
+    ) refl
 
 range-own : (w : List ℕ) (k : ℕ) → draftRange ≤ k → rangeBack (take k w) ≡ rangeBack w
 range-own w k h =
@@ -123,7 +138,7 @@ calls-kept k (r ∷ rs) = go (r .part)
     go Days = refl
     go Extra = refl
 
-ranges-kept : (k : Counts) (cs : List Call) → ranges# (countCalls k cs) ≡ ranges# k
+ranges-kept : (k : Counts) (cs : List CallLine) → ranges# (countCalls k cs) ≡ ranges# k
 ranges-kept k [] = refl
 ranges-kept k (c ∷ cs) = refl
 
@@ -173,12 +188,15 @@ pub codes-put : (t t′ : List ℕ) (at : ℕ) (e : End) (p d : Code)
     → t′ ≡ write t at (p .tag ∷ p .value ∷ d .tag ∷ d .value ∷ []) → t′ ≡ write t at (endDraft e)
 codes-put t t′ at e p d a b v = rw (a, b) at v
 
-pub call-put : (t t′ : List ℕ) (at line : ℕ) (c : Call) → at + draftCall ≤ length t
-    → t′ ≡ write t at (c .stop ∷ c .arrival ∷ c .departure ∷ c .flags ∷ []) → set t′ (at + 4) line ≡ write t at (callDraft (line, c))
-call-put t t′ at line c h e =
-    let four : List ℕ = c .stop ∷ c .arrival ∷ c .departure ∷ c .flags ∷ [] in
-    let l : length t′ ≡ length t = ap length e ∙ length-write t at four (omega arith) in
-    write-one t′ (at + 4) line (omega (arith, l)) ∙ rw e (write-write t at four (line ∷ []) (omega arith))
+module _ (t t′ : List ℕ) (at : ℕ) (c : Call) (h : at + draftCall ≤ length t) (e : t′ ≡ write t at (c .stop ∷ c .arrival ∷ c .departure ∷ c .flags ∷ [])) where
+  abbrev four : List ℕ
+  four = c .stop ∷ c .arrival ∷ c .departure ∷ c .flags ∷ []
+
+  pub call-halves : at + 4 + 4 ≤ length t′
+  call-halves = rw (e, length-write t at four (omega arith)) (omega arith)
+
+  pub call-put : (t″ : List ℕ) (line : ℕ) → t″ ≡ write t′ (at + 4) (c .number ∷ c .high ∷ c .low ∷ line ∷ []) → t″ ≡ write t at (callDraft (line, c))
+  call-put t″ line f = f ∙ rw e (write-write t at four (c .number ∷ c .high ∷ c .low ∷ line ∷ []) (omega arith))
 
 pub range-put : (t a b c : List ℕ) (at line p : ℕ) (r : RangeLine) → at + draftRange ≤ length t
     → p ≡ partNumber (r .part)
@@ -191,7 +209,40 @@ range-put t a b c at line p r h q x y z =
     let three : c ≡ write t at ((four ++ from) ++ endDraft (r .ends .to)) = z ∙ rw two (write-write t at (four ++ from) (endDraft (r .ends .to)) (omega arith)) in
     rw q at three
 
-pub ruleset written = (tests, codes-put, call-put, range-put)
+pub ruleset written = (tests, codes-put, call-halves, call-put, range-put)
+
+-- ---- the needs of `announced_last`, `call_by` and `or_before`, for `search holds`
+
+last-behind : (a : Announced) (cs : List (ℕ × Call)) (c : ℕ × Call) → lastOf a (cs ++ (c ∷ [])) ≡ announced (c .1)
+unfolding lastOf
+last-behind a [] c = refl
+last-behind a (b ∷ cs) c = last-behind (announced (b .1)) cs c
+
+module _ (o : Opening) (c : ℕ) (w : List ℕ) where
+  pub last-none : c ≡ 0 → record { number = o .number; high = o .high; low = o .low } ≡ lastOf (opened o) (callsOn c w)
+  unfolding lastOf rowsIn
+  last-none e = rw e refl
+
+  pub last-some : (c ≡ 0 → ⊥)
+      → record { number = getD w (draftCall * (c - 1) + 4) 0; high = getD w (draftCall * (c - 1) + 5) 0; low = getD w (draftCall * (c - 1) + 6) 0 } ≡ lastOf (opened o) (callsOn c w)
+  last-some n =
+      let m : ℕ = c - 1 in
+      let p : draftCall * m ≡ m * draftCall = mul-comm draftCall m in
+      let s : m + 1 ≡ c = omega arith in
+      let e : callsOn c w ≡ callsOn m w ++ (callBack (drop (m * draftCall) w) ∷ []) = rw s at (rows-last callBack draftCall m w) in
+      rw (e, last-behind (opened o) (callsOn m w) (callBack (drop (m * draftCall) w)), p, getD-drop (m * draftCall) w 4 0, getD-drop (m * draftCall) w 5 0, getD-drop (m * draftCall) w 6 0) refl
+
+pub before-said : (b : Bool) (x y : ℕ) → b ≡ true → x ≡ cond b x y
+before-said b x y e = rw e
+
+pub before-blank : (b : Bool) (x y : ℕ) → b ≡ false → y ≡ cond b x y
+before-blank b x y e = rw e
+
+pub call-held : (a : Announced) (l : CallLine) (n h k : ℕ) → n ≡ cond (l .numbered) (l .number) (a .number) → h ≡ cond (l .administered) (l .high) (a .high) → k ≡ cond (l .administered) (l .low) (a .low)
+    → record { stop = l .stop; arrival = l .arrival; departure = l .departure; flags = l .flags; number = n; high = h; low = k } ≡ callBy a l
+call-held a l n h k p q r = rw (p, q, r)
+
+pub ruleset holds = (tests, last-none, last-some, before-said, before-blank, call-held)
 
 -- ---- the needs of `draft_call`, `draft_range` and `count_part`, for `search drafted`
 
@@ -218,15 +269,16 @@ module _ (t : Told) (k : Counts) where
   pub range-passed : OneOf (0 ∷ 1 ∷ 2 ∷ 3 ∷ 5 ∷ []) (tagOf the-type t) → k ≡ countRanges k (asRange t)
   range-passed e = rw (no-range t e) refl
 
-  pub call-passed-on : (line : ℕ) (w : List ℕ) → OneOf (0 ∷ 1 ∷ 2 ∷ 3 ∷ 4 ∷ []) (tagOf the-type t) → callsOn (k .calls) w ≡ callsOn (k .calls) w ++ onLine line (asCall t)
-  unfolding onLine
-  call-passed-on line w e = rw (no-call t e, append-nil) refl
+  pub call-passed-on : (o : Opening) (line : ℕ) (w : List ℕ) → OneOf (0 ∷ 1 ∷ 2 ∷ 3 ∷ 4 ∷ []) (tagOf the-type t)
+      → callsOn (k .calls) w ≡ callsAfter o (callsOn (k .calls) w) line (asCall t)
+  unfolding onLine callsAfter holding
+  call-passed-on o line w e = rw (no-call t e, append-nil) refl
 
   pub range-passed-on : (line : ℕ) (w : List ℕ) → OneOf (0 ∷ 1 ∷ 2 ∷ 3 ∷ 5 ∷ []) (tagOf the-type t) → rangesOn (ranges# k) w ≡ rangesOn (ranges# k) w ++ onLine line (asRange t)
   unfolding onLine
   range-passed-on line w e = rw (no-range t e, append-nil) refl
 
-  module _ (c : Call) (e : t ≡ Calls c) where
+  module _ (c : CallLine) (e : t ≡ Calls c) where
     pub call-room : (n : ℕ) → Within (countCalls k (asCall t)) → callsLent ≤ n → draftCall * k .calls + draftCall ≤ n
     call-room n w h = let v : Within (countCalls k (asCall (Calls c))) = rw e at w in omega (arith, v .calls)
 
@@ -236,10 +288,15 @@ module _ (t : Told) (k : Counts) where
     pub call-counted : record { calls = k .calls + 1; categories = k .categories; days = k .days; extras = k .extras } ≡ countCalls k (asCall t)
     call-counted = rw e refl
 
-    pub call-drafted : (line : ℕ) (w w′ : List ℕ) → Within (countCalls k (asCall t)) → callsLent ≤ length w → w′ ≡ write w (draftCall * k .calls) (callDraft (line, c))
-        → callsOn (k .calls + 1) w′ ≡ callsOn (k .calls) w ++ onLine line (asCall t)
-    unfolding onLine
-    call-drafted line w w′ h l v = rw (v, e) (calls-more (k .calls) w (line, c) (omega (arith, call-room (length w) h l)))
+    pub calls-behind : (n : ℕ) → Within (countCalls k (asCall t)) → callsLent ≤ n → draftCall * k .calls ≤ n
+    calls-behind n w h = omega (arith, call-room n w h)
+
+    -- a held before, x is the call
+    pub call-drafted : (o : Opening) (line : ℕ) (w w′ : List ℕ) (a : Announced) (x : Call) → Within (countCalls k (asCall t)) → callsLent ≤ length w
+        → a ≡ lastOf (opened o) (callsOn (k .calls) w) → x ≡ callBy a c → w′ ≡ write w (draftCall * k .calls) (callDraft (line, x))
+        → callsOn (k .calls + 1) w′ ≡ callsAfter o (callsOn (k .calls) w) line (asCall t)
+    unfolding onLine callsAfter holding
+    call-drafted o line w w′ a x h l p q v = rw (v, e, ← p, ← q) (calls-more (k .calls) w (line, x) (omega (arith, call-room (length w) h l)))
 
   module _ (r : RangeLine) (e : t ≡ Ranges r) where
     range-within : Within (countRanges k (asRange t)) → Within (countPart k (r .part))
@@ -289,7 +346,7 @@ module _ (k : Counts) (p : Part) where
 
 pub ruleset parts = (tests, category-fits, days-fit, extra-fits, category-counted, days-counted, extra-counted)
 
-pub ruleset call-drafts = (tests, call-passed, call-passed-on, call-room, call-fits, call-counted, call-drafted)
+pub ruleset call-drafts = (tests, call-passed, call-passed-on, call-room, calls-behind, call-fits, call-counted, call-drafted)
 
 pub ruleset range-drafts = (tests, range-passed, range-passed-on, range-room, range-fits, part-requires, range-counted, range-drafted)
 
@@ -320,8 +377,9 @@ module _ (k : Counts) (t : Told) where
       pub line-counted : r ≡ counted k t
       line-counted = rw d at e
 
-      pub line-called : (line : ℕ) (w w′ : List ℕ) → callsOn (k′ .calls) w′ ≡ callsOn (k .calls) w ++ onLine line (asCall t) → callsOn (r .calls) w′ ≡ callsOn (k .calls) w ++ onLine line (asCall t)
-      line-called line w w′ v = ap (λ (n : ℕ). callsOn n w′) (ap (λ (c : Counts). c .calls) e ∙ calls-kept k′ (asRange t)) ∙ v
+      pub line-called : (o : Opening) (line : ℕ) (w w′ : List ℕ) → callsOn (k′ .calls) w′ ≡ callsAfter o (callsOn (k .calls) w) line (asCall t)
+          → callsOn (r .calls) w′ ≡ callsAfter o (callsOn (k .calls) w) line (asCall t)
+      line-called o line w w′ v = ap (λ (n : ℕ). callsOn n w′) (ap (λ (c : Counts). c .calls) e ∙ calls-kept k′ (asRange t)) ∙ v
 
       pub line-ranged : (line : ℕ) (w w′ : List ℕ) → rangesOn (ranges# r) w′ ≡ rangesOn (ranges# k′) w ++ onLine line (asRange t) → rangesOn (ranges# r) w′ ≡ rangesOn (ranges# k) w ++ onLine line (asRange t)
       line-ranged line w w′ v = v ∙ ap (λ (n : ℕ). rangesOn n w ++ onLine line (asRange t)) (ap ranges# d ∙ ranges-kept k (asCall t))

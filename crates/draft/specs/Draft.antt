@@ -14,10 +14,12 @@ use Rattle.fields.specs.declared.Detail.{Detail}
 use Rattle.fields.specs.declared.Detail.the-variants.{Plain, Nth, Timed, NoDetail}
 use Rattle.timetable.specs.Layout.{mostCalls, mostCategories, mostDays, mostExtras}
 use Rattle.timetable.specs.Delivery.{Service}
-use Rattle.timetable.specs.Plan.{asCall, asRange, callsOf, partNumber, ofPart, partLines, saidOn}
-use Rattle.timetable.specs.Service.{categoryRange, dayRange, extraRange}
+use Rattle.timetable.specs.Plan.{asCall, asRange, partNumber, ofPart, partLines, saidOn}
+use Rattle.timetable.specs.Service.{opened, announced, holding, calledOn, callsOf, categoryRange, dayRange, extraRange}
 use Rattle.timetable.specs.Table.{word, rowsIn}
+use Rattle.timetable.specs.declared.Announced.{Announced}
 use Rattle.timetable.specs.declared.Call.{Call}
+use Rattle.timetable.specs.declared.CallLine.{CallLine}
 use Rattle.timetable.specs.declared.Opening.{Opening}
 use Rattle.timetable.specs.declared.End.{End}
 use Rattle.timetable.specs.declared.Part.{Part}
@@ -28,7 +30,7 @@ use Rattle.draft.specs.declared.Counts.{Counts}
 
 -- the words of a call, and of a range, in the draft
 abbrev pub draftCall : ℕ
-draftCall = 5
+draftCall = 8
 
 abbrev pub draftRange : ℕ
 draftRange = 12
@@ -46,7 +48,7 @@ rangesLent = draftRange * mostRanges
 -- ---- written
 
 abbrev pub callDraft : ℕ × Call → List ℕ
-callDraft x = x .1 .stop ∷ x .1 .arrival ∷ x .1 .departure ∷ x .1 .flags ∷ x .0 ∷ []
+callDraft x = x .1 .stop ∷ x .1 .arrival ∷ x .1 .departure ∷ x .1 .flags ∷ x .1 .number ∷ x .1 .high ∷ x .1 .low ∷ x .0 ∷ []
 
 abbrev pub placeTag : RangeEnd → ℕ
 placeTag Outer = 0
@@ -81,7 +83,7 @@ rangeDraft x = x .0 ∷ partNumber (x .1 .part) ∷ x .1 .name ∷ x .1 .field �
 -- ---- read back
 
 abbrev pub callBack : List ℕ → ℕ × Call
-callBack w = (word w 4, record { stop = word w 0; arrival = word w 1; departure = word w 2; flags = word w 3 })
+callBack w = (word w 7, record { stop = word w 0; arrival = word w 1; departure = word w 2; flags = word w 3; number = word w 4; high = word w 5; low = word w 6 })
 
 abbrev pub placeBack : ℕ → ℕ → RangeEnd
 placeBack tag x = cond (eqb tag 0) Outer (cond (eqb tag 1) (Index (record { 0 = x })) (cond (eqb tag 2) (Stop (record { 0 = x })) NoEnd))
@@ -120,6 +122,15 @@ rangesIn n w = rowsIn lineBack draftRange n w
 unfoldable pub onLine : {X : Type 0} → ℕ → List X → List (ℕ × X)
 onLine n xs = map (λ x. (n, x)) xs
 
+-- what holds after calls, where a held before them
+unfoldable pub lastOf : Announced → List (ℕ × Call) → Announced
+lastOf a [] = a
+lastOf a (c ∷ cs) = lastOf (announced (c .1)) cs
+
+-- calls of a service, and those of line n behind them
+unfoldable pub callsAfter : Opening → List (ℕ × Call) → ℕ → List CallLine → List (ℕ × Call)
+callsAfter o cs n ls = cs ++ holding (lastOf (opened o) cs) (onLine n ls)
+
 -- ---- counts
 
 abbrev pub countsOf : List Line → Counts
@@ -132,7 +143,7 @@ ranges# k = k .categories + k .days + k .extras
 abbrev pub noCounts : Counts
 noCounts = record { calls = 0; categories = 0; days = 0; extras = 0 }
 
-abbrev pub countCalls : Counts → List Call → Counts
+abbrev pub countCalls : Counts → List CallLine → Counts
 countCalls k [] = k
 countCalls k (c ∷ cs) = record { calls = k .calls + 1; categories = k .categories; days = k .days; extras = k .extras }
 
@@ -161,7 +172,7 @@ pub record DraftOf (ls : List Line) (k : Counts) (calls ranges : List ℕ) : Typ
   pub within : Within k
   pub calls-lent : callsLent ≤ length calls
   pub ranges-lent : rangesLent ≤ length ranges
-  pub called : callsOn (k .calls) calls ≡ saidOn asCall ls
+  pub called : callsOn (k .calls) calls ≡ calledOn ls
   pub ranged : rangesOn (ranges# k) ranges ≡ saidOn asRange ls
 
 -- ---- the service that a draft is, where `opening` and `line` are its *Z line's

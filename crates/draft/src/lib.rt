@@ -6,7 +6,9 @@ use fields::Detail;
 use fields::RangeEnd;
 use fields::RouteIndex;
 use fields::StopNumber;
+use timetable::Announced;
 use timetable::Call;
+use timetable::CallLine;
 use timetable::End;
 use timetable::Ends;
 use timetable::Opening;
@@ -15,15 +17,18 @@ use timetable::RangeLine;
 use timetable::Told;
 ghost use mathlib.Core.Path.{_≡_};
 ghost use mathlib.Core.List.{_++_};
-ghost use Prim.Native.Nat.{_+_, _≤_};
+ghost use mathlib.Core.Bool.{cond};
+ghost use Prim.Native.Nat.{_+_, _*_, _≤_};
 ghost use lib.ListN.{length, drop};
 ghost use Rattle.timetable.specs.Plan.{asCall, asRange, partNumber};
+ghost use Rattle.timetable.specs.Service.{opened, callBy};
 ghost use Rattle.words.specs.Words.{write};
 ghost use Rattle.draft.specs.Draft.{draftCall, draftRange, mostRanges, callsLent, rangesLent, callDraft, placeTag, placeValue, detailTag, detailValue, endDraft, rangeDraft};
-ghost use Rattle.draft.specs.Draft.{callBack, placeBack, detailBack, partBack, endBack, lineBack, rangeBack, callsOn, rangesOn, onLine, noCounts, countCalls, countPart, countRanges, counted, ranges#, Within};
+ghost use Rattle.draft.specs.Draft.{callBack, placeBack, detailBack, partBack, endBack, lineBack, rangeBack, callsOn, rangesOn, onLine, lastOf, callsAfter, noCounts, countCalls, countPart, countRanges, counted, ranges#, Within};
 
-// The words of a call in the draft: stop, arrival, departure, flags, and its line's number.
-pub const DRAFT_CALL_WORDS: usize = 5;
+// The words of a call in the draft: those of the table (stop, arrival, departure, flags, and the number and administration that hold there), and its
+// line's number.
+pub const DRAFT_CALL_WORDS: usize = 8;
 
 // The words of a range: its line's number, its part, its name, its bit field, and four words for each of its ends.
 pub const DRAFT_RANGE_WORDS: usize = 12;
@@ -84,8 +89,9 @@ pub fn range_count(counts: Counts) -> u32
     counts.categories + counts.days + counts.extras
 }
 
-// Drafts what a line says behind what is drafted; how much is drafted then.
+// Drafts what a line of the service that `opening` opens says, behind what is drafted; how much is drafted then.
 pub fn draft_line(
+    opening: Opening,
     said: Told,
     line: u32,
     counts: Counts,
@@ -95,27 +101,84 @@ pub fn draft_line(
     requires { ⌜ Within (counted counts said) ⌝ }
     requires { ⌜ (callsLent ≤ length (now calls)) × (rangesLent ≤ length (now ranges)) ⌝ }
     ensures { λ r. ⌜ r ≡ counted counts said ⌝ }
-    ensures { λ r. ⌜ callsOn (r .calls) (now (calls .exit)) ≡ callsOn (counts .calls) (now (calls .entry)) ++ onLine line (asCall said) ⌝ }
+    ensures { λ r. ⌜ callsOn (r .calls) (now (calls .exit)) ≡ callsAfter opening (callsOn (counts .calls) (now (calls .entry))) line (asCall said) ⌝ }
     ensures { λ r. ⌜ rangesOn (ranges# r) (now (ranges .exit)) ≡ rangesOn (ranges# counts) (now (ranges .entry)) ++ onLine line (asRange said) ⌝ }
 {
-    let k = draft_call(said, line, counts, calls);
+    let k = draft_call(opening, said, line, counts, calls);
     draft_range(said, line, k, ranges)
 }
 
 // "Only schedule lines are taken as calls; every other kind is passed over when the route is gathered."
-fn draft_call(said: Told, line: u32, counts: Counts, calls: &mut [u32]) -> Counts
+fn draft_call(
+    opening: Opening,
+    said: Told,
+    line: u32,
+    counts: Counts,
+    calls: &mut [u32],
+) -> Counts
     requires { ⌜ Within (countCalls counts (asCall said)) ⌝ }
     requires { ⌜ callsLent ≤ length (now calls) ⌝ }
     ensures { λ r. ⌜ r ≡ countCalls counts (asCall said) ⌝ }
-    ensures { λ r. ⌜ callsOn (r .calls) (now (calls .exit)) ≡ callsOn (counts .calls) (now (calls .entry)) ++ onLine line (asCall said) ⌝ }
+    ensures { λ r. ⌜ callsOn (r .calls) (now (calls .exit)) ≡ callsAfter opening (callsOn (counts .calls) (now (calls .entry))) line (asCall said) ⌝ }
 {
     let Told::Calls(call) = said else {
         return counts;
     };
-    put_call(calls, DRAFT_CALL_WORDS * counts.calls as usize, line, call);
+    let held = announced_last(opening, counts.calls, calls);
+    put_call(
+        calls,
+        DRAFT_CALL_WORDS * counts.calls as usize,
+        line,
+        call_by(held, call),
+    );
     let mut k = counts;
     k.calls += 1;
     k
+}
+
+// What holds at the last of c drafted calls: "A blank field repeats the call before; the first call's blanks take the *Z values."
+fn announced_last(opening: Opening, c: u32, calls: &[u32]) -> Announced
+    requires { ⌜ draftCall * c ≤ length (now calls) ⌝ }
+    ensures { λ r. ⌜ r ≡ lastOf (opened opening) (callsOn c (now (calls .entry))) ⌝ }
+{
+    if c == 0 {
+        return Announced {
+            number: opening.number,
+            high: opening.high,
+            low: opening.low,
+        };
+    }
+    let at = DRAFT_CALL_WORDS * (c - 1) as usize;
+    Announced {
+        number: calls[at + 4],
+        high: calls[at + 5],
+        low: calls[at + 6],
+    }
+}
+
+// The call of a schedule line, where that held before it.
+fn call_by(held: Announced, line: CallLine) -> Call
+    ensures { λ r. ⌜ r ≡ callBy held line ⌝ }
+{
+    Call {
+        stop: line.stop,
+        arrival: line.arrival,
+        departure: line.departure,
+        flags: line.flags,
+        number: or_before(line.numbered, line.number, held.number),
+        high: or_before(line.administered, line.high, held.high),
+        low: or_before(line.administered, line.low, held.low),
+    }
+}
+
+// What is said, else what held before.
+fn or_before(says: bool, said: u32, before: u32) -> u32
+    ensures { λ r. ⌜ r ≡ cond says said before ⌝ }
+{
+    if says {
+        return said;
+    }
+    before
 }
 
 fn draft_range(said: Told, line: u32, counts: Counts, ranges: &mut [u32]) -> Counts
@@ -170,7 +233,7 @@ fn put_call(calls: &mut [u32], at: usize, line: u32, call: Call)
         call.departure,
         call.flags,
     );
-    calls[at + 4] = line;
+    words::put4(calls, at + 4, call.number, call.high, call.low, line);
 }
 
 fn put_range(ranges: &mut [u32], at: usize, line: u32, range: RangeLine)
@@ -255,6 +318,9 @@ pub fn call_at(calls: &[u32], at: usize) -> Call
         arrival: calls[at + 1],
         departure: calls[at + 2],
         flags: calls[at + 3],
+        number: calls[at + 4],
+        high: calls[at + 5],
+        low: calls[at + 6],
     }
 }
 
@@ -263,7 +329,7 @@ pub fn call_line(calls: &[u32], at: usize) -> u32
     requires { ⌜ at + draftCall ≤ length (now calls) ⌝ }
     ensures { λ r. ⌜ r ≡ callBack (drop at (now (calls .entry))) .0 ⌝ }
 {
-    calls[at + 4]
+    calls[at + 7]
 }
 
 // The range whose words start at a place.

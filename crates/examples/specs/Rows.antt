@@ -14,13 +14,14 @@ use Rattle.timetable.specs.Delivery.{Files, CategoryRange, Service}
 use Rattle.timetable.specs.Files.{periodIn}
 use Rattle.timetable.specs.Load.{delivered, loaded}
 use Rattle.timetable.specs.Table.{tableWords}
-use Rattle.timetable.specs.Questions.{dayAsked, interchangeAsked}
+use Rattle.timetable.specs.Questions.{rows as listed, dayAsked, interchangeAsked, walkOf}
+use Rattle.timetable.specs.declared.Call.{Call}
 use Rattle.timetable.specs.declared.DayAnswer.{DayAnswer}
 use Rattle.timetable.specs.declared.DayAnswer.the-variants.{Runs, Idle}
 use Rattle.timetable.specs.declared.InterchangeAnswer.the-variants.{Minutes}
 use Rattle.timetable.specs.declared.Loaded.{Loaded}
 use Rattle.timetable.specs.declared.Loaded.the-variants.{Accepted, Refused}
-use Rattle.examples.specs.Trial.{line, week, period, trialPeriod, bitField, categoryOverAll, daysOverAll, trial}
+use Rattle.examples.specs.Trial.{line, week, period, trialPeriod, bitField, categoryOverAll, daysOverAll, trial, changing, changingCalls, changingRows}
 
 -- what the definitions give, and what the paper says
 pub record Row : Type 1 where
@@ -56,6 +57,10 @@ starts f = gathered (λ (s : Service). map (λ (r : CategoryRange). r .legs .fro
 abbrev pub ends : Files → List ℕ
 ends f = gathered (λ (s : Service). map (λ (r : CategoryRange). r .legs .to) (s .categories)) (delivered f .services)
 
+-- what holds at each call
+abbrev pub numbers : Files → List (List ℕ)
+numbers f = gathered (λ (s : Service). map (λ (c : Call). c .number ∷ c .high ∷ c .low ∷ []) (s .calls)) (delivered f .services)
+
 -- one day, on which bit field 000001 does not run
 abbrev pub oneDay : Files
 oneDay = week (period "01.12.2025" "01.12.2025") (bitField "000001" "D8") (categoryOverAll ++ daysOverAll)
@@ -73,7 +78,7 @@ rows =
     -- "P FE4 and zeros answers 8": file 2, line 1
     ∷ row (answer (week trialPeriod (bitField "000001" "FE4") (categoryOverAll ++ daysOverAll))) (Refused 8 2 1 0 0)
     -- "P n = 1, D8 and zeros: never."
-    ∷ row (answer oneDay) (Accepted 66)
+    ∷ row (answer oneDay) (Accepted 78)
     ∷ row (days 1 oneDay) (Idle ∷ [])
     -- "P On R, to 1000022 is 3"
     ∷ row (ends (withCategory "*G BAT         1000022                                    %")) (3 ∷ [])
@@ -102,7 +107,7 @@ rows =
     (categoryOverAll
     ++ line "*A VE #0      #1                                          %"
     ++ line "*A VE #1      #3      000001                              %")))
-    (Accepted 69)
+    (Accepted 81)
     -- "P Times 2 and 3: classes 1, 1 give 2"; document 02, No. 2, in place of "classes 2, 2 give 3": "its marked case for classes 2, 2 change (now 2);
     -- classes 2, 3 give 3"
     ∷ row (interchangeAsked (tableWords (delivered trial)) 1000011 1 1) (Minutes 2)
@@ -113,10 +118,15 @@ rows =
     -- No. 13: "helper words are lent: 64, and four for each line of BITFELD, BAHNHOF and UMSTEIGB" (1, 3 and 1 lines): one too few, and enough; then
     -- with a line more of BITFELD, which is skipped and has no LF
     ∷ row (loaded trial 4096 83) (Refused 51 0 0 0 84)
-    ∷ row (loaded trial 4096 84) (Accepted 66)
+    ∷ row (loaded trial 4096 84) (Accepted 78)
     ∷ row (loaded (week trialPeriod (bitField "000001" "FE6" ++ bytes "% skipped") (categoryOverAll ++ daysOverAll)) 4096 87) (Refused 51 0 0 0 88)
     -- "51, directly after 1": before an offence of ECKDATEN's first line, and before 20
     ∷ row (loaded (week [] (bitField "000001" "FE6") (categoryOverAll ++ daysOverAll)) 4096 83) (Refused 51 0 0 0 84)
-    ∷ row (loaded trial 65 83) (Refused 51 0 0 0 84)
-    ∷ row (loaded trial 65 84) (Refused 20 0 0 0 66)
+    ∷ row (loaded trial 77 83) (Refused 51 0 0 0 84)
+    ∷ row (loaded trial 77 84) (Refused 20 0 0 0 78)
+    -- No. 5: "A blank field repeats the call before; the first call's blanks take the *Z values." 8 words of header, 26 of bit fields, 9 of stops, 3 of
+    -- the interchange record, and 11 + 28 + 3 + 6 of the service
+    ∷ row (answer changing) (Accepted 94)
+    ∷ row (numbers changing) changingCalls
+    ∷ row (walkOf (tableWords (delivered changing)) 0 0 5 12 2025) (listed changingRows)
     ∷ []

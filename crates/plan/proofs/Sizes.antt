@@ -1,4 +1,4 @@
--- A file gives no more than fifteen words for each of its bytes, so that every count fits. Assumes nothing.
+-- A file gives no more than eighteen words for each of its bytes, so that every count fits. Assumes nothing.
 use mathlib.Core.Path.{_≡_, ap, _∙_}
 use mathlib.Core.List.{List, [], _∷_, map}
 use mathlib.Core.Bool.{Bool, true, false, cond}
@@ -10,19 +10,21 @@ use Rattle.base.specs.Lists.{gathered}
 use Rattle.base.proofs.Lists.{gathered-append}
 use Rattle.lines.specs.Lines.{Line, linesAt}
 use Rattle.lines.proofs.Laws.{lines-le}
-use Rattle.timetable.specs.Layout.{mostFileBytes, serviceHead}
+use Rattle.timetable.specs.Layout.{mostFileBytes, serviceHead, callSize}
 use Rattle.timetable.specs.Delivery.{Legs, CategoryRange, DayRange, ExtraRange}
-use Rattle.timetable.specs.Plan.{toldIn, tolds, asCall, asRange, ofPart, opens, callsOf, rangesOf, partLines}
-use Rattle.timetable.specs.Service.{withLegs, legsOn, headLines, blocks, serviceOf}
+use Rattle.timetable.specs.Plan.{toldIn, tolds, asCall, asRange, ofPart, opens, rangesOf, partLines}
+use Rattle.timetable.specs.Service.{withLegs, legsOn, callsOf, headLines, blocks, serviceOf}
 use Rattle.timetable.specs.Table.{serviceWords}
 use Rattle.timetable.specs.declared.Call.{Call}
+use Rattle.timetable.specs.declared.CallLine.{CallLine}
 use Rattle.timetable.specs.declared.Part.{Part}
 use Rattle.timetable.specs.declared.Part.the-variants.{Category, Days, Extra}
 use Rattle.timetable.specs.declared.RangeLine.{RangeLine}
 use Rattle.timetable.specs.declared.Told.{Told}
 use Rattle.timetable.specs.declared.Told.the-variants.{Skip, Other, Broken, Opens, Ranges, Calls}
+use Rattle.timetable.proofs.Calls.{calls-count}
 use Rattle.timetable.proofs.Records.{service-length}
-use Rattle.plan.specs.Services.{blockWords, mostPlanWords}
+use Rattle.plan.specs.Services.{blockWords, wordsALine, mostPlanWords}
 
 -- ---- a line gives one call or one range at most
 
@@ -46,12 +48,17 @@ parts-length : (p : Part) (l : Line) (ls : List Line) → length (partLines p (l
 unfolding tolds gathered
 parts-length p l ls = ap length (gathered-append (ofPart p) (asRange (toldIn (l .text))) (rangesOf ls)) ∙ length-append (gathered (ofPart p) (asRange (toldIn (l .text)))) (partLines p ls)
 
-counts-le : (ls : List Line) → length (callsOf ls) + (length (partLines Category ls) + (length (partLines Days ls) + length (partLines Extra ls))) ≤ length ls
+-- its schedule lines and the lines of its ranges
+said-le : (ls : List Line) → length (gathered asCall (tolds ls)) + (length (partLines Category ls) + (length (partLines Days ls) + length (partLines Extra ls))) ≤ length ls
 unfolding tolds gathered
-counts-le [] = omega arith
-counts-le (l ∷ ls) =
+said-le [] = omega arith
+said-le (l ∷ ls) =
     let t = toldIn (l .text) in
-    omega (arith, told-le t, counts-le ls, length-append (asCall t) (callsOf ls), parts-length Category l ls, parts-length Days l ls, parts-length Extra l ls)
+    let cs : List CallLine = gathered asCall (tolds ls) in
+    omega (arith, told-le t, said-le ls, length-append (asCall t) cs, parts-length Category l ls, parts-length Days l ls, parts-length Extra l ls)
+
+counts-le : (ls : List Line) → length (callsOf ls) + (length (partLines Category ls) + (length (partLines Days ls) + length (partLines Extra ls))) ≤ length ls
+counts-le ls = omega (arith, calls-count ls, said-le ls)
 
 -- ---- a service, and all services
 
@@ -65,7 +72,7 @@ ranges-le f cs (r ∷ rs) = omega (arith, one (f r) (legsOn cs r), ranges-le f c
     one g none = omega arith
     one g (some x) = omega arith
 
-pub service-le : (ls : List Line) → length (serviceWords (serviceOf ls)) ≤ serviceHead + 4 * length ls
+pub service-le : (ls : List Line) → length (serviceWords (serviceOf ls)) ≤ serviceHead + callSize * length ls
 unfolding serviceOf
 service-le ls =
     let cs = callsOf ls in
@@ -79,12 +86,12 @@ service-le ls =
     )
 
 -- the lines before the first service, and the services
-blocks-le : (ls : List Line) → length (blockWords (blocks ls)) + 4 * length (headLines ls) ≤ 15 * length ls
+blocks-le : (ls : List Line) → length (blockWords (blocks ls)) + callSize * length (headLines ls) ≤ wordsALine * length ls
 unfolding blocks headLines blockWords gathered
 blocks-le [] = omega arith
 blocks-le (l ∷ ls) = go (opens l) (blocks-le ls)
   where
-    go : (t : Bool) → length (blockWords (blocks ls)) + 4 * length (headLines ls) ≤ 15 * length ls → length (blockWords (cond t ((l ∷ headLines ls) ∷ blocks ls) (blocks ls))) + 4 * length (cond t [] (l ∷ headLines ls)) ≤ 15 * length (l ∷ ls)
+    go : (t : Bool) → length (blockWords (blocks ls)) + callSize * length (headLines ls) ≤ wordsALine * length ls → length (blockWords (cond t ((l ∷ headLines ls) ∷ blocks ls) (blocks ls))) + callSize * length (cond t [] (l ∷ headLines ls)) ≤ wordsALine * length (l ∷ ls)
     go true h = omega (arith, h, service-le (l ∷ headLines ls), length-append (serviceWords (serviceOf (l ∷ headLines ls))) (gathered serviceWords (map serviceOf (blocks ls))))
     go false h = omega (arith, h)
 

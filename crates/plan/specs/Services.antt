@@ -1,11 +1,11 @@
 -- The services of FPLAN: their words, and that none has more calls or ranges than it may. Assumes nothing.
-use Prim.Native.Nat.{ℕ, _*_}
+use Prim.Native.Nat.{ℕ, _+_, _*_}
 use mathlib.Core.List.{List, map}
 use mathlib.Core.Bool.{Bool, _&&_}
 use lib.Dec.{leb}
 use Rattle.base.specs.Lists.{every, gathered}
 use Rattle.lines.specs.Lines.{Line}
-use Rattle.timetable.specs.Layout.{mostFileBytes, mostCalls, mostCategories, mostDays, mostExtras}
+use Rattle.timetable.specs.Layout.{serviceHead, callSize, mostFileBytes, mostCalls, mostCategories, mostDays, mostExtras}
 use Rattle.timetable.specs.Service.{serviceOf}
 use Rattle.timetable.specs.Table.{serviceWords}
 use Rattle.draft.specs.Draft.{countsOf}
@@ -15,9 +15,12 @@ use Rattle.draft.specs.declared.Counts.{Counts}
 unfoldable pub blockWords : List (List Line) → List ℕ
 blockWords bs = gathered serviceWords (map serviceOf bs)
 
--- no more words than this stand for a file: fifteen for each of its bytes (`words-fit`)
+-- no more words than this stand for a line, and for a file, which has no more lines than bytes (`words-fit`)
+abbrev pub wordsALine : ℕ
+wordsALine = serviceHead + callSize
+
 abbrev pub mostPlanWords : ℕ
-mostPlanWords = 15 * mostFileBytes
+mostPlanWords = wordsALine * mostFileBytes
 
 -- "13 in one service over 200 calls, 50 *G, 50 *A VE or 100 other *A": none is over
 abbrev pub within : Counts → Bool

@@ -16,8 +16,8 @@ use Rattle.lines.proofs.Laws.{walk, cutting}
 use Rattle.timetable.specs.Layout.{mostCalls}
 use Rattle.timetable.specs.Delivery.{BitField, StopRecord}
 use Rattle.timetable.specs.Offences.{given, _<|>_, first, verdictBy}
-use Rattle.timetable.specs.Plan.{toldIn, tolds, asCall, asRange, asOpening, partLines}
-use Rattle.timetable.specs.Service.{headLines, firstOpening}
+use Rattle.timetable.specs.Plan.{toldIn, tolds, asCall, asRange, asOpening, partLines, saidOn}
+use Rattle.timetable.specs.Service.{headLines, firstOpening, holding, calledOn}
 use Rattle.timetable.specs.Checks.{most, toldOffence, ownOffence}
 use Rattle.timetable.specs.declared.Offence.{Offence}
 use Rattle.timetable.specs.declared.Opening.{Opening}
@@ -28,7 +28,7 @@ use Rattle.timetable.specs.declared.Told.the-variants.{Skip, Other, Broken, Ope
 use Rattle.timetable.specs.declared.Verdict.{Verdict}
 use Rattle.timetable.specs.declared.Verdict.the-variants.{Fine, Offends}
 use Rattle.timetable.proofs.Offences.{then-none, given-none, first-none, verdict-fine, verdict-offends}
-use Rattle.draft.specs.Draft.{callsLent, rangesLent, callsOn, rangesOn, onLine, countsOf, countPart, ranges#, noCounts, counted, Within}
+use Rattle.draft.specs.Draft.{callsLent, rangesLent, callsOn, rangesOn, onLine, callsAfter, countsOf, countPart, ranges#, noCounts, counted, Within}
 use Rattle.draft.specs.declared.Counts.{Counts}
 use Rattle.draft.proofs.Drafts.{counts-more}
 use Rattle.reading.specs.Reading.{serviceAt, Boundary, NextLine, NextAs, countOf, rangeAfter, callAfter, offenceAfter}
@@ -85,7 +85,7 @@ module _ (fields : List BitField) (stops : List StopRecord) where
 
   -- so lines without an own offence are within them
   pub own-within : (ls : List Line) → first (ownOffence fields stops) [] ls ≡ none → Within (countsOf ls)
-  unfolding tolds gathered
+  unfolding tolds gathered saidOn holding calledOn
   own-within ls e = own-after [] ls e (record { calls = omega arith; categories = omega arith; days = omega arith; extras = omega arith })
 
 -- the first offence of lines, at the first of them and after it
@@ -113,7 +113,7 @@ module _ (fields : List BitField) (stops : List StopRecord) where
   module _ (f : List ℕ) (at n : ℕ) (r : Cut) (said : Told) (k : Counts) (v : Verdict)
       (h : at < length f) (e : r ≡ cutAt f at n) (d : said ≡ toldIn (take (r .stop - at) (drop at f))) (z : k ≡ noCounts) (o : v ≡ verdictBy (offenceAfter fields stops k n said)) where
     own-first : offenceAfter fields stops k n said ≡ ownOffence fields stops [] (cutLine f at n r)
-    unfolding tolds gathered
+    unfolding tolds gathered saidOn holding calledOn
     own-first = offence-next fields stops [] (cutLine f at n r) k n said (sym z) refl d
 
     first-lines : first (ownOffence fields stops) [] (serviceAt f at n)
@@ -156,7 +156,7 @@ module _ (fields : List BitField) (stops : List StopRecord) where
         clean-within = within-more fields stops k m said (p .reads .draft .within) (verdict-fine (offenceAfter fields stops k m said) v o y)
 
         pub clean-more : (k′ : Counts) (calls′ ranges′ : List ℕ) → k′ ≡ counted k said
-            → callsOn (k′ .calls) calls′ ≡ callsOn (k .calls) calls ++ onLine m (asCall said)
+            → callsOn (k′ .calls) calls′ ≡ callsAfter opening (callsOn (k .calls) calls) m (asCall said)
             → rangesOn (ranges# k′) ranges′ ≡ rangesOn (ranges# k) ranges ++ onLine m (asRange said)
             → length calls′ ≡ length calls → length ranges′ ≡ length ranges
             → Clean fields stops f at n opening next m′ k′ calls′ ranges′

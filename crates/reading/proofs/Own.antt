@@ -13,7 +13,7 @@ use Rattle.timetable.specs.Offences.{offenceAt, _<|>_, verdictBy}
 use Rattle.timetable.specs.Files.{hasField, hasStop}
 use Rattle.timetable.specs.Legs.{fieldKnown}
 use Rattle.timetable.specs.Checks.{most}
-use Rattle.timetable.specs.declared.Call.{Call}
+use Rattle.timetable.specs.declared.CallLine.{CallLine}
 use Rattle.timetable.specs.declared.Opening.{Opening}
 use Rattle.timetable.specs.declared.Part.{Part}
 use Rattle.timetable.specs.declared.Part.the-variants.{Category, Days, Extra}
@@ -99,7 +99,7 @@ module _ (fields : List BitField) (stops : List StopRecord) (k : Counts) (line :
   pub after-range : (r : RangeLine) → x ≡ Ranges r → v ≡ verdictBy (rangeAfter fields k line (r .part) (r .field)) → v ≡ verdictBy (offenceAfter fields stops k line x)
   after-range r e o = rw e o
 
-  pub after-call : (c : Call) → x ≡ Calls c → v ≡ verdictBy (callAfter stops k line (c .stop)) → v ≡ verdictBy (offenceAfter fields stops k line x)
+  pub after-call : (c : CallLine) → x ≡ Calls c → v ≡ verdictBy (callAfter stops k line (c .stop)) → v ≡ verdictBy (offenceAfter fields stops k line x)
   after-call c e o = rw e o
 
 pub after-broken : (fields : List BitField) (stops : List StopRecord) (k : Counts) (line : ℕ) (x : Told) (c : ℕ) → x ≡ Broken c → Offends (record { number = 4; line = line; column = c }) ≡ verdictBy (offenceAfter fields stops k line x)

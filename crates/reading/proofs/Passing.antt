@@ -21,18 +21,20 @@ use Rattle.forms.specs.declared.Form.{Form}
 use Rattle.forms.specs.declared.Form.the-variants.{Fits, Broken as BrokenForm}
 use Rattle.forms.specs.declared.Kind.{Kind}
 use Rattle.forms.specs.declared.Kind.the-variants.{Opening as OpeningKind, Category as CategoryKind, Attribute, Schedule, Other as OtherKind}
-use Rattle.timetable.specs.Plan.{openingIn, formed, toldBy, toldIn, isOpening, opens, tolds, asCall, asRange, asOpening, callsOf, rangesOf, ofPart, partLines}
-use Rattle.timetable.specs.Service.{headLines, blocks, firstLine, firstOpening, serviceOf}
+use Rattle.timetable.specs.Plan.{openingIn, formed, toldBy, toldIn, isOpening, opens, tolds, asCall, asRange, asOpening, rangesOf, ofPart, partLines}
+use Rattle.timetable.specs.Service.{headLines, blocks, firstLine, firstOpening, openingOf, callsOf, serviceOf}
+use Rattle.timetable.specs.declared.CallLine.{CallLine}
 use Rattle.timetable.specs.declared.Opening.{Opening}
 use Rattle.timetable.specs.declared.Part.{Part}
 use Rattle.timetable.specs.declared.Part.the-variants.{Category, Days, Extra}
 use Rattle.timetable.specs.declared.Told.{Told}
 use Rattle.timetable.specs.declared.Told.the-variants.{Skip, Other, Broken, Opens, Ranges, Calls}
+use Rattle.timetable.proofs.Calls.{calls-count}
 use Rattle.timetable.proofs.Told.{the-type}
-use Rattle.draft.specs.Draft.{callsLent, rangesLent, callsOn, rangesOn, onLine, countsOf, ranges#, noCounts, counted, Within, DraftOf}
+use Rattle.draft.specs.Draft.{callsLent, rangesLent, callsOn, rangesOn, onLine, callsAfter, countsOf, ranges#, noCounts, counted, Within, DraftOf}
 use Rattle.draft.specs.declared.Counts.{Counts}
 use Rattle.draft.specs.declared.Drafted.{Drafted}
-use Rattle.draft.proofs.Drafts.{within-none, draft-none, draft-more, counts-more}
+use Rattle.draft.proofs.Drafts.{draft-first, draft-more, opening-kept, counts-more}
 use Rattle.reading.specs.Reading.{serviceAt, Boundary, ServiceRead, NextLine, NextAs}
 use Rattle.reading.specs.declared.Next.{Next}
 use Rattle.reading.specs.declared.Next.the-variants.{Line as LineTold, End}
@@ -49,7 +51,10 @@ said-append : {X : Type 0} (say : Told → List X) (a b : List Line) → gathere
 said-append say a b = ap (gathered say) (tolds-append a b) ∙ gathered-append say (tolds a) (tolds b)
 
 calls-front : (a b : List Line) → length (callsOf a) ≤ length (callsOf (a ++ b))
-calls-front a b = omega (arith, ap length (said-append asCall a b), length-append (callsOf a) (callsOf b))
+calls-front a b =
+    let u : List CallLine = gathered asCall (tolds a) in
+    let v : List CallLine = gathered asCall (tolds b) in
+    omega (arith, calls-count a, calls-count (a ++ b), ap length (said-append asCall a b), length-append u v)
 
 part-front : (p : Part) (a b : List Line) → length (partLines p a) ≤ length (partLines p (a ++ b))
 part-front p a b =
@@ -73,6 +78,8 @@ pub record Reads (f : List ℕ) (at n : ℕ) (opening : Opening) (ls : List Line
   pub draft : DraftOf ls k calls ranges
   pub own-line : firstLine (serviceAt f at n) .no ≡ n
   pub opened : serviceOf (serviceAt f at n) .opening ≡ opening
+  pub some-line : 1 ≤ length ls
+  pub begun : openingOf ls ≡ opening
   pub start : Boundary f at n
   pub past : at < e
   pub inside : e ≤ length f
@@ -99,12 +106,7 @@ opening-says l e = go (skipped (l .text)) (toldBy (kindOf (l .text)) (l .text)) 
     go false t h = h
 
 draft-opening : (l : Line) (calls ranges : List ℕ) → opens l ≡ true → callsLent ≤ length calls → rangesLent ≤ length ranges → DraftOf (l ∷ []) noCounts calls ranges
-unfolding onLine
-draft-opening l calls ranges o c r =
-    let t : Told = toldIn (l .text) in
-    let s : (asCall t ≡ []) × (asRange t ≡ []) = opening-says l o in
-    draft-more [] noCounts noCounts calls ranges calls ranges l t (draft-none calls ranges c r) refl (rw (s .0, s .1) within-none) (rw (s .0, s .1) refl)
-    (rw (s .0, append-nil) refl) (rw (s .1, append-nil) refl) refl refl
+draft-opening l calls ranges o c r = let s : (asCall (toldIn (l .text)) ≡ []) × (asRange (toldIn (l .text)) ≡ []) = opening-says l o in draft-first l calls ranges (s .0) (s .1) c r
 
 -- ---- the needs of `opening_of`, for `search opening`
 
@@ -139,6 +141,8 @@ reads-first f at n r said opening k calls ranges b h e d o z x y =
       draft = rw z (draft-opening l calls ranges q x y);
       own-line = rw (c .step) refl;
       opened = rw (c .step, o, d) refl;
+      some-line = omega arith;
+      begun = rw (o, d) refl;
       start = b;
       past = c .past;
       inside = c .inside;
@@ -174,16 +178,18 @@ module _ (f : List ℕ) (at n : ℕ) (opening : Opening) (ls : List Line) (e m :
         rw u at v
 
     pub reads-more : (k′ : Counts) (calls′ ranges′ : List ℕ) → Within (counted k said) → k′ ≡ counted k said
-        → callsOn (k′ .calls) calls′ ≡ callsOn (k .calls) calls ++ onLine m (asCall said)
+        → callsOn (k′ .calls) calls′ ≡ callsAfter opening (callsOn (k .calls) calls) m (asCall said)
         → rangesOn (ranges# k′) ranges′ ≡ rangesOn (ranges# k) ranges ++ onLine m (asRange said)
         → length calls′ ≡ length calls → length ranges′ ≡ length ranges
         → Reads f at n opening (ls ++ (x .line ∷ [])) next m′ k′ calls′ ranges′
     reads-more k′ calls′ ranges′ w q c s i j = record {
       own = left;
       services = p .services ∙ rw (x .others) refl;
-      draft = draft-more ls k k′ calls ranges calls′ ranges′ (x .line) said (p .draft) (x .told) w q (rw (x .own-number) c) (rw (x .own-number) s) i j;
+      draft = draft-more opening ls k k′ calls ranges calls′ ranges′ (x .line) said (p .some-line) (p .begun) (p .draft) (x .told) w q (rw (x .own-number) c) (rw (x .own-number) s) i j;
       own-line = p .own-line;
       opened = p .opened;
+      some-line = omega (arith, length-append ls (x .line ∷ []));
+      begun = opening-kept opening ls (x .line) (p .some-line) (p .begun);
       start = p .start;
       past = omega (arith, p .past, x .past);
       inside = x .inside;
@@ -215,7 +221,7 @@ module _ (f : List ℕ) (at n : ℕ) (opening : Opening) (e m : ℕ) (k : Counts
   pass-within w = reads-within f at n opening (p .ls) e m k calls ranges (p .reads) said next m′ (next-is f e m r said next m′ a g) w
 
   pub pass-more : (k′ : Counts) (calls′ ranges′ : List ℕ) → Within (counted k said) → k′ ≡ counted k said
-      → callsOn (k′ .calls) calls′ ≡ callsOn (k .calls) calls ++ onLine m (asCall said)
+      → callsOn (k′ .calls) calls′ ≡ callsAfter opening (callsOn (k .calls) calls) m (asCall said)
       → rangesOn (ranges# k′) ranges′ ≡ rangesOn (ranges# k) ranges ++ onLine m (asRange said)
       → length calls′ ≡ length calls → length ranges′ ≡ length ranges
       → Passed f at n opening next m′ k′ calls′ ranges′

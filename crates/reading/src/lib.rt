@@ -121,7 +121,7 @@ pub fn read_checked(
         ) {
             return Read::Refused(offence);
         }
-        counts = draft::draft_line(said, line, counts, calls, ranges);
+        counts = draft::draft_line(opening, said, line, counts, calls, ranges);
         end = next;
         line = after;
     }
@@ -156,7 +156,7 @@ pub fn read_again(
                 no: line,
             };
         };
-        counts = draft::draft_line(said, line, counts, calls, ranges);
+        counts = draft::draft_line(opening, said, line, counts, calls, ranges);
         end = next;
         line = after;
     }

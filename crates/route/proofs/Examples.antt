@@ -15,7 +15,13 @@ use Rattle.timetable.specs.declared.End.{End}
 use Rattle.draft.specs.Draft.{callsIn}
 
 abbrev routeR : List Call
-routeR = callsIn 4 (1000011 ∷ 0 ∷ 480 ∷ 2 ∷ 5 ∷ 1000022 ∷ 490 ∷ 492 ∷ 3 ∷ 6 ∷ 1000033 ∷ 510 ∷ 515 ∷ 3 ∷ 7 ∷ 1000022 ∷ 535 ∷ 0 ∷ 1 ∷ 8 ∷ [])
+routeR =
+    callsIn 4
+    (1000011 ∷ 0 ∷ 480 ∷ 2 ∷ 42 ∷ 4605266 ∷ 5396831 ∷ 5
+    ∷ 1000022 ∷ 490 ∷ 492 ∷ 3 ∷ 42 ∷ 4605266 ∷ 5396831 ∷ 6
+    ∷ 1000033 ∷ 510 ∷ 515 ∷ 3 ∷ 42 ∷ 4605266 ∷ 5396831 ∷ 7
+    ∷ 1000022 ∷ 535 ∷ 0 ∷ 1 ∷ 42 ∷ 4605266 ∷ 5396831 ∷ 8
+    ∷ [])
 
 abbrev stop : ℕ → Detail → End
 stop n d = record { place = Stop (record { 0 = n }); detail = d }

@@ -11,6 +11,7 @@ use lib.Seq.{drop-drop}
 use lib.Dec.{eqb, leb}
 use borrow.Author.Tests.{not-true, not-false, ne-eqb, le-ltb, lt-ltb}
 use Rattle.base.proofs.Laws.{tests}
+use Rattle.timetable.specs.Layout.{serviceHead, callSize}
 use Rattle.timetable.specs.Delivery.{Delivery, Service, CategoryRange}
 use Rattle.timetable.specs.Offences.{_<|>_}
 use Rattle.timetable.specs.Files.{hasStop}
@@ -82,14 +83,14 @@ pub ruleset call = (tests, leg-fits, call-32, call-36, call-last, call-33, call-
 
 -- ---- the calls: c is the i-th
 
-pub calls-next : (s : List ℕ) (a n i : ℕ) (c : Call) → i ≤ n → c ≡ callAt (drop (11 + 4 * (a + i)) s) → callsFrom s (a + i) (n + 1 - i) ≡ c ∷ callsFrom s (a + (i + 1)) (n + 1 - (i + 1))
+pub calls-next : (s : List ℕ) (a n i : ℕ) (c : Call) → i ≤ n → c ≡ callAt (drop (serviceHead + callSize * (a + i)) s) → callsFrom s (a + i) (n + 1 - i) ≡ c ∷ callsFrom s (a + (i + 1)) (n + 1 - (i + 1))
 unfolding callsFrom
 calls-next s a n i c h e =
-    let p : 11 + 4 * (a + i) + 4 ≡ 11 + 4 * (a + (i + 1)) = omega arith in
+    let p : serviceHead + callSize * (a + i) + callSize ≡ serviceHead + callSize * (a + (i + 1)) = omega arith in
     let m : n + 1 - i - 1 ≡ n + 1 - (i + 1) = omega arith in
-    one-row callAt 4 (n + 1 - i) (drop (11 + 4 * (a + i)) s) (omega arith) ∙ rw (e, drop-drop 4 (11 + 4 * (a + i)) s, p, m) refl
+    one-row callAt callSize (n + 1 - i) (drop (serviceHead + callSize * (a + i)) s) (omega arith) ∙ rw (e, drop-drop callSize (serviceHead + callSize * (a + i)) s, p, m) refl
 
-module _ (d : Delivery) (t : Service) (s : List ℕ) (a n i before number : ℕ) (c : Call) (r : Option ℕ) (h : i ≤ n) (e : c ≡ callAt (drop (11 + 4 * (a + i)) s)) (f : noted number ≡ callFault d t a n i before c) (v : callsRefusal d t a n i before (callsFrom s (a + i) (n + 1 - i)) ≡ r) where
+module _ (d : Delivery) (t : Service) (s : List ℕ) (a n i before number : ℕ) (c : Call) (r : Option ℕ) (h : i ≤ n) (e : c ≡ callAt (drop (serviceHead + callSize * (a + i)) s)) (f : noted number ≡ callFault d t a n i before c) (v : callsRefusal d t a n i before (callsFrom s (a + i) (n + 1 - i)) ≡ r) where
   calls-here : (noted number <|> callsRefusal d t a n (i + 1) (neededLast n i c) (callsFrom s (a + (i + 1)) (n + 1 - (i + 1)))) ≡ r
   unfolding callsRefusal callFault
   calls-here = rw f (rw (calls-next s a n i c h e) at v)

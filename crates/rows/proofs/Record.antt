@@ -9,6 +9,7 @@ use lib.ListN.{length, getD, drop, length-drop}
 use lib.Seq.{getD-drop}
 use lib.Dec.{eqb}
 use Rattle.base.proofs.Laws.{tests}
+use Rattle.timetable.specs.Layout.{serviceHead, callSize}
 use Rattle.timetable.specs.Delivery.{CategoryRange}
 use Rattle.timetable.specs.Legs.{covering}
 use Rattle.timetable.specs.Table.{callAt, categoryAt, categoryPlace, serviceAt, recordSound}
@@ -54,10 +55,10 @@ module _ (s : List ℕ) (e : recordSound s ≡ true) where
   category-scaled g q leg p x f k l = omega (arith, category-inside g q leg p x f k)
 
   module _ (k : ℕ) (h : k < getD s 6 0) where
-    pub call-fits : (y : ℕ) → y ≡ k → 11 + 4 * y + 4 ≤ length s
+    pub call-fits : (y : ℕ) → y ≡ k → serviceHead + callSize * y + callSize ≤ length s
     call-fits y z = omega (arith, z, call-inside s e k h)
 
-    module _ (y : ℕ) (c : Call) (z : y ≡ k) (q : c ≡ callAt (drop (11 + 4 * y) s)) where
+    module _ (y : ℕ) (c : Call) (z : y ≡ k) (q : c ≡ callAt (drop (serviceHead + callSize * y) s)) where
       bounds : (c .arrival ≤ 59999) × (c .departure ≤ 59999) × (c .flags ≤ 15)
       bounds = call-says c (rw (q, z) (call-sound s e k h))
 
@@ -70,7 +71,7 @@ module _ (s : List ℕ) (e : recordSound s ≡ true) where
       pub call-flags : c .flags ≤ 15
       call-flags = bounds .2
 
-pub call-is : (s : List ℕ) (k y : ℕ) (c : Call) → y ≡ k → c ≡ callAt (drop (11 + 4 * y) s) → c ≡ callAt (drop (11 + 4 * k) s)
+pub call-is : (s : List ℕ) (k y : ℕ) (c : Call) → y ≡ k → c ≡ callAt (drop (serviceHead + callSize * y) s) → c ≡ callAt (drop (serviceHead + callSize * k) s)
 call-is s k y c z q = rw z at q
 
 module _ (s g : List ℕ) (leg : ℕ) (q : g ≡ drop (categoryPlace s) s) where

@@ -8,6 +8,7 @@ use native.Mathlib.Omega.{arith}
 use lib.ListN.{length, drop}
 use lib.Dec.{eqb}
 use Rattle.base.proofs.Laws.{tests}
+use Rattle.timetable.specs.Layout.{serviceHead, callSize, rowSize}
 use Rattle.timetable.specs.Delivery.{Delivery, Service}
 use Rattle.timetable.specs.Table.{rowsIn, callAt}
 use Rattle.timetable.specs.Questions.{interchangeAtStop, categoryOn, rowFlags, rowsOf}
@@ -37,15 +38,30 @@ flags-fit n i f x y h p q = omega (arith, p, q, low f (eqb i 0) h, high f (eqb i
 -- ---- a row
 
 module _ (d : Delivery) (s : Service) (a n delay i : ℕ) (c : Call) where
-  pub row-is : (t : Times) → t ≡ timesOf (interchangeAtStop d (c .stop)) → (p q f g : ℕ) → p ≡ cond (eqb i 0) 0 (c .arrival + delay) → q ≡ cond (eqb i n) 0 (c .departure + delay) → f ≡ rowFlags n i (c .flags) → g ≡ cond (eqb i n) 0 (categoryOn s (a + i)) → c .stop ∷ p ∷ q ∷ f ∷ g ∷ t .first ∷ t .second ∷ [] ≡ rowFor d s a n delay i c
+  pub row-is : (t : Times) → t ≡ timesOf (interchangeAtStop d (c .stop)) → (p q f g : ℕ) → p ≡ cond (eqb i 0) 0 (c .arrival + delay) → q ≡ cond (eqb i n) 0 (c .departure + delay) → f ≡ rowFlags n i (c .flags) → g ≡ cond (eqb i n) 0 (categoryOn s (a + i)) → c .stop ∷ p ∷ q ∷ f ∷ c .number ∷ c .high ∷ c .low ∷ g ∷ t .first ∷ t .second ∷ [] ≡ rowFor d s a n delay i c
   unfolding rowFor
   row-is t e p q f g ep eq ef eg = rw (ep, eq, ef, eg, e)
 
-pub row-written : (t u v : List ℕ) (at : ℕ) (r : Row) → at + 7 ≤ length t → u ≡ write t at (r .stop ∷ r .arrival ∷ r .departure ∷ r .flags ∷ []) → v ≡ write u (at + 4) (r .category ∷ r .first ∷ r .second ∷ []) → v ≡ write t at (rowWords r)
-row-written t u v at r h e f = f ∙ rw e (write-write t at (r .stop ∷ r .arrival ∷ r .departure ∷ r .flags ∷ []) (r .category ∷ r .first ∷ r .second ∷ []) (omega arith))
+-- four words, three and three: u, v and x are the rows after each of them
+module _ (t u : List ℕ) (at : ℕ) (r : Row) (h : at + rowSize ≤ length t) (e : u ≡ write t at (r .stop ∷ r .arrival ∷ r .departure ∷ r .flags ∷ [])) where
+  abbrev four : List ℕ
+  four = r .stop ∷ r .arrival ∷ r .departure ∷ r .flags ∷ []
 
-pub row-room : (t u : List ℕ) (at b0 b1 b2 b3 : ℕ) → at + 7 ≤ length t → u ≡ write t at (b0 ∷ b1 ∷ b2 ∷ b3 ∷ []) → at + 4 + 3 ≤ length u
-row-room t u at b0 b1 b2 b3 h e = rw (e, length-write t at (b0 ∷ b1 ∷ b2 ∷ b3 ∷ []) (omega arith)) (omega arith)
+  abbrev three : List ℕ
+  three = r .number ∷ r .high ∷ r .low ∷ []
+
+  pub row-room : at + 4 + 3 ≤ length u
+  row-room = rw (e, length-write t at four (omega arith)) (omega arith)
+
+  module _ (v : List ℕ) (f : v ≡ write u (at + 4) (r .number ∷ r .high ∷ r .low ∷ [])) where
+    seven : v ≡ write t at (four ++ three)
+    seven = f ∙ rw e (write-write t at four three (omega arith))
+
+    pub row-rest : at + 7 + 3 ≤ length v
+    row-rest = rw (seven, length-write t at (four ++ three) (omega arith)) (omega arith)
+
+    pub row-written : (x : List ℕ) → x ≡ write v (at + 7) (r .category ∷ r .first ∷ r .second ∷ []) → x ≡ write t at (rowWords r)
+    row-written x g = g ∙ rw seven (write-write t at (four ++ three) (r .category ∷ r .first ∷ r .second ∷ []) (omega arith))
 
 pub leaving-last : (last : Bool) (y : ℕ) → last ≡ true → 0 ≡ cond last 0 y
 leaving-last last y e = rw e
@@ -53,18 +69,18 @@ leaving-last last y e = rw e
 pub leaving-on : (last : Bool) (x y : ℕ) → last ≡ false → x ≡ y → x ≡ cond last 0 y
 leaving-on last x y e f = rw e f
 
-pub ruleset row = (tests, leg-fits, leaving-last, leaving-on, flags-fit, row-is, row-written, row-room)
+pub ruleset row = (tests, leg-fits, leaving-last, leaving-on, flags-fit, row-is, row-room, row-rest, row-written)
 
 -- ---- the rows: t before, u after the row of the i-th call, c
 
-module _ (t u : List ℕ) (at : ℕ) (row : Row) (g : at + 7 ≤ length t) (q : u ≡ write t at (rowWords row)) where
+module _ (t u : List ℕ) (at : ℕ) (row : Row) (g : at + rowSize ≤ length t) (q : u ≡ write t at (rowWords row)) where
   pub rows-length : length u ≡ length t
   rows-length = rw q (length-write t at (rowWords row) (omega arith))
 
-module _ (d : Delivery) (z : Service) (s t u r : List ℕ) (a n delay i at : ℕ) (c : Call) (row : Row) (h : i ≤ n) (l : ℕ) (g : 7 * (n + 1) ≤ l) (k : length t ≡ l) (w : at ≡ 7 * i) (e : c ≡ callAt (drop (11 + 4 * (a + i)) s)) (f : rowWords row ≡ rowFor d z a n delay i c) (q : u ≡ write t at (rowWords row)) where
-  pub rows-again : write t at (rowsOf d z a n delay i (callsFrom s (a + i) (n + 1 - i))) ≡ r → write u (at + 7) (rowsOf d z a n delay (i + 1) (callsFrom s (a + (i + 1)) (n + 1 - (i + 1)))) ≡ r
+module _ (d : Delivery) (z : Service) (s t u r : List ℕ) (a n delay i at : ℕ) (c : Call) (row : Row) (h : i ≤ n) (l : ℕ) (g : rowSize * (n + 1) ≤ l) (k : length t ≡ l) (w : at ≡ rowSize * i) (e : c ≡ callAt (drop (serviceHead + callSize * (a + i)) s)) (f : rowWords row ≡ rowFor d z a n delay i c) (q : u ≡ write t at (rowWords row)) where
+  pub rows-again : write t at (rowsOf d z a n delay i (callsFrom s (a + i) (n + 1 - i))) ≡ r → write u (at + rowSize) (rowsOf d z a n delay (i + 1) (callsFrom s (a + (i + 1)) (n + 1 - (i + 1)))) ≡ r
   unfolding rowsOf rowFor
-  rows-again v = write-turn t u r at 7 (rowWords row) (rowsOf d z a n delay (i + 1) (callsFrom s (a + (i + 1)) (n + 1 - (i + 1)))) q refl (omega arith) (ap (λ (vs : List ℕ). write t at (vs ++ rowsOf d z a n delay (i + 1) (callsFrom s (a + (i + 1)) (n + 1 - (i + 1))))) f ∙ (rw (calls-next s a n i c h e) at v))
+  rows-again v = write-turn t u r at rowSize (rowWords row) (rowsOf d z a n delay (i + 1) (callsFrom s (a + (i + 1)) (n + 1 - (i + 1)))) q refl (omega arith) (ap (λ (vs : List ℕ). write t at (vs ++ rowsOf d z a n delay (i + 1) (callsFrom s (a + (i + 1)) (n + 1 - (i + 1))))) f ∙ (rw (calls-next s a n i c h e) at v))
 
 pub rows-start : (d : Delivery) (z : Service) (s t : List ℕ) (a n delay : ℕ) → write t 0 (rowsOf d z a n delay 0 (callsFrom s (a + 0) (n + 1 - 0))) ≡ write t 0 (rowsOf d z a n delay 0 (callsFrom s a (n + 1)))
 rows-start d z s t a n delay = rw (add-zero a, sub-zero (n + 1))

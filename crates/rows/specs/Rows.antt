@@ -5,6 +5,7 @@ use mathlib.Core.Bool.{Bool, _&&_, _||_}
 use mathlib.Core.Option.{Option}
 use lib.ListN.{drop}
 use lib.Dec.{leb}
+use Rattle.timetable.specs.Layout.{serviceHead, callSize}
 use Rattle.timetable.specs.Delivery.{Delivery, Service}
 use Rattle.timetable.specs.Table.{rowsIn, callAt}
 use Rattle.timetable.specs.Questions.{timesNeeded, callRefusal, rowOf}
@@ -26,8 +27,8 @@ abbrev pub timeFine : Bool → Bool → ℕ → ℕ → Bool
 timeFine free stated before time = free || (stated && leb before time)
 
 abbrev pub rowWords : Row → List ℕ
-rowWords r = r .stop ∷ r .arrival ∷ r .departure ∷ r .flags ∷ r .category ∷ r .first ∷ r .second ∷ []
+rowWords r = r .stop ∷ r .arrival ∷ r .departure ∷ r .flags ∷ r .number ∷ r .high ∷ r .low ∷ r .category ∷ r .first ∷ r .second ∷ []
 
 -- m calls from the k-th on, of the words from a service's record on
 unfoldable pub callsFrom : List ℕ → ℕ → ℕ → List Call
-callsFrom s k m = rowsIn callAt 4 m (drop (11 + 4 * k) s)
+callsFrom s k m = rowsIn callAt callSize m (drop (serviceHead + callSize * k) s)

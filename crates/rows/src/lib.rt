@@ -28,6 +28,9 @@ pub struct Row {
     pub arrival: u32,
     pub departure: u32,
     pub flags: u32,
+    pub number: u32,
+    pub high: u32,
+    pub low: u32,
     pub category: u32,
     pub first: u32,
     pub second: u32,
@@ -149,7 +152,8 @@ fn put_row(t: &mut [u32], at: usize, row: Row)
     ensures { λ _. ⌜ now (t .exit) ≡ write (now (t .entry)) at (rowWords row) ⌝ }
 {
     words::put4(t, at, row.stop, row.arrival, row.departure, row.flags);
-    words::put3(t, at + 4, row.category, row.first, row.second);
+    words::put3(t, at + 4, row.number, row.high, row.low);
+    words::put3(t, at + 7, row.category, row.first, row.second);
 }
 
 // The row of a call.
@@ -166,6 +170,9 @@ fn row_of(w: &[u32], s: &[u32], start: u32, legs: u32, delay: u32, i: u32, call:
         arrival: choose(i == 0, 0, call.arrival + delay),
         departure: choose(i == legs, 0, call.departure + delay),
         flags: row_flags(legs, i, call.flags),
+        number: call.number,
+        high: call.high,
+        low: call.low,
         category: leaving(s, start + i, i == legs),
         first: times.first,
         second: times.second,

@@ -8,8 +8,7 @@ use Rattle.base.proofs.Laws.{tests}
 use Rattle.lines.specs.Lines.{Line}
 use Rattle.timetable.specs.Delivery.{BitField, StopRecord}
 use Rattle.timetable.specs.Offences.{_<|>_, first}
-use Rattle.timetable.specs.Plan.{callsOf}
-use Rattle.timetable.specs.Service.{firstLine, serviceOf}
+use Rattle.timetable.specs.Service.{firstLine, callsOf, serviceOf}
 use Rattle.timetable.specs.Checks.{ownOffence, serviceChecks, serviceFirst}
 use Rattle.timetable.specs.Table.{serviceWords}
 use Rattle.timetable.specs.declared.Offence.{Offence}

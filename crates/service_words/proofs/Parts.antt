@@ -12,7 +12,7 @@ use borrow.Author.Tests.{not-true, not-false}
 use Rattle.base.specs.Lists.{gathered}
 use Rattle.base.proofs.Laws.{tests, len-trans}
 use Rattle.words.specs.Words.{write}
-use Rattle.words.proofs.Laws.{write-none, write-write}
+use Rattle.words.proofs.Laws.{write-none, write-write, length-write}
 use Rattle.fields.specs.declared.RouteIndex.{RouteIndex}
 use Rattle.timetable.specs.Layout.{callSize}
 use Rattle.timetable.specs.Delivery.{Legs}
@@ -66,6 +66,20 @@ module _ (vs rest all t t₀ : List ℕ) (q m : ℕ) (e : all ≡ vs ++ rest) (l
     run-again : (t′ r : List ℕ) → t′ ≡ write t q vs → write t q all ≡ r → write t′ (q + length vs) rest ≡ r
     run-again t′ r z v = rw z (write-write t q vs rest run-room ∙ sym (ap (write t q) e) ∙ v)
 
+-- ---- the needs of `put_call`, for `search called`: four words, and three behind them
+
+module _ (t u : List ℕ) (q : ℕ) (c : Call) (room : q + callSize ≤ length t) (e : u ≡ write t q (c .stop ∷ c .arrival ∷ c .departure ∷ c .flags ∷ [])) where
+  abbrev four : List ℕ
+  four = c .stop ∷ c .arrival ∷ c .departure ∷ c .flags ∷ []
+
+  pub call-rest : q + 4 + 3 ≤ length u
+  call-rest = rw (e, length-write t q four (omega arith)) (omega arith)
+
+  pub seven-put : (v : List ℕ) → v ≡ write u (q + 4) (c .number ∷ c .high ∷ c .low ∷ []) → v ≡ write t q (callWords c)
+  seven-put v f = f ∙ rw e (write-write t q four (c .number ∷ c .high ∷ c .low ∷ []) (omega arith))
+
+pub ruleset called = (tests, call-rest, seven-put)
+
 -- ---- the loop of `calls_into`, for `search calling`
 
 -- the words of the calls from the i-th of c on, which is drafted at place p
@@ -89,7 +103,7 @@ module _ (c i p q m : ℕ) (w : List ℕ) where
     pub call-count : q + callSize + length (callsLeft c (i + 1) (p + draftCall) w) ≡ m
     call-count = run-count (callWords (callBack (drop p w) .1)) (callsLeft c (i + 1) (p + draftCall) w) (callsLeft c i p w) t t₀ q m call-turn len count
 
-    pub call-again : (call : Call) (t′ r : List ℕ) → call ≡ callBack (drop p w) .1 → t′ ≡ write t q (call .stop ∷ call .arrival ∷ call .departure ∷ call .flags ∷ [])
+    pub call-again : (call : Call) (t′ r : List ℕ) → call ≡ callBack (drop p w) .1 → t′ ≡ write t q (callWords call)
         → write t q (callsLeft c i p w) ≡ r → write t′ (q + callSize) (callsLeft c (i + 1) (p + draftCall) w) ≡ r
     call-again call t′ r d z v =
         run-again (callWords (callBack (drop p w) .1)) (callsLeft c (i + 1) (p + draftCall) w) (callsLeft c i p w) t t₀ q m call-turn len count room t′ r (z ∙ ap (λ (x : Call). write t q (callWords x)) d) v

@@ -2,6 +2,7 @@
 use draft::DRAFT_CALL_WORDS;
 use draft::DRAFT_RANGE_WORDS;
 use route::Found;
+use timetable::Call;
 use timetable::Opening;
 use timetable::Part;
 use timetable::RangeLine;
@@ -10,7 +11,7 @@ ghost use Prim.Native.Nat.{_+_, _-_, _*_, _/_, _≤_};
 ghost use lib.ListN.{length};
 ghost use Rattle.base.specs.Lists.{gathered};
 ghost use Rattle.words.specs.Words.{write};
-ghost use Rattle.timetable.specs.Layout.{serviceHead, categorySize, daySize, extraSize};
+ghost use Rattle.timetable.specs.Layout.{serviceHead, callSize, categorySize, daySize, extraSize};
 ghost use Rattle.timetable.specs.Plan.{isPart};
 ghost use Rattle.timetable.specs.Table.{callWords, serviceWords};
 ghost use Rattle.draft.specs.Draft.{draftCall, draftRange, callsIn, rangesIn};
@@ -113,19 +114,28 @@ fn calls_into(calls: &[u32], c: u32, table: &mut [u32], at: usize) -> usize
     let mut to = at;
     while i < c {
         let call = draft::call_at(calls, place);
-        words::put4(
-            table,
-            to,
-            call.stop,
-            call.arrival,
-            call.departure,
-            call.flags,
-        );
+        put_call(table, to, call);
         place += DRAFT_CALL_WORDS;
         to += timetable::CALL_WORDS;
         i += 1;
     }
     to
+}
+
+// Writes the words of a call.
+fn put_call(table: &mut [u32], at: usize, call: Call)
+    requires { ⌜ at + callSize ≤ length (now table) ⌝ }
+    ensures { λ _. ⌜ now (table .exit) ≡ write (now (table .entry)) at (callWords call) ⌝ }
+{
+    words::put4(
+        table,
+        at,
+        call.stop,
+        call.arrival,
+        call.departure,
+        call.flags,
+    );
+    words::put3(table, at + 4, call.number, call.high, call.low);
 }
 
 // Writes the ranges, part by part; where each part ends.

@@ -8,7 +8,7 @@ use Rattle.base.specs.Lists.{every}
 use Rattle.timetable.specs.Trial.{trialWords as words}
 use Rattle.timetable.specs.Table.{rowsIn, serviceAt, recordSound, recordsSound, headSound, isTable}
 
--- the words, words lent after them, and the most that each bound lets pass
+-- the words, words lent after them, and the most that each bound lets pass; a call's number and administration have none
 abbrev tables : List (List ℕ)
 tables =
     words
@@ -17,6 +17,7 @@ tables =
     ∷ set (set words 1 109572) 2 1
     ∷ set (set words 37 999) 38 999
     ∷ set (set (set words 45 59999) 46 59999) 47 15
+    ∷ set (set (set words 48 4294967295) 49 4294967295) 50 4294967295
     ∷ []
 
 -- one word changed in each, or two that go together
@@ -24,13 +25,13 @@ abbrev damaged : List (List ℕ)
 damaged =
     []
     ∷ take 7 words
-    ∷ take 65 words
+    ∷ take 77 words
     -- words used: 7, one more than lent, and one less than the record has
     ∷ set words 0 7
-    ∷ set words 0 67
-    ∷ set words 0 65
+    ∷ set words 0 79
+    ∷ set words 0 77
     -- a word after the last record
-    ∷ (set words 0 67 ++ (7 ∷ []))
+    ∷ (set words 0 79 ++ (7 ∷ []))
     -- n of 0 and of 381; a last day after 31.12.2199
     ∷ set words 2 0
     ∷ set words 2 381
@@ -41,8 +42,8 @@ damaged =
     -- a service more, and none
     ∷ set words 6 2
     ∷ set words 6 0
-    -- the record's word count, and 11 + 4c + 3g + 3v + 4a against it
-    ∷ set words 33 32
+    -- the record's word count, and 11 + 7c + 3g + 3v + 4a against it
+    ∷ set words 33 44
     ∷ set words 42 1
     -- repeats, offset, a time, flags
     ∷ set words 37 1000
@@ -51,9 +52,9 @@ damaged =
     ∷ set words 46 60000
     ∷ set words 47 16
     -- a range end not below c; from not below to
-    ∷ set words 62 4
-    ∷ set words 65 4
-    ∷ set words 64 3
+    ∷ set words 74 4
+    ∷ set words 77 4
+    ∷ set words 76 3
     ∷ []
 
 pub are-tables : every isTable tables ≡ true

@@ -11,6 +11,7 @@ use lib.Dec.{ltb, leb}
 use borrow.Author.Tests.{not-true, not-false}
 use Rattle.base.specs.Lists.{every}
 use Rattle.base.proofs.Laws.{tests}
+use Rattle.timetable.specs.Layout.{callSize}
 use Rattle.timetable.specs.Ranges.{inOrder}
 use Rattle.timetable.specs.Table.{rowsIn, legsAt, callAt, callSound, legsSound}
 use Rattle.timetable.specs.declared.Call.{Call}
@@ -18,19 +19,30 @@ use Rattle.timetable.proofs.Rows.{stride-turn, rows-again, rows-out, rows-done}
 
 -- ---- the rows of a record, for `search rows`
 
-pub call-is : (w : List ℕ) (p : ℕ) → record { stop = getD w p 0; arrival = getD w (p + 1) 0; departure = getD w (p + 2) 0; flags = getD w (p + 3) 0 } ≡ callAt (drop p w)
-call-is w p = rw (getD-drop p w 0 0, add-zero p, getD-drop p w 1 0, getD-drop p w 2 0, getD-drop p w 3 0)
+pub call-is : (w : List ℕ) (p : ℕ)
+    → record { stop = getD w p 0; arrival = getD w (p + 1) 0; departure = getD w (p + 2) 0; flags = getD w (p + 3) 0; number = getD w (p + 4) 0; high = getD w (p + 5) 0; low = getD w (p + 6) 0 } ≡ callAt (drop p w)
+call-is w p =
+    rw (
+      getD-drop p w 0 0,
+      add-zero p,
+      getD-drop p w 1 0,
+      getD-drop p w 2 0,
+      getD-drop p w 3 0,
+      getD-drop p w 4 0,
+      getD-drop p w 5 0,
+      getD-drop p w 6 0,
+    )
 
 -- a call y was read at p, and x says whether it is sound
-module _ (w : List ℕ) (p k : ℕ) (r x : Bool) (y : Call) (h : 0 < k) (d : y ≡ callAt (drop p w)) (e : x ≡ callSound y) (v : every callSound (rowsIn callAt 4 k (drop p w)) ≡ r) where
-  pub calls-again : not x ≡ false → every callSound (rowsIn callAt 4 (k - 1) (drop (p + 4) w)) ≡ r
-  calls-again = rows-again callSound callAt 4 w p k r x h (e ∙ ap callSound d) v
+module _ (w : List ℕ) (p k : ℕ) (r x : Bool) (y : Call) (h : 0 < k) (d : y ≡ callAt (drop p w)) (e : x ≡ callSound y) (v : every callSound (rowsIn callAt callSize k (drop p w)) ≡ r) where
+  pub calls-again : not x ≡ false → every callSound (rowsIn callAt callSize (k - 1) (drop (p + callSize) w)) ≡ r
+  calls-again = rows-again callSound callAt callSize w p k r x h (e ∙ ap callSound d) v
 
   pub calls-out : not x ≡ true → false ≡ r
-  calls-out = rows-out callSound callAt 4 w p k r x h (e ∙ ap callSound d) v
+  calls-out = rows-out callSound callAt callSize w p k r x h (e ∙ ap callSound d) v
 
-pub calls-done : (w : List ℕ) (k : ℕ) (r : Bool) → k ≤ 0 → every callSound (rowsIn callAt 4 k w) ≡ r → true ≡ r
-calls-done w k r = rows-done callSound callAt 4 w k r
+pub calls-done : (w : List ℕ) (k : ℕ) (r : Bool) → k ≤ 0 → every callSound (rowsIn callAt callSize k w) ≡ r → true ≡ r
+calls-done w k r = rows-done callSound callAt callSize w k r
 
 -- in order, by whether from may equal to
 module _ (loose : Bool) (f t : ℕ) where

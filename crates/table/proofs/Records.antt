@@ -11,6 +11,7 @@ use lib.Dec.{leb, eqb}
 use borrow.Author.Tests.{le-leb, lt-leb, eq-eqb, ne-eqb, not-true, not-false}
 use Rattle.base.specs.Lists.{every}
 use Rattle.base.proofs.Laws.{tests, by-eqb}
+use Rattle.timetable.specs.Layout.{callSize}
 use Rattle.timetable.specs.Table.{word, rowsIn, callAt, legsAt, categoryPlace, dayPlace, extraPlace, serviceAt, used, callSound, legsSound, serviceSound, countsSound, sizesSound, recordSound, recordsSound, isTable}
 use Rattle.table.specs.JustTable.{recordEnd, headerSound}
 use Rattle.table.proofs.Says.{Sizes, sizes-say, record-says, service-parts, HeadOf, head-says, table-says}
@@ -43,7 +44,7 @@ module _ (w : List ℕ) (a : getD w 4 0 ≤ 999) where
   pub parts-offset : 999 < getD w 5 0 → false ≡ serviceSound (serviceAt w)
   parts-offset h = sym (service-parts w ∙ rw (le-leb (getD w 4 0) 999 a, lt-leb (getD w 5 0) 999 h))
 
-  module _ (b : getD w 5 0 ≤ 999) (x : Bool) (e : x ≡ every callSound (rowsIn callAt 4 (getD w 6 0) (drop 11 w))) where
+  module _ (b : getD w 5 0 ≤ 999) (x : Bool) (e : x ≡ every callSound (rowsIn callAt callSize (getD w 6 0) (drop 11 w))) where
     pub parts-calls : not x ≡ true → false ≡ serviceSound (serviceAt w)
     parts-calls n = sym (service-parts w ∙ rw (le-leb (getD w 4 0) 999 a, le-leb (getD w 5 0) 999 b, sym e ∙ not-true x n))
 

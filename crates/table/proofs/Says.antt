@@ -12,7 +12,7 @@ use borrow.Author.Tests.{leb-true, eqb-true}
 use Rattle.base.specs.Lists.{every}
 use Rattle.base.proofs.Loops.{and-true}
 use Rattle.calendar.specs.Calendar.{lastDay}
-use Rattle.timetable.specs.Layout.{firstService}
+use Rattle.timetable.specs.Layout.{callSize, firstService}
 use Rattle.timetable.specs.Delivery.{CategoryRange, DayRange, ExtraRange}
 use Rattle.timetable.specs.Table.{word, rowsIn, callAt, legsAt, categoryAt, dayAt, extraAt, calls#, categories#, days#, extras#, categoryPlace, dayPlace, extraPlace, serviceAt, used, callSound, legsSound, serviceSound, countsSound, sizesSound, recordSound, recordsSound, headSound, isTable}
 use Rattle.timetable.specs.declared.Call.{Call}
@@ -48,22 +48,22 @@ sizes-say w e =
     }
 
 -- what it holds, read by its sections
-pub service-parts : (w : List ℕ) → serviceSound (serviceAt w) ≡ (leb (word w 4) 999 && (leb (word w 5) 999 && (every callSound (rowsIn callAt 4 (calls# w) (drop 11 w)) && (every (legsSound false (calls# w)) (rowsIn (legsAt 1) 3 (categories# w) (drop (categoryPlace w) w)) && (every (legsSound false (calls# w)) (rowsIn (legsAt 1) 3 (days# w) (drop (dayPlace w) w)) && every (legsSound true (calls# w)) (rowsIn (legsAt 2) 4 (extras# w) (drop (extraPlace w) w)))))))
+pub service-parts : (w : List ℕ) → serviceSound (serviceAt w) ≡ (leb (word w 4) 999 && (leb (word w 5) 999 && (every callSound (rowsIn callAt callSize (calls# w) (drop 11 w)) && (every (legsSound false (calls# w)) (rowsIn (legsAt 1) 3 (categories# w) (drop (categoryPlace w) w)) && (every (legsSound false (calls# w)) (rowsIn (legsAt 1) 3 (days# w) (drop (dayPlace w) w)) && every (legsSound true (calls# w)) (rowsIn (legsAt 2) 4 (extras# w) (drop (extraPlace w) w)))))))
 unfolding serviceAt
 service-parts w =
     let c = calls# w in
-    rw (length-rows callAt 4 c (drop 11 w), rows-as (legsSound false c) (λ (r : CategoryRange). r .legs) categoryAt 3 (categories# w) (drop (categoryPlace w) w), rows-as (legsSound false c) (λ (r : DayRange). r .legs) dayAt 3 (days# w) (drop (dayPlace w) w), rows-as (legsSound true c) (λ (r : ExtraRange). r .legs) extraAt 4 (extras# w) (drop (extraPlace w) w))
+    rw (length-rows callAt callSize c (drop 11 w), rows-as (legsSound false c) (λ (r : CategoryRange). r .legs) categoryAt 3 (categories# w) (drop (categoryPlace w) w), rows-as (legsSound false c) (λ (r : DayRange). r .legs) dayAt 3 (days# w) (drop (dayPlace w) w), rows-as (legsSound true c) (λ (r : ExtraRange). r .legs) extraAt 4 (extras# w) (drop (extraPlace w) w))
 
 pub record Bounds (w : List ℕ) : Type 0 where
   pub repeats : word w 4 ≤ 999
   pub offset : word w 5 ≤ 999
-  pub calls : every callSound (rowsIn callAt 4 (calls# w) (drop 11 w)) ≡ true
+  pub calls : every callSound (rowsIn callAt callSize (calls# w) (drop 11 w)) ≡ true
 
 pub service-says : (w : List ℕ) → serviceSound (serviceAt w) ≡ true → Bounds w
 service-says w e =
     let (r, e1) = and-true (leb (word w 4) 999) _ (sym (service-parts w) ∙ e) in
     let (o, e2) = and-true (leb (word w 5) 999) _ e1 in
-    let cs = and-true (every callSound (rowsIn callAt 4 (calls# w) (drop 11 w))) _ e2 .0 in
+    let cs = and-true (every callSound (rowsIn callAt callSize (calls# w) (drop 11 w))) _ e2 .0 in
     record { repeats = leb-true (word w 4) 999 r; offset = leb-true (word w 5) 999 o; calls = cs }
 
 pub record-says : (w : List ℕ) → recordSound w ≡ true → Sizes w × Bounds w
@@ -74,11 +74,11 @@ record-says w e =
 
 -- the i-th of its calls: it is within the words, and sound
 module _ (w : List ℕ) (e : recordSound w ≡ true) (i : ℕ) where
-  pub call-inside : i < calls# w → 11 + 4 * i + 4 ≤ length w
+  pub call-inside : i < calls# w → 11 + callSize * i + callSize ≤ length w
   call-inside h = omega (arith, record-says w e .0 .inside)
 
-  pub call-sound : i < calls# w → callSound (callAt (drop (11 + 4 * i) w)) ≡ true
-  call-sound h = rw (drop-drop (4 * i) 11 w) at (every-row callSound callAt 4 (calls# w) i (drop 11 w) (record-says w e .1 .calls) h)
+  pub call-sound : i < calls# w → callSound (callAt (drop (11 + callSize * i) w)) ≡ true
+  call-sound h = rw (drop-drop (callSize * i) 11 w) at (every-row callSound callAt callSize (calls# w) i (drop 11 w) (record-says w e .1 .calls) h)
 
 -- what a sound call says
 pub call-says : (c : Call) → callSound c ≡ true → (c .arrival ≤ 59999) × (c .departure ≤ 59999) × (c .flags ≤ 15)

@@ -300,6 +300,9 @@ pub fn call_at(w: &[u32], p: usize) -> Call
         arrival: w[p + 1],
         departure: w[p + 2],
         flags: w[p + 3],
+        number: w[p + 4],
+        high: w[p + 5],
+        low: w[p + 6],
     }
 }
 

@@ -1,4 +1,5 @@
 pub mod Lines
+pub mod Calls
 pub mod Offences
 pub mod Records
 pub mod Rows

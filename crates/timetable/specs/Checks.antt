@@ -12,11 +12,12 @@ use Rattle.timetable.specs.Layout.{mostCalls, mostCategories, mostDays, 
 use Rattle.timetable.specs.Delivery.{BitField, StopRecord, Legs, CategoryRange, DayRange, Service}
 use Rattle.timetable.specs.Offences.{offenceAt, given, formOffence, _<|>_, first}
 use Rattle.timetable.specs.Files.{hasStop}
-use Rattle.timetable.specs.Plan.{toldIn, asCall, asRange, callsOf, partLines, saidOn}
+use Rattle.timetable.specs.Plan.{toldIn, asRange, partLines, saidOn}
 use Rattle.timetable.specs.Ranges.{hasArrival, hasDeparture}
-use Rattle.timetable.specs.Service.{headLines, blocks, firstLine, serviceOf, legsOn}
+use Rattle.timetable.specs.Service.{headLines, blocks, firstLine, calledOn, callsOf, serviceOf, legsOn}
 use Rattle.timetable.specs.Legs.{covering, fieldKnown, stretches, legCount, operatedLegs}
 use Rattle.timetable.specs.declared.Call.{Call}
+use Rattle.timetable.specs.declared.CallLine.{CallLine}
 use Rattle.timetable.specs.declared.Offence.{Offence}
 use Rattle.timetable.specs.declared.Part.{Part}
 use Rattle.timetable.specs.declared.Part.the-variants.{Category, Days, Extra}
@@ -40,7 +41,7 @@ module _ (fields : List BitField) (stops : List StopRecord) where
       given (leb (most (r .part)) (length (partLines (r .part) before))) 13 line <|> given (not (fieldKnown (r .field) fields)) 10 line
 
   -- "13 in one service over 200 calls"; "9 .. schedule stop not in BAHNHOF"
-  abbrev pub callOffence : List Line → ℕ → Call → Option Offence
+  abbrev pub callOffence : List Line → ℕ → CallLine → Option Offence
   callOffence before line c = given (leb mostCalls (length (callsOf before))) 13 line <|> given (not (hasStop (c .stop) stops)) 9 line
 
   -- "11 other line kind"; "4 a field or unnamed column breaks the form"; then those
@@ -117,7 +118,7 @@ legsFirst fields n line s =
 unfoldable pub serviceChecks : List BitField → ℕ → List Line → Option Offence
 serviceChecks fields n ls =
     given (ltb (length (callsOf ls)) 2) 14 (firstLine ls .no)
-    <|> timesFirst (length (callsOf ls)) 0 0 (saidOn asCall ls)
+    <|> timesFirst (length (callsOf ls)) 0 0 (calledOn ls)
     <|> endsFirst (callsOf ls) (saidOn asRange ls)
     <|> legsFirst fields n (firstLine ls .no) (serviceOf ls)
 

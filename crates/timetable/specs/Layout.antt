@@ -24,9 +24,9 @@ interchangeSize = 3
 abbrev pub serviceHead : ℕ
 serviceHead = 11
 
--- "calls of 4"
+-- document 02, No. 5: "Each call grows from 4 to 7 words". It replaces document 01's "calls of 4".
 abbrev pub callSize : ℕ
-callSize = 4
+callSize = 7
 
 -- "*G of 3"
 abbrev pub categorySize : ℕ
@@ -40,9 +40,9 @@ daySize = 3
 abbrev pub extraSize : ℕ
 extraSize = 4
 
--- "Rows of 7"
+-- document 02, No. 5: "Rows grow to 10 in the same way". It replaces document 01's "Rows of 7".
 abbrev pub rowSize : ℕ
-rowSize = 7
+rowSize = 10
 
 -- No. 13: "helper words are lent: 64, and four for each line of BITFELD, BAHNHOF and UMSTEIGB"
 abbrev pub helperHead : ℕ
@@ -51,7 +51,8 @@ helperHead = 64
 abbrev pub helperLine : ℕ
 helperLine = 4
 
--- the words of a service with c calls, g *G, v *A VE and a other *A: "11 + 4c + 3g + 3v + 4a"
+-- the words of a service with c calls, g *G, v *A VE and a other *A: "11 + 4c + 3g + 3v + 4a"; by document 02's No. 5, "the counts in 21 and 29
+-- follow": 11 + 7c + 3g + 3v + 4a
 abbrev pub recordSize : ℕ → ℕ → ℕ → ℕ → ℕ
 recordSize c g v a = serviceHead + callSize * c + categorySize * g + daySize * v + extraSize * a
 

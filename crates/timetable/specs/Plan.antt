@@ -1,10 +1,10 @@
 -- FPLAN, line by line: what each kind of line says. The columns are those of forms/specs/Columns, said again where they are read. Assumes nothing.
 use Prim.Native.Nat.{ℕ, _+_, _*_}
 use mathlib.Core.List.{List, [], _∷_, map}
-use mathlib.Core.Bool.{Bool, true, false, cond}
+use mathlib.Core.Bool.{Bool, true, false, cond, not}
 use lib.Dec.{eqb}
 use Rattle.base.specs.Lists.{gathered}
-use Rattle.columns.specs.Columns.{columns, column, number}
+use Rattle.columns.specs.Columns.{columns, column, blank, number}
 use Rattle.lines.specs.Lines.{Line, skipped}
 use Rattle.fields.specs.Fields.{time, rangeEnd, detail}
 use Rattle.fields.specs.declared.Time.{Time}
@@ -17,7 +17,7 @@ use Rattle.forms.specs.Kinds.{kindOf}
 use Rattle.forms.specs.declared.Kind.{Kind}
 use Rattle.forms.specs.declared.Kind.the-variants.{Opening as OpeningKind, Category as CategoryKind, Attribute, Schedule, Other as OtherKind}
 use Rattle.timetable.specs.declared.Opening.{Opening}
-use Rattle.timetable.specs.declared.Call.{Call}
+use Rattle.timetable.specs.declared.CallLine.{CallLine}
 use Rattle.timetable.specs.declared.Part.{Part}
 use Rattle.timetable.specs.declared.Part.the-variants.{Category, Days, Extra}
 use Rattle.timetable.specs.declared.RangeLine.{RangeLine}
@@ -84,13 +84,19 @@ flagsOf f Absent = 0
 flagsOf f (Stated minutes barred) = f + cond barred (4 * f) 0
 flagsOf f NoTime = 0
 
--- "schedule: 1-7 digits, .., 30-35 arrival, 37-42 departure"
-abbrev pub callIn : List ℕ → Call
+-- "schedule: 1-7 digits, .., 30-35 arrival, 37-42 departure, 44-48 digits or blank, 50-55 all or no blanks"; document 02, No. 5: "Columns 44-48 and
+-- 50-55 of schedule lines are now kept", the number and the administration, each of which may be blank without the other
+abbrev pub callIn : List ℕ → CallLine
 callIn text = record {
   stop = number (columns 1 7 text);
   arrival = minutesOf (time (columns 30 35 text));
   departure = minutesOf (time (columns 37 42 text));
   flags = flagsOf 1 (time (columns 30 35 text)) + flagsOf 2 (time (columns 37 42 text));
+  numbered = not (blank (columns 44 48 text));
+  number = number (columns 44 48 text);
+  administered = not (blank (columns 50 55 text));
+  high = threeBytes 50 text;
+  low = threeBytes 53 text;
 }
 
 -- a line of a kind says what is read from it, if it has the form
@@ -127,7 +133,7 @@ tolds (l ∷ ls) = toldIn (l .text) ∷ tolds ls
 
 -- ---- what is said of each kind. "Only schedule lines are taken as calls; every other kind is passed over when the route is gathered."
 
-abbrev pub asCall : Told → List Call
+abbrev pub asCall : Told → List CallLine
 asCall Skip = []
 asCall Other = []
 asCall (Broken c) = []
@@ -150,9 +156,6 @@ asRange (Broken c) = []
 asRange (Opens o) = []
 asRange (Ranges r) = r ∷ []
 asRange (Calls c) = []
-
-abbrev pub callsOf : List Line → List Call
-callsOf ls = gathered asCall (tolds ls)
 
 abbrev pub rangesOf : List Line → List RangeLine
 rangesOf ls = gathered asRange (tolds ls)

@@ -155,14 +155,18 @@ abbrev pub rowFlags : ℕ → ℕ → ℕ → ℕ
 rowFlags n i f = cond (eqb i 0) 0 (f % 2 + f / 4 % 2 * 4) + cond (eqb i n) 0 (f / 2 % 2 * 2 + f / 8 * 8)
 
 -- "Rows of 7: stop, arrival, departure (each plus repeat times offset), flags, category of the leaving leg, the stop's two interchange times.
--- First row: arrival 0 .. Last: departure 0, .. category 0." The i-th row of a stretch that begins at call a and has n legs; `delay` is repeat
--- times offset. "The date is that of the start; minutes may pass 1,440."
+-- First row: arrival 0 .. Last: departure 0, .. category 0." Document 02, No. 5: "Rows grow to 10 in the same way": number and the two administration
+-- words follow the flags; no row clears them. The i-th row of a stretch that begins at call a and has n legs; `delay` is repeat times offset. "The
+-- date is that of the start; minutes may pass 1,440."
 abbrev pub rowOf : Delivery → Service → ℕ → ℕ → ℕ → ℕ → Call → List ℕ
 rowOf d s a n delay i c =
     c .stop
     ∷ cond (eqb i 0) 0 (c .arrival + delay)
     ∷ cond (eqb i n) 0 (c .departure + delay)
     ∷ rowFlags n i (c .flags)
+    ∷ c .number
+    ∷ c .high
+    ∷ c .low
     ∷ cond (eqb i n) 0 (categoryOn s (a + i))
     ∷ interchangeAtStop d (c .stop) .firstTime
     ∷ interchangeAtStop d (c .stop) .secondTime

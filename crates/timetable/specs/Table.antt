@@ -25,10 +25,12 @@ stopWords s = s .number ∷ s .offset ∷ s .size ∷ []
 abbrev pub interchangeWords : Interchange → List ℕ
 interchangeWords c = c .number ∷ c .firstTime ∷ c .secondTime ∷ []
 
--- "calls of 4 (stop, arrival, departure, flags ..), *G of 3 (category .., from, to), *A VE of 3 (bit field, from, to), other of 4 (code .., bit field, from, to)"
+-- "calls of 4 (stop, arrival, departure, flags ..)"; document 02, No. 5: "Each call grows from 4 to 7 words: number and the two administration words
+-- follow the flags."
 abbrev pub callWords : Call → List ℕ
-callWords c = c .stop ∷ c .arrival ∷ c .departure ∷ c .flags ∷ []
+callWords c = c .stop ∷ c .arrival ∷ c .departure ∷ c .flags ∷ c .number ∷ c .high ∷ c .low ∷ []
 
+-- "*G of 3 (category .., from, to), *A VE of 3 (bit field, from, to), other of 4 (code .., bit field, from, to)"
 abbrev pub categoryWords : CategoryRange → List ℕ
 categoryWords r = r .name ∷ r .legs .from ∷ r .legs .to ∷ []
 
@@ -94,7 +96,7 @@ abbrev pub interchangeAt : List ℕ → Interchange
 interchangeAt w = record { number = word w 0; firstTime = word w 1; secondTime = word w 2 }
 
 abbrev pub callAt : List ℕ → Call
-callAt w = record { stop = word w 0; arrival = word w 1; departure = word w 2; flags = word w 3 }
+callAt w = record { stop = word w 0; arrival = word w 1; departure = word w 2; flags = word w 3; number = word w 4; high = word w 5; low = word w 6 }
 
 -- the legs in the words k and k + 1
 abbrev pub legsAt : ℕ → List ℕ → Legs
@@ -211,7 +213,8 @@ serviceSound s =
 abbrev pub countsSound : ℕ → ℕ → ℕ → ℕ → Bool
 countsSound c g v a = leb 2 c && (leb c mostCalls && (leb g mostCategories && (leb v mostDays && leb a mostExtras)))
 
--- the record at the front of the words: 11 words, counts in their bounds, "a count differs from 11 + 4c + 3g + 3v + 4a", and not past the words' end
+-- the record at the front of the words: 11 words, counts in their bounds, "a count differs from 11 + 4c + 3g + 3v + 4a" (with document 02's No. 5,
+-- from 11 + 7c + 3g + 3v + 4a), and not past the words' end
 abbrev pub sizesSound : List ℕ → Bool
 sizesSound w =
     leb serviceHead (length w) && (countsSound (calls# w) (categories# w) (days# w) (extras# w)

@@ -21,12 +21,18 @@ pub struct Opening {
     pub offset: u32,
 }
 
-// A schedule line: stop, times, and flags (1 arrival stated, 2 departure stated, 4 no alighting, 8 no boarding).
-pub struct Call {
+// A schedule line: stop, times, and flags (1 arrival stated, 2 departure stated, 4 no alighting, 8 no boarding); a number, where it says one, and an
+// administration (two words of three bytes), where it says one.
+pub struct CallLine {
     pub stop: u32,
     pub arrival: u32,
     pub departure: u32,
     pub flags: u32,
+    pub numbered: bool,
+    pub number: u32,
+    pub administered: bool,
+    pub high: u32,
+    pub low: u32,
 }
 
 // Where a range starts or ends, as its line says it; the detail counts only beside a stop.
@@ -63,7 +69,27 @@ pub enum Told {
     Broken(usize),
     Opens(Opening),
     Ranges(RangeLine),
-    Calls(Call),
+    Calls(CallLine),
+}
+
+// ---- calls
+
+// What conductors announce: the number and the administration that hold at a call.
+pub struct Announced {
+    pub number: u32,
+    pub high: u32,
+    pub low: u32,
+}
+
+// A call of a service: what its line says of stop, times and flags, and the number and the administration that hold there.
+pub struct Call {
+    pub stop: u32,
+    pub arrival: u32,
+    pub departure: u32,
+    pub flags: u32,
+    pub number: u32,
+    pub high: u32,
+    pub low: u32,
 }
 
 // ---- offences
@@ -151,7 +177,7 @@ pub const INTERCHANGE_WORDS: usize = 3;
 
 pub const SERVICE_WORDS: usize = 11;
 
-pub const CALL_WORDS: usize = 4;
+pub const CALL_WORDS: usize = 7;
 
 pub const CATEGORY_WORDS: usize = 3;
 
@@ -159,7 +185,7 @@ pub const DAYS_WORDS: usize = 3;
 
 pub const EXTRA_WORDS: usize = 4;
 
-pub const ROW_WORDS: usize = 7;
+pub const ROW_WORDS: usize = 10;
 
 // The helper words that a load is lent: these, and for each line of BITFELD, BAHNHOF and UMSTEIGB those.
 pub const HELPER_HEAD_WORDS: usize = 64;

@@ -8,7 +8,7 @@ use lib.ListN.{length, getD, drop}
 use lib.Dec.{eqb}
 use Rattle.base.proofs.Laws.{tests, clash}
 use Rattle.base.specs.Lists.{every}
-use Rattle.columns.specs.Columns.{columns, column, number, isBlank, blank, isOf}
+use Rattle.columns.specs.Columns.{columns, column, isBlank, blank, isOf}
 use Rattle.columns.specs.declared.Class.the-variants.{Byte}
 use Rattle.fields.specs.Fields.{time}
 use Rattle.fields.specs.declared.Time.{Time}
@@ -20,7 +20,7 @@ use Rattle.forms.specs.declared.Form.{Form}
 use Rattle.forms.specs.declared.Form.the-variants.{Fits, Broken as BrokenForm}
 use Rattle.timetable.specs.Layout.{mostFileBytes}
 use Rattle.timetable.specs.Plan.{callIn, formed}
-use Rattle.timetable.specs.declared.Call.{Call}
+use Rattle.timetable.specs.declared.CallLine.{CallLine}
 use Rattle.timetable.specs.declared.Told.the-variants.{Calls}
 use Rattle.told.specs.Calls.{headFits, tailFits, endFits, callWith}
 
@@ -97,8 +97,8 @@ module _ (l : List ℕ) (a d : Time) (t f : Bool) (h : length l ≤ mostFileByte
   same : fits callColumns l ≡ f
   same = call-fits l h ∙ sym (ef ∙ rw (ea, ed, et))
 
-  pub usual-fits : (n : ℕ) (k : Call) → f ≡ true → n ≡ number (columns 1 7 l) → k ≡ callWith n a d → Calls k ≡ formed (formOf callColumns l) (Calls (callIn l))
-  usual-fits n k y i e = rw (fit (formOf callColumns l) (same ∙ y), e, i, ea, ed)
+  pub usual-fits : (k : CallLine) → f ≡ true → k ≡ callWith l a d → Calls k ≡ formed (formOf callColumns l) (Calls (callIn l))
+  usual-fits k y e = rw (fit (formOf callColumns l) (same ∙ y), e, ea, ed)
 
 pub ruleset chains = (tests, and-true, and-false, or-blank, or-other, byte-test)
 

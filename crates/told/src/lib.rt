@@ -4,7 +4,7 @@ use fields::Time;
 use forms::Form;
 use forms::Kind;
 use forms::LineKind;
-use timetable::Call;
+use timetable::CallLine;
 use timetable::End;
 use timetable::Ends;
 use timetable::Opening;
@@ -12,7 +12,7 @@ use timetable::Part;
 use timetable::RangeLine;
 use timetable::Told;
 ghost use mathlib.Core.Path.{_≡_};
-ghost use mathlib.Core.Bool.{_||_};
+ghost use mathlib.Core.Bool.{not, _||_};
 ghost use Prim.Native.Nat.{_+_, _-_, _≤_, _<_};
 ghost use lib.ListN.{length};
 ghost use lib.Dec.{eqb};
@@ -371,7 +371,7 @@ fn usual_call(text: &[u8]) -> Told
     let arrival = time_at(text, 30, 35);
     let departure = time_at(text, 37, 42);
     if head_fits(text, arrival, departure, tail_fits(text)) {
-        return Told::Calls(call_of(columns::number_in(text, 1, 7), arrival, departure));
+        return Told::Calls(call_of(text, arrival, departure));
     }
     tabled_call(text)
 }
@@ -493,24 +493,36 @@ fn is_time(t: Time) -> bool
     }
 }
 
-fn call_in(text: &[u8]) -> Call
+fn call_in(text: &[u8]) -> CallLine
     ensures { λ r. ⌜ r ≡ callIn (now (text .entry)) ⌝ }
 {
     let arrival = fields::time_in(text, 30, 35);
     let departure = fields::time_in(text, 37, 42);
-    call_of(columns::number_in(text, 1, 7), arrival, departure)
+    call_of(text, arrival, departure)
 }
 
-// The call at a stop, by its times.
-fn call_of(stop: u32, arrival: Time, departure: Time) -> Call
-    ensures { λ r. ⌜ r ≡ callWith stop arrival departure ⌝ }
+// What a schedule line says, where its two times were read.
+fn call_of(text: &[u8], arrival: Time, departure: Time) -> CallLine
+    ensures { λ r. ⌜ r ≡ callWith (now (text .entry)) arrival departure ⌝ }
 {
-    Call {
-        stop,
+    CallLine {
+        stop: columns::number_in(text, 1, 7),
         arrival: minutes_of(arrival),
         departure: minutes_of(departure),
         flags: flags_of(1, arrival) + flags_of(2, departure),
+        numbered: filled_in(text, 44, 48),
+        number: columns::number_in(text, 44, 48),
+        administered: filled_in(text, 50, 55),
+        high: three_bytes(text, 50),
+        low: three_bytes(text, 53),
     }
+}
+
+// Whether columns a to b are not all blank.
+fn filled_in(text: &[u8], a: usize, b: usize) -> bool
+    ensures { λ r. ⌜ r ≡ not (blank (columns a b (now (text .entry)))) ⌝ }
+{
+    !columns::every_in(text, a, b, Class::Byte(b' '))
 }
 
 // The minutes of a stated time, else 0.

@@ -16,30 +16,31 @@ use Rattle.timetable.specs.Trial.{trialWords as words}
 
 -- the trial week with other operating days: `ranges` (bit field, from, to)
 abbrev withDays : ℕ → List ℕ → List ℕ
-withDays n ranges = set (set (set (take 63 words) 0 (63 + 3 * n)) 33 (30 + 3 * n)) 41 n ++ ranges
+withDays n ranges = set (set (set (take 75 words) 0 (75 + 3 * n)) 33 (42 + 3 * n)) 41 n ++ ranges
 
 -- 05.12.2025 is a Friday; the service runs Monday to Friday
-pub walks : (walked words 0 0 5 12 2025 28 ≡ Listed 4)
+pub walks : (walked words 0 0 5 12 2025 40 ≡ Listed 4)
     × (walked words 0 0 6 12 2025 0 ≡ NotRunning)
-    × (walked words 0 0 5 12 2025 27 ≡ Refused 29 28)
-    × (walked (take 65 words) 1 1 31 11 2025 0 ≡ Refused 21 0)
+    × (walked words 0 0 5 12 2025 39 ≡ Refused 29 40)
+    × (walked (take 77 words) 1 1 31 11 2025 0 ≡ Refused 21 0)
     × (walked words 1 1 31 11 2025 0 ≡ Refused 22 0)
     × (walked words 1 1 8 12 2025 0 ≡ Refused 23 0)
     × (walked words 1 1 5 12 2025 0 ≡ Refused 24 0)
     × (walked words 0 1 5 12 2025 0 ≡ Refused 25 0)
-    × (walked (set (set words 65 2) 63 7) 0 0 5 12 2025 0 ≡ Refused 31 0)
-    × (walked (set words 65 2) 0 0 6 12 2025 0 ≡ Refused 34 0)
+    × (walked (set (set words 77 2) 75 7) 0 0 5 12 2025 0 ≡ Refused 31 0)
+    × (walked (set words 77 2) 0 0 6 12 2025 0 ≡ Refused 34 0)
     × (walked (set (set words 44 5) 47 0) 0 0 5 12 2025 0 ≡ Refused 32 0)
-    × (walked (set (set words 47 0) 61 1) 0 0 5 12 2025 0 ≡ Refused 36 0)
-    × (walked (set words 49 479) 0 0 5 12 2025 0 ≡ Refused 36 0)
-    × (walked (set words 62 2) 0 0 5 12 2025 0 ≡ Refused 33 0)
+    × (walked (set (set words 47 0) 73 1) 0 0 5 12 2025 0 ≡ Refused 36 0)
+    × (walked (set words 52 479) 0 0 5 12 2025 0 ≡ Refused 36 0)
+    × (walked (set words 74 2) 0 0 5 12 2025 0 ≡ Refused 33 0)
     × (walked (withDays 3 (0 ∷ 0 ∷ 1 ∷ 1 ∷ 1 ∷ 2 ∷ 0 ∷ 2 ∷ 3 ∷ [])) 0 0 6 12 2025 0 ≡ Refused 35 0)
-    × (walked (withDays 3 (0 ∷ 0 ∷ 1 ∷ 1 ∷ 1 ∷ 2 ∷ 0 ∷ 2 ∷ 3 ∷ [])) 0 0 5 12 2025 28 ≡ Listed 4)
+    × (walked (withDays 3 (0 ∷ 0 ∷ 1 ∷ 1 ∷ 1 ∷ 2 ∷ 0 ∷ 2 ∷ 3 ∷ [])) 0 0 5 12 2025 40 ≡ Listed 4)
 unfolding every some-of countIf find upto bit yearsBefore monthsBefore exists dayOf _<|>_ fieldRuns stretches rowsIn serviceAt servicesIn tableOf recordSound recordsSound headSound isTable interchangeAtStop firstRefusal idleLegs leadingLegs callsRefusal rowsOf journey walkOf
 walks = (refl, refl, refl, refl, refl, refl, refl, refl, refl, refl, refl, refl, refl, refl, refl, refl)
 
--- on a Saturday only the last leg runs, here in the second repeat, 60 minutes later each; the words after the rows stay
-pub last-leg : walkRows (set (set (withDays 2 (1 ∷ 0 ∷ 2 ∷ 0 ∷ 2 ∷ 3 ∷ [])) 37 2) 38 60) 0 2 6 12 2025 (replicate 16 9)
-    ≡ 1000033 ∷ 0 ∷ 635 ∷ 2 ∷ 4342100 ∷ 2 ∷ 3 ∷ 1000022 ∷ 655 ∷ 0 ∷ 1 ∷ 0 ∷ 2 ∷ 3 ∷ 9 ∷ 9 ∷ []
+-- on a Saturday only the last leg runs, here in the second repeat, 60 minutes later each, and with number 43 at its first call; the words after the
+-- rows stay
+pub last-leg : walkRows (set (set (set (withDays 2 (1 ∷ 0 ∷ 2 ∷ 0 ∷ 2 ∷ 3 ∷ [])) 37 2) 38 60) 62 43) 0 2 6 12 2025 (replicate 22 9)
+    ≡ 1000033 ∷ 0 ∷ 635 ∷ 2 ∷ 43 ∷ 4605266 ∷ 5396831 ∷ 4342100 ∷ 2 ∷ 3 ∷ 1000022 ∷ 655 ∷ 0 ∷ 1 ∷ 42 ∷ 4605266 ∷ 5396831 ∷ 0 ∷ 2 ∷ 3 ∷ 9 ∷ 9 ∷ []
 unfolding every some-of countIf find upto bit yearsBefore monthsBefore exists dayOf _<|>_ fieldRuns stretches onto rowsIn serviceAt servicesIn tableOf recordSound recordsSound headSound isTable interchangeAtStop firstRefusal idleLegs leadingLegs callsRefusal rowsOf journey walkOf
 last-leg = refl

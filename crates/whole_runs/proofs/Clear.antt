@@ -11,8 +11,8 @@ use Rattle.lines.specs.Lines.{Line, linesOf}
 use Rattle.timetable.specs.Delivery.{Files, CategoryRange, DayRange, Delivery}
 use Rattle.timetable.specs.Offences.{first}
 use Rattle.timetable.specs.Files.{Held, listed, held-in, periodFirst, bitFieldsFirst, stopsFirst, interchangesFirst}
-use Rattle.timetable.specs.Plan.{toldIn, tolds, asCall, asRange, callsOf, saidOn}
-use Rattle.timetable.specs.Service.{blocks, serviceOf}
+use Rattle.timetable.specs.Plan.{toldIn, tolds, asRange, saidOn}
+use Rattle.timetable.specs.Service.{blocks, calledOn, callsOf, serviceOf}
 use Rattle.timetable.specs.Checks.{ownOffence, timesFirst, endsFirst, eachOnce, torn, serviceChecks, serviceFirst, servicesFirst, headFirst, planFirst}
 use Rattle.timetable.specs.Legs.{legCount}
 use Rattle.timetable.specs.Load.{delivered, contentOffence, offence}
@@ -61,7 +61,7 @@ all-said ok say off one ls e =
 pub record Fair (d : Delivery) (ls : List Line) : Type 0 where
   pub own : first (ownOffence (d .fields) (d .stops)) [] ls ≡ none
   pub two : ltb (length (callsOf ls)) 2 ≡ false
-  pub times : timesFirst (length (callsOf ls)) 0 0 (saidOn asCall ls) ≡ none
+  pub times : timesFirst (length (callsOf ls)) 0 0 (calledOn ls) ≡ none
   pub ranges : endsFirst (callsOf ls) (saidOn asRange ls) ≡ none
   pub categories : eachOnce (λ (r : CategoryRange). r .legs) (legCount (serviceOf ls)) (serviceOf ls .categories) ≡ true
   pub days : eachOnce (λ (r : DayRange). r .legs) (legCount (serviceOf ls)) (serviceOf ls .days) ≡ true

@@ -13,7 +13,9 @@ use Rattle.base.proofs.Laws.{apart, clash, by-ltb}
 use Rattle.calendar.specs.Calendar.{dayOf}
 use Rattle.calendar.specs.declared.Date.{Date}
 use Rattle.calendar.specs.declared.Date.the-variants.{Day}
+use Rattle.lines.specs.Lines.{linesOf}
 use Rattle.timetable.specs.Delivery.{Files, Period, DayRange, Service, Delivery}
+use Rattle.timetable.specs.Service.{blocks}
 use Rattle.timetable.specs.Legs.{covers, operated, fieldRuns, stretches, legCount, operatedLegs}
 use Rattle.timetable.specs.Load.{delivered, offence, onto, loaded, written}
 use Rattle.timetable.specs.Table.{tableWords}
@@ -36,6 +38,7 @@ use Rattle.whole_runs.proofs.Text.{own-text}
 use Rattle.whole_runs.proofs.Stretch.{one-stretch}
 use Rattle.whole_runs.proofs.Resolved.{legs-resolved, stretch-resolved}
 use Rattle.whole_runs.proofs.Rows.{Interchanges, inside, stretched}
+use Rattle.whole_runs.proofs.Announced.{rows-announce}
 use Rattle.whole_runs.proofs.Any.{runs-nowhere}
 
 -- ---- a day of a service
@@ -130,6 +133,7 @@ walk-demand f c w is holds i r d m y day s a =
         one-range = h .days;
         fields-known = h .fields;
         leg-days = leg-day (delivered f) s h k;
+        announced = rows-announce (blocks (linesOf (f .fplan))) i s (from-text f c i s (a .service)) (delivered f);
       };
     }
 

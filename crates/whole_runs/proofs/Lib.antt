@@ -14,6 +14,7 @@ pub mod Stretch
 pub mod Times
 pub mod Resolved
 pub mod Rows
+pub mod Announced
 pub mod Any
 pub mod Demand3
 pub mod Slack

@@ -16,18 +16,20 @@ use Rattle.timetable.specs.Layout.{mostCalls}
 use Rattle.timetable.specs.Delivery.{BitField, StopRecord, Legs, DayRange, Delivery}
 use Rattle.timetable.specs.Offences.{offenceAt}
 use Rattle.timetable.specs.Files.{hasStop}
-use Rattle.timetable.specs.Plan.{toldIn, tolds, asCall, asRange, callsOf, rangesOf, isPart, ofPart, partLines, saidOn}
-use Rattle.timetable.specs.Service.{withLegs, legsOn, categoryRange, dayRange, extraRange, serviceOf}
+use Rattle.timetable.specs.Plan.{toldIn, tolds, asCall, asRange, rangesOf, isPart, ofPart, partLines, saidOn}
+use Rattle.timetable.specs.Service.{holding, calledOn, callsOf, withLegs, legsOn, categoryRange, dayRange, extraRange, serviceOf}
 use Rattle.timetable.specs.Legs.{fieldKnown}
 use Rattle.timetable.specs.Checks.{most, toldOffence, ownOffence, isNone, endsFirst}
 use Rattle.timetable.specs.declared.Call.{Call}
+use Rattle.timetable.specs.declared.CallLine.{CallLine}
 use Rattle.timetable.specs.declared.Offence.{Offence}
 use Rattle.timetable.specs.declared.Part.{Part}
 use Rattle.timetable.specs.declared.Part.the-variants.{Category, Days, Extra}
 use Rattle.timetable.specs.declared.RangeLine.{RangeLine}
 use Rattle.timetable.specs.declared.Told.{Told}
 use Rattle.timetable.specs.declared.Told.the-variants.{Skip, Other, Broken, Opens, Ranges, Calls}
-use Rattle.timetable.proofs.Lines.{tolds-more, said-more, part-more, said-on}
+use Rattle.timetable.proofs.Calls.{calls-more, calls-all}
+use Rattle.timetable.proofs.Lines.{tolds-more, part-more, said-on}
 use Rattle.timetable.proofs.Offences.{then-none, given-none}
 use Rattle.whole_runs.proofs.Lists.{all-append, all-to, each-gives-one}
 use Rattle.whole_runs.proofs.Parts.{same-part, all-part}
@@ -69,12 +71,12 @@ module _ (fields : List BitField) (stops : List StopRecord) where
   limits-more before l o h =
       let m = limit (toldIn (l .text)) before (l .no) o h in
       record {
-        calls = rw (said-more asCall before l, length-append) (m .0);
+        calls = rw (calls-more before l) (m .0);
         ranges = λ p. rw (part-more p before l, length-append) (m .1 p);
       }
 
 pub limits : (d : Delivery) (ls : List Line) → Fair d ls → Limits ls
-unfolding tolds gathered
+unfolding tolds gathered saidOn holding calledOn
 limits d ls h = first-keeps (ownOffence (d .fields) (d .stops)) Limits (limits-more (d .fields) (d .stops)) ls (h .own) (record { calls = omega arith; ranges = none-yet })
   where
     none-yet : (p : Part) → 0 ≤ most p
@@ -101,7 +103,11 @@ module _ (d : Delivery) where
     λ c e. let z : _≡_ {A = Option Offence} (some (record { number = 4; line = line; column = c })) none = sym (ap (told before line) e) ∙ o in apart (cc),
   )
 
-  stop-one : (before : List Line) (line : ℕ) (t : Told) → told before line t ≡ none → All StopKnown (asCall t)
+  -- of the call's line
+  abbrev LineKnown : CallLine → Type 0
+  LineKnown c = hasStop (c .stop) (d .stops) ≡ true
+
+  stop-one : (before : List Line) (line : ℕ) (t : Told) → told before line t ≡ none → All LineKnown (asCall t)
   stop-one before line Skip e = nil
   stop-one before line Other e = nil
   stop-one before line (Broken c) e = nil
@@ -133,7 +139,9 @@ module _ (d : Delivery) (ls : List Line) (h : Fair d ls) where
   lines-read = first-keeps (ownOffence (d .fields) (d .stops)) (λ (b : List Line). All Read (tolds b)) (λ before l o a. subst (All Read) (sym (tolds-more before l)) (all-append Read a (cons {x = toldIn (l .text)} (read-one d before (l .no) (toldIn (l .text)) o) nil))) ls (h .own) nil
 
   pub stops-known : All (StopKnown d) (callsOf ls)
-  stops-known = all-said (StopKnown d) asCall (ownOffence (d .fields) (d .stops)) (λ before l o. stop-one d before (l .no) (toldIn (l .text)) o) ls (h .own)
+  stops-known =
+      calls-all (LineKnown d) (StopKnown d) (λ a l k. k) ls
+      (all-said (LineKnown d) asCall (ownOffence (d .fields) (d .stops)) (λ before l o. stop-one d before (l .no) (toldIn (l .text)) o) ls (h .own))
 
   pub fields-known : All (λ (r : DayRange). FieldKnown d (r .field)) (serviceOf ls .days)
   unfolding serviceOf

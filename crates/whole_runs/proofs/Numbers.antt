@@ -32,8 +32,8 @@ use Rattle.timetable.specs.Files.{skip, held-in, heldBy, heldOffence, noDate, n
 use Rattle.timetable.specs.Files.{hasField, bitFieldOf, bitFieldOffence, bitFieldLineOffence, bitFieldsFirst, hasStop, stopOf, stopOffence, stopLineOffence, stopsFirst}
 use Rattle.timetable.specs.Files.{hasInterchange, interchangeOf, interchangeOffence, interchangeLineOffence, interchangesFirst}
 use Rattle.timetable.specs.Table.{tableWords, tableOf, isTable}
-use Rattle.timetable.specs.Plan.{openingIn, categoryIn, attributeIn, callIn, formed, toldBy, toldIn, asCall, asRange, callsOf, partLines, saidOn}
-use Rattle.timetable.specs.Service.{headLines, blocks, firstLine, legsOn, serviceOf}
+use Rattle.timetable.specs.Plan.{openingIn, categoryIn, attributeIn, callIn, formed, toldBy, toldIn, asRange, partLines, saidOn}
+use Rattle.timetable.specs.Service.{headLines, blocks, firstLine, calledOn, callsOf, legsOn, serviceOf}
 use Rattle.timetable.specs.Legs.{fieldKnown, fieldRuns, legCount}
 use Rattle.timetable.specs.Checks.{most, toldOffence, isNone, eachOnce, torn, timesStated, timesRise, lastStated, timesFirst, endsFirst, legsFirst, serviceChecks, serviceFirst, servicesFirst, planFirst}
 use Rattle.timetable.specs.Load.{delivered, Where, inFile, tooLong, lengthOffence, contentOffence, helperNeeded, refusedOr, shortOr, onto, loaded, helpedBy, helped}
@@ -211,7 +211,7 @@ module _ (fields : List BitFieldRecord) (stops : List StopRecord) (n : ℕ) wher
   unfolding serviceChecks
   by-check ls =
       either _ _ (by-given (ltb (length (callsOf ls)) 2) 14 (firstLine ls .no) refl)
-      (either _ _ (by-call (length (callsOf ls)) 0 0 (saidOn asCall ls))
+      (either _ _ (by-call (length (callsOf ls)) 0 0 (calledOn ls))
       (either _ _ (by-ends (callsOf ls) (saidOn asRange ls)) (by-legs (firstLine ls .no) (serviceOf ls))))
 
   by-service : (bs : List (List Line)) → Numbered (servicesFirst fields stops n bs)

@@ -15,15 +15,13 @@ use Rattle.base.proofs.Loops.{and-true}
 use Rattle.lines.specs.Lines.{Line, linesOf}
 use Rattle.timetable.specs.Layout.{mostCalls, mostCategories, mostDays, mostExtras}
 use Rattle.timetable.specs.Delivery.{Files, Legs, CategoryRange, DayRange, Service, Delivery}
-use Rattle.timetable.specs.Plan.{asCall, callsOf, saidOn}
-use Rattle.timetable.specs.Service.{blocks, serviceOf}
+use Rattle.timetable.specs.Service.{blocks, calledOn, callsOf, serviceOf}
 use Rattle.timetable.specs.Checks.{timesStated, timesRise, lastStated, timesFirst, eachOnce}
 use Rattle.timetable.specs.Legs.{covering, stretches, legCount, operatedLegs}
 use Rattle.timetable.specs.Load.{delivered}
 use Rattle.timetable.specs.Table.{callSound, serviceSound}
 use Rattle.timetable.specs.declared.Call.{Call}
 use Rattle.timetable.specs.declared.Part.the-variants.{Category, Days, Extra}
-use Rattle.timetable.proofs.Lines.{said-on}
 use Rattle.timetable.proofs.Offences.{then-none, given-none}
 use Rattle.whole_runs.specs.Text.{FromText}
 use Rattle.whole_runs.proofs.Lists.{every-below, none-below}
@@ -80,7 +78,7 @@ right d ls h =
       most-extras = omega (arith, n .extras, m .ranges Extra);
       stops = stops-known d ls h;
       fields = fields-known d ls h;
-      times = subst (Timely (length (callsOf ls)) 0 0) (said-on asCall ls) (timely (length (callsOf ls)) 0 0 (saidOn asCall ls) (h .times));
+      times = timely (length (callsOf ls)) 0 0 (calledOn ls) (h .times);
       categories = λ k l. once-at (λ (r : CategoryRange). r .legs) (legCount (serviceOf ls)) (serviceOf ls .categories) k (h .categories) l;
       days = λ k l. once-at (λ (r : DayRange). r .legs) (legCount (serviceOf ls)) (serviceOf ls .days) k (h .days) l;
       whole = λ k l. none-below (λ (k : ℕ). leb 2 (stretches false (operatedLegs (d .fields) (serviceOf ls) k))) (d .period .days) k (h .whole) l;

@@ -201,8 +201,8 @@ module _ (d : Delivery) (s : Service) (r k a n : ℕ) (one : Only (operatedLegs 
     call-at : (q : ℕ) → q ≤ n → Called (s .calls) (a + q)
     call-at q l = let m = inside in called (s .calls) (h .times) (a + q) (omega arith)
 
-    category-is : (q : ℕ) → q < n → rowWord ws q 4 ≡ categoryOn s (a + q)
-    category-is q l = word-is q 4 (omega arith) (omega arith) ∙ kept q n (categoryOn s (a + q)) (λ e. omega arith)
+    category-is : (q : ℕ) → q < n → rowWord ws q 7 ≡ categoryOn s (a + q)
+    category-is q l = word-is q 7 (omega arith) (omega arith) ∙ kept q n (categoryOn s (a + q)) (λ e. omega arith)
 
     row-is : (q : ℕ) → q ≤ n → Row d s delay n q (a + q) (callNo s (a + q)) (rowWord ws q)
     row-is q l =
@@ -210,8 +210,8 @@ module _ (d : Delivery) (s : Service) (r k a n : ℕ) (one : Only (operatedLegs 
         let g = inside in
         let i = in-route in
         let m = flags-are q l in
-        let first-time = word-is q 5 l (omega arith) in
-        let second-time = word-is q 6 l (omega arith) in
+        let first-time = word-is q 8 l (omega arith) in
+        let second-time = word-is q 9 l (omega arith) in
         record {
           stop = word-is q 0 l (omega arith);
           known = all-at (StopKnown d) (a + q) noCall (s .calls) (h .stops) (omega arith);
@@ -220,22 +220,24 @@ module _ (d : Delivery) (s : Service) (r k a n : ℕ) (one : Only (operatedLegs 
           arriving = λ o. (m .arrival ∙ kept q 0 _ (λ e. omega arith), m .alighting ∙ kept q 0 _ (λ e. omega arith));
           departing = λ o. (m .departure ∙ kept q n _ (λ e. omega arith), m .boarding ∙ kept q n _ (λ e. omega arith));
           four-flags = m .most;
+          number = word-is q 4 l (omega arith);
+          administration = (word-is q 5 l (omega arith), word-is q 6 l (omega arith));
           one-category = λ o. h .categories (a + q) (omega arith);
           category = λ o.
               all-to (λ (g : CategoryRange). covers (a + q) (g .legs) ≡ true → find (λ (g : CategoryRange). covers (a + q) (g .legs)) (s .categories) ≡ some g)
-              (λ (g : CategoryRange). covers (a + q) (g .legs) ≡ true → rowWord ws q 4 ≡ g .name)
+              (λ (g : CategoryRange). covers (a + q) (g .legs) ≡ true → rowWord ws q 7 ≡ g .name)
               (λ g found t. category-is q o ∙ ap nameBy (found t))
               (s .categories) (only-found (λ (g : CategoryRange). covers (a + q) (g .legs)) (s .categories) (h .categories (a + q) (omega arith)));
           own-times =
               all-to (λ (x : Interchange). x .number ≡ c .stop → interchangeAtStop d (c .stop) ≡ x)
-              (λ (x : Interchange). x .number ≡ c .stop → (rowWord ws q 5 ≡ x .firstTime) × (rowWord ws q 6 ≡ x .secondTime))
+              (λ (x : Interchange). x .number ≡ c .stop → (rowWord ws q 8 ≡ x .firstTime) × (rowWord ws q 9 ≡ x .secondTime))
               (λ x e t. (first-time ∙ ap (λ (y : Interchange). y .firstTime) (e t), second-time ∙ ap (λ (y : Interchange). y .secondTime) (e t)))
               (d .interchanges) (own-record d known (c .stop));
           first-times = λ u.
               let x = first-record d known (c .stop) u in
               (x .0, x .1, first-time ∙ ap (λ (y : Interchange). y .firstTime) (x .2), second-time ∙ ap (λ (y : Interchange). y .secondTime) (x .2));
           first-row = λ e. (word-is q 1 l (omega arith) ∙ left-out q 0 _ e, m .arrival ∙ left-out q 0 _ e, m .alighting ∙ left-out q 0 _ e);
-          last-row = λ e. (word-is q 2 l (omega arith) ∙ left-out q n _ e, m .departure ∙ left-out q n _ e, m .boarding ∙ left-out q n _ e, word-is q 4 l (omega arith) ∙ left-out q n _ e);
+          last-row = λ e. (word-is q 2 l (omega arith) ∙ left-out q n _ e, m .departure ∙ left-out q n _ e, m .boarding ∙ left-out q n _ e, word-is q 7 l (omega arith) ∙ left-out q n _ e);
         }
 
     -- the times

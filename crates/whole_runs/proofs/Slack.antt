@@ -82,13 +82,13 @@ one-says p f u v (x ∷ xs) e (cons a g) (cons b h) = go (p x) refl e (λ e. one
 -- two times: those of the record with number n, or of the first
 module _ (n : ℕ) (u v : ℕ → ℕ) where
   abbrev Says : (ℕ → ℕ) → Interchange → Type 0
-  Says w x = (w 5 ≡ x .firstTime) × (w 6 ≡ x .secondTime)
+  Says w x = (w 8 ≡ x .firstTime) × (w 9 ≡ x .secondTime)
 
   record-says : (xs : List Interchange) → All (λ (x : Interchange). x .number ≡ n → Says u x) xs → All (λ (x : Interchange). x .number ≡ n → Says v x) xs
-      → (All (λ (x : Interchange). x .number ≡ n → ⊥) xs → (u 5 ≡ v 5) × (u 6 ≡ v 6)) → (u 5 ≡ v 5) × (u 6 ≡ v 6)
+      → (All (λ (x : Interchange). x .number ≡ n → ⊥) xs → (u 8 ≡ v 8) × (u 9 ≡ v 9)) → (u 8 ≡ v 8) × (u 9 ≡ v 9)
   record-says [] g h other = other nil
   record-says (x ∷ xs) (cons a g) (cons b h) other =
-      by-eqb (λ t. (u 5 ≡ v 5) × (u 6 ≡ v 6)) (x .number) n
+      by-eqb (λ t. (u 8 ≡ v 8) × (u 9 ≡ v 9)) (x .number) n
       (λ e. (a e .0 ∙ sym (b e .0), a e .1 ∙ sym (b e .1)))
       (λ e. record-says xs g h (λ o. other (cons e o)))
 
@@ -114,7 +114,7 @@ module _ (d : Delivery) (s : Service) (delay n q leg : ℕ) (c : Call) (u v : �
   last-or : {P : Type 0} → (q ≡ n → P) → (q < n → P) → P
   last-or {P} f g = by-eqb (λ t. P) q n f (λ e. g (omega (arith, e)))
 
-  same-times : (u 5 ≡ v 5) × (u 6 ≡ v 6)
+  same-times : (u 8 ≡ v 8) × (u 9 ≡ v 9)
   same-times =
       record-says (c .stop) u v (d .interchanges) (x .own-times) (y .own-times)
       (λ o. let a = x .first-times o in let b = y .first-times o in let e : a .0 ≡ b .0 = some-one (sym (a .1) ∙ b .1) in
@@ -133,12 +133,15 @@ module _ (d : Delivery) (s : Service) (delay n q leg : ℕ) (c : Call) (u v : �
       (last-or (λ e. x .last-row e .1 ∙ sym (y .last-row e .1)) (λ e. x .departing e .0 ∙ sym (y .departing e .0)))
       (first-or (λ e. x .first-row e .2 ∙ sym (y .first-row e .2)) (λ e. x .arriving e .1 ∙ sym (y .arriving e .1)))
       (last-or (λ e. x .last-row e .2 ∙ sym (y .last-row e .2)) (λ e. x .departing e .1 ∙ sym (y .departing e .1)))
-  same-words (suc (suc (suc (suc zero)))) h =
+  same-words (suc (suc (suc (suc zero)))) h = x .number ∙ sym (y .number)
+  same-words (suc (suc (suc (suc (suc zero))))) h = x .administration .0 ∙ sym (y .administration .0)
+  same-words (suc (suc (suc (suc (suc (suc zero)))))) h = x .administration .1 ∙ sym (y .administration .1)
+  same-words (suc (suc (suc (suc (suc (suc (suc zero))))))) h =
       last-or (λ e. x .last-row e .3 ∙ sym (y .last-row e .3))
-      (λ e. one-says (λ (g : CategoryRange). covers leg (g .legs)) (λ (g : CategoryRange). g .name) (u 4) (v 4) (s .categories) (x .one-category e) (x .category e) (y .category e))
-  same-words (suc (suc (suc (suc (suc zero))))) h = same-times .0
-  same-words (suc (suc (suc (suc (suc (suc zero)))))) h = same-times .1
-  same-words (suc (suc (suc (suc (suc (suc (suc j))))))) h = absurd (omega arith)
+      (λ e. one-says (λ (g : CategoryRange). covers leg (g .legs)) (λ (g : CategoryRange). g .name) (u 7) (v 7) (s .categories) (x .one-category e) (x .category e) (y .category e))
+  same-words (suc (suc (suc (suc (suc (suc (suc (suc zero)))))))) h = same-times .0
+  same-words (suc (suc (suc (suc (suc (suc (suc (suc (suc zero))))))))) h = same-times .1
+  same-words (suc (suc (suc (suc (suc (suc (suc (suc (suc (suc j)))))))))) h = absurd (omega arith)
 
 module _ (d : Delivery) (s : Service) (r k : ℕ) where
   pub same-rows : {v w : List ℕ} (x : Stretched d s r k v) (y : Stretched d s r k w) → v ≡ w

@@ -24,15 +24,18 @@ use Rattle.forms.specs.declared.Kind.the-variants.{Opening as OpeningKind, Cate
 use Rattle.lines.specs.Lines.{Line, skipped}
 use Rattle.timetable.specs.Layout.{mostRepeats, latestTime, allFlags}
 use Rattle.timetable.specs.Delivery.{Legs, CategoryRange, DayRange, ExtraRange}
-use Rattle.timetable.specs.Plan.{openingIn, categoryIn, attributeIn, minutesOf, flagsOf, callIn, formed, toldBy, toldIn, tolds, asOpening, asCall, callsOf, partLines}
-use Rattle.timetable.specs.Service.{loose, legsOn, categoryRange, dayRange, extraRange, firstLine, firstOpening, serviceOf}
+use Rattle.timetable.specs.Plan.{openingIn, categoryIn, attributeIn, minutesOf, flagsOf, callIn, formed, toldBy, toldIn, tolds, asOpening, asCall, partLines}
+use Rattle.timetable.specs.Service.{loose, legsOn, categoryRange, dayRange, extraRange, firstLine, firstOpening, callBy, callsOf, serviceOf}
 use Rattle.timetable.specs.Table.{callSound, legsSound, serviceSound}
+use Rattle.timetable.specs.declared.Announced.{Announced}
 use Rattle.timetable.specs.declared.Call.{Call}
+use Rattle.timetable.specs.declared.CallLine.{CallLine}
 use Rattle.timetable.specs.declared.Part.{Part}
 use Rattle.timetable.specs.declared.Part.the-variants.{Category, Days, Extra}
 use Rattle.timetable.specs.declared.RangeLine.{RangeLine}
 use Rattle.timetable.specs.declared.Told.{Told}
 use Rattle.timetable.specs.declared.Told.the-variants.{Skip, Other, Broken, Opens, Ranges, Calls}
+use Rattle.timetable.proofs.Calls.{calls-all}
 use Rattle.timetable.proofs.Lines.{flags-le}
 use Rattle.whole_runs.proofs.Ends.{legs-sound, with-sound}
 use Rattle.whole_runs.proofs.Parts.{part-lines}
@@ -48,8 +51,8 @@ minutes-le p = go (time p) refl
     go (Stated m barred) e = stated-le p m barred e
     go NoTime e = omega arith
 
-call-sound : (text : List ℕ) → callSound (callIn text) ≡ true
-call-sound text =
+call-sound : (text : List ℕ) (b : Announced) → callSound (callBy b (callIn text)) ≡ true
+call-sound text b =
     let a = time (columns 30 35 text) in
     let d = time (columns 37 42 text) in
     rw (
@@ -77,13 +80,19 @@ module _ (P : Told → Type 0) where
       kind OtherKind = other
 
 -- the calls of lines
-pub calls-sound : (ls : List Line) → All (λ (c : Call). callSound c ≡ true) (callsOf ls)
+abbrev LineSound : CallLine → Type 0
+LineSound l = (b : Announced) → callSound (callBy b l) ≡ true
+
+lines-sound : (ls : List Line) → All LineSound (gathered asCall (tolds ls))
 unfolding tolds gathered
-calls-sound [] = nil
-calls-sound (l ∷ ls) =
-    all-append (λ (c : Call). callSound c ≡ true)
-    (told-all (λ (t : Told). All (λ (c : Call). callSound c ≡ true) (asCall t)) (l .text) nil nil (λ c. nil) nil (λ r. nil) (cons {x = callIn (l .text)} (call-sound (l .text)) nil))
-    (calls-sound ls)
+lines-sound [] = nil
+lines-sound (l ∷ ls) =
+    all-append LineSound
+    (told-all (λ (t : Told). All LineSound (asCall t)) (l .text) nil nil (λ c. nil) nil (λ r. nil) (cons {x = callIn (l .text)} (call-sound (l .text)) nil))
+    (lines-sound ls)
+
+pub calls-sound : (ls : List Line) → All (λ (c : Call). callSound c ≡ true) (callsOf ls)
+calls-sound ls = calls-all LineSound (λ (c : Call). callSound c ≡ true) (λ b l h. h b) ls (lines-sound ls)
 
 -- "repeats or offset over 999": three columns each
 opening-le : (text : List ℕ) → (firstOpening (asOpening (toldIn text)) .repeats ≤ mostRepeats) × (firstOpening (asOpening (toldIn text)) .offset ≤ mostRepeats)

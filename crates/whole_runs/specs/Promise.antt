@@ -22,8 +22,8 @@ use Rattle.timetable.specs.Load.{delivered, onto}
 use Rattle.timetable.specs.Questions.{Dated, dated, Journey, refused, idle, rows, walkedBy}
 use Rattle.timetable.specs.declared.Walked.{Walked}
 use Rattle.timetable.specs.declared.Walked.the-variants.{Listed, NotRunning, Refused}
-use Rattle.whole_runs.specs.Text.{FromText, OwnText}
-use Rattle.whole_runs.specs.Rows.{RunsNowhere, Unbroken, Stretched}
+use Rattle.whole_runs.specs.Text.{FromText, Announces, OwnText}
+use Rattle.whole_runs.specs.Rows.{RunsNowhere, Unbroken, rowWord, Stretched}
 
 -- what is asked: a service of the delivery, a repeat that it has, and a date in the period
 pub record Asked (f : Files) (i r d m y : ℕ) (s : Service) (day : ℕ) : Type 0 where
@@ -44,6 +44,9 @@ pub record OwnRun (f : Files) (i : ℕ) (s : Service) (k : ℕ) : Type 0 where
   pub leg-days : (leg : ℕ) → leg < legCount s
       → All (λ (g : DayRange). covers leg (g .legs) ≡ true
       → operated (delivered f .fields) (s .days) k leg ≡ fieldRuns (delivered f .fields) (g .field) k) (s .days)
+  -- document 02, No. 5: the number and administration that a row states are those that the text says hold at its call, wherever the stretch begins
+  pub announced : {r : ℕ} {ws : List ℕ} (x : Stretched (delivered f) s r k ws) (q : ℕ) → q ≤ x .legs
+      → Announces (service .lines) (x .start + q) (rowWord ws q 4) (rowWord ws q 5) (rowWord ws q 6)
 
 -- ---- what the walk is, before the room is looked at
 

@@ -48,17 +48,20 @@ pub record Row (d : Delivery) (s : Service) (delay n q leg : ℕ) (c : Call) (w 
   pub arriving : 1 ≤ q → (flag 1 (w 3) ≡ flag 1 (c .flags)) × (flag 4 (w 3) ≡ flag 4 (c .flags))
   pub departing : q < n → (flag 2 (w 3) ≡ flag 2 (c .flags)) × (flag 8 (w 3) ≡ flag 8 (c .flags))
   pub four-flags : w 3 ≤ allFlags
+  -- document 02, No. 5: "number and the two administration words follow the flags", in a row "in the same way"
+  pub number : w 4 ≡ c .number
+  pub administration : (w 5 ≡ c .high) × (w 6 ≡ c .low)
   -- "category of the leaving leg": exactly one *G covers it
   pub one-category : q < n → covering (λ (g : CategoryRange). g .legs) (s .categories) leg ≡ 1
-  pub category : q < n → All (λ (g : CategoryRange). covers leg (g .legs) ≡ true → w 4 ≡ g .name) (s .categories)
+  pub category : q < n → All (λ (g : CategoryRange). covers leg (g .legs) ≡ true → w 7 ≡ g .name) (s .categories)
   -- "the stop's two interchange times": its record's, else the first record's
-  pub own-times : All (λ (x : Interchange). x .number ≡ c .stop → (w 5 ≡ x .firstTime) × (w 6 ≡ x .secondTime)) (d .interchanges)
+  pub own-times : All (λ (x : Interchange). x .number ≡ c .stop → (w 8 ≡ x .firstTime) × (w 9 ≡ x .secondTime)) (d .interchanges)
   pub first-times : All (λ (x : Interchange). x .number ≡ c .stop → ⊥) (d .interchanges)
-      → (x : Interchange) × (getElem? (d .interchanges) 0 ≡ some x) × (w 5 ≡ x .firstTime) × (w 6 ≡ x .secondTime)
+      → (x : Interchange) × (getElem? (d .interchanges) 0 ≡ some x) × (w 8 ≡ x .firstTime) × (w 9 ≡ x .secondTime)
   -- "First row: arrival 0, flags 1 and 4 cleared."
   pub first-row : q ≡ 0 → (w 1 ≡ 0) × (flag 1 (w 3) ≡ 0) × (flag 4 (w 3) ≡ 0)
   -- "Last: departure 0, flags 2 and 8 cleared, category 0."
-  pub last-row : q ≡ n → (w 2 ≡ 0) × (flag 2 (w 3) ≡ 0) × (flag 8 (w 3) ≡ 0) × (w 4 ≡ 0)
+  pub last-row : q ≡ n → (w 2 ≡ 0) × (flag 2 (w 3) ≡ 0) × (flag 8 (w 3) ≡ 0) × (w 7 ≡ 0)
 
 -- ---- the rows of a run
 
@@ -72,7 +75,7 @@ Stated ws p = flag (1 + p % 2) (rowWord ws (p / 2) 3) ≡ 1
 
 -- what stands for a call past the last
 abbrev pub noCall : Call
-noCall = record { stop = 0; arrival = 0; departure = 0; flags = 0 }
+noCall = record { stop = 0; arrival = 0; departure = 0; flags = 0; number = 0; high = 0; low = 0 }
 
 -- the p-th call of a service
 abbrev pub callNo : Service → ℕ → Call

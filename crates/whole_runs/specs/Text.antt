@@ -3,9 +3,9 @@
 -- Proved in proofs/Text.antt: `own-text`. Assumes nothing.
 use mathlib.Core.Path.{_≡_}
 use mathlib.Core.List.{List, [], _∷_, _++_}
-use mathlib.Core.Bool.{true, false}
-use mathlib.Core.Option.{some}
-use Prim.Native.Nat.{ℕ, _+_, _-_}
+use mathlib.Core.Bool.{true, false, cond}
+use mathlib.Core.Option.{Option, none, some}
+use Prim.Native.Nat.{ℕ, _+_, _-_, _<_, _≤_}
 use lib.ListN.{length, getElem?}
 use lib.Dec.{eqb}
 use Rattle.base.specs.Lists.{All, find, gathered}
@@ -17,10 +17,11 @@ use Rattle.forms.specs.Columns.{dateColumns}
 use Rattle.lines.specs.Lines.{Line, linesOf, skipped}
 use Rattle.timetable.specs.Delivery.{Files, Period, BitField, StopRecord, Interchange, Service}
 use Rattle.timetable.specs.Files.{Held, held, bitFieldOf, stopOf, interchangeOf}
-use Rattle.timetable.specs.Plan.{tolds, partLines}
-use Rattle.timetable.specs.Service.{headLines, blocks, serviceOf}
+use Rattle.timetable.specs.Plan.{tolds, asCall, partLines}
+use Rattle.timetable.specs.Service.{headLines, blocks, openingOf, serviceOf}
 use Rattle.timetable.specs.Legs.{fieldRuns}
 use Rattle.timetable.specs.Load.{delivered}
+use Rattle.timetable.specs.declared.CallLine.{CallLine}
 use Rattle.timetable.specs.declared.Part.the-variants.{Category, Days, Extra}
 use Rattle.timetable.specs.declared.Told.{Told}
 use Rattle.timetable.specs.declared.Told.the-variants.{Other, Broken}
@@ -51,6 +52,28 @@ pub record FromText (bs : List (List Line)) (i : ℕ) (s : Service) : Type 0 whe
   pub days : length (s .days) ≡ length (partLines Days lines)
   pub extras : length (s .extras) ≡ length (partLines Extra lines)
   pub lines-read : All (λ (t : Told). (t ≡ Other → ⊥) × ((c : ℕ) → t ≡ Broken c → ⊥)) (tolds lines)
+
+-- ---- document 02, No. 5: "Conductors announce the number that holds from a call on." "A blank field repeats the call before; the first call's
+-- blanks take the *Z values." Said here by the lines themselves, without the definition that the table's calls are made with (`holding`).
+
+-- what a schedule line says in columns 44-48 and in columns 50-55, if they are not blank
+abbrev pub numberSaid : CallLine → Option ℕ
+numberSaid l = cond (l .numbered) (some (l .number)) none
+
+abbrev pub administrationSaid : CallLine → Option (ℕ × ℕ)
+administrationSaid l = cond (l .administered) (some (l .high, l .low)) none
+
+-- what holds at call p of a service, whose schedule lines are ls and whose *Z line says z: what the line of some call up to p says, no line after it
+-- up to p saying anything; or what the *Z line says, no line up to p saying anything
+pub data HoldsAt {X : Type 0} (say : CallLine → Option X) (ls : List CallLine) (z : X) (p : ℕ) : X → Type 0 where
+  since : (i : ℕ) {l : CallLine} {x : X} → i ≤ p → getElem? ls i ≡ some l → say l ≡ some x
+      → ((j : ℕ) (m : CallLine) → i < j → j ≤ p → getElem? ls j ≡ some m → say m ≡ none) → HoldsAt say ls z p x
+  from-start : ((j : ℕ) (m : CallLine) → j ≤ p → getElem? ls j ≡ some m → say m ≡ none) → HoldsAt say ls z p z
+
+-- number and administration, each by itself
+pub record Announces (lines : List Line) (p number high low : ℕ) : Type 0 where
+  pub number-holds : HoldsAt numberSaid (gathered asCall (tolds lines)) (openingOf lines .number) p number
+  pub administration-holds : HoldsAt administrationSaid (gathered asCall (tolds lines)) (openingOf lines .high, openingOf lines .low) p (high, low)
 
 -- every line of every file
 pub record EveryLine (f : Files) : Type 0 where

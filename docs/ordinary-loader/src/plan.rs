@@ -86,7 +86,7 @@ fn add_attribute(line: &Line<'_>, service: &mut Service, fields: &BitFields) -> 
 
 /// A schedule line: 4, 13, 9.
 fn add_call(line: &Line<'_>, service: &mut Service, stops: &Stops) -> Result<(), Offence> {
-    let call = line.formed(call_in(line))?;
+    let call = line.formed(call_in(line, service.holding()))?;
     push(&mut service.calls, call, MOST_CALLS, line)?;
     match stops.has(call.stop) {
         true => Ok(()),
@@ -112,8 +112,12 @@ fn opening_in(line: &Line<'_>) -> Result<Opening, Broken> {
     let (repeats, offset) = repeats_in(line)?;
     line.unnamed(30, 58)?;
     line.percent()?;
-    let administration = [packed(&administration[..3]), packed(&administration[3..])];
-    Ok(Opening { line: line.number, number, administration, repeats, offset })
+    Ok(Opening { line: line.number, number, administration: two_words(administration), repeats, offset })
+}
+
+/// An administration's six bytes, "two words of three bytes".
+fn two_words(administration: &[u8]) -> [u32; 2] {
+    [packed(&administration[..3]), packed(&administration[3..])]
 }
 
 /// "digits, both or neither blank"; "Blank repeats mean 0 and 0. One or more repeats need an offset of at least 1, else 4."
@@ -166,24 +170,26 @@ fn details_in(line: &Line<'_>, from: End, to: End, at_from: usize, at_to: usize)
     Ok((from, line.detailed(to, at_to, at_to + 5)?))
 }
 
-/// "1-7 digits, 9-29 free, 30-35 arrival, 37-42 departure, 44-48 digits or blank, 50-55 all or no blanks, 57 X or blank"
-fn call_in(line: &Line<'_>) -> Result<Call, Broken> {
+/// "1-7 digits, 9-29 free, 30-35 arrival, 37-42 departure, 44-48 digits or blank, 50-55 all or no blanks, 57 X or blank".
+/// Document 02, No. 5: a blank number or administration is the one that holds before.
+fn call_in(line: &Line<'_>, (number, administration): (u32, [u32; 2])) -> Result<Call, Broken> {
     let stop = line.digits(1, 7)?;
     line.unnamed(8, 8)?;
     let arrival = line.time(30, 35)?;
     line.unnamed(36, 36)?;
     let departure = line.time(37, 42)?;
     line.unnamed(43, 43)?;
-    line.digits_or_blank(44, 48)?;
+    let number = line.digits_or_blank(44, 48)?.unwrap_or(number);
     line.unnamed(49, 49)?;
-    if !is_blank(line.columns(50, 55)) {
-        line.no_blanks(50, 55)?;
-    }
+    let administration = match line.columns(50, 55) {
+        blank if is_blank(blank) => administration,
+        _ => two_words(line.no_blanks(50, 55)?),
+    };
     line.unnamed(56, 56)?;
     if line.columns(57, 57) != b"X" {
         line.unnamed(57, 57)?;
     }
     line.unnamed(58, 58)?;
     line.percent()?;
-    Ok(Call { line: line.number, stop, arrival, departure })
+    Ok(Call { line: line.number, stop, arrival, departure, number, administration })
 }

@@ -2,13 +2,15 @@
 
 use crate::fields::{End, Time, Which};
 
-/// A schedule line.
+/// A schedule line, with the number and the administration that hold from it on.
 #[derive(Clone, Copy, Debug)]
 pub struct Call {
     pub line: u32,
     pub stop: u32,
     pub arrival: Option<Time>,
     pub departure: Option<Time>,
+    pub number: u32,
+    pub administration: [u32; 2],
 }
 
 /// "a *from* is blank (first call), ..; for a stop blank, the first appearance; a time, the first appearance with that

@@ -65,6 +65,14 @@ impl Service {
         Service { opening, calls: Vec::new(), categories: Vec::new(), days: Vec::new(), others: Vec::new() }
     }
 
+    /// The number and the administration that hold behind the calls so far.
+    pub fn holding(&self) -> (u32, [u32; 2]) {
+        match self.calls.last() {
+            Some(call) => (call.number, call.administration),
+            None => (self.opening.number, self.opening.administration),
+        }
+    }
+
     /// "For a service 14, 15, 16 (each by line), 17, 18, 19." Gives its ranges.
     pub fn check(&self, fields: &BitFields) -> Result<Ranges, Offence> {
         let service = |number| Offence::at(self.opening.line, number);

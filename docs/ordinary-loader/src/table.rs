@@ -8,7 +8,7 @@ use crate::service::{Found, Ranges, Service};
 
 const HEADER_WORDS: usize = 8;
 const SERVICE_WORDS: usize = 11;
-const CALL_WORDS: usize = 4;
+const CALL_WORDS: usize = 7;
 const CATEGORY_WORDS: usize = 3;
 const DAYS_WORDS: usize = 3;
 const EXTRA_WORDS: usize = 4;
@@ -109,11 +109,13 @@ impl Table {
     }
 }
 
-/// "stop, arrival, departure, flags: 1 arrival, 2 departure, 4 no alighting, 8 no boarding; absent time 0"
+/// "stop, arrival, departure, flags: 1 arrival, 2 departure, 4 no alighting, 8 no boarding; absent time 0"; "number and the two
+/// administration words follow the flags"
 fn call_words(call: &Call) -> [u32; CALL_WORDS] {
     let (arrival, alighting) = time_words(call.arrival, ARRIVAL, NO_ALIGHTING);
     let (departure, boarding) = time_words(call.departure, DEPARTURE, NO_BOARDING);
-    [call.stop, arrival, departure, alighting | boarding]
+    let [first, second] = call.administration;
+    [call.stop, arrival, departure, alighting | boarding, call.number, first, second]
 }
 
 /// A time's minutes and flags.

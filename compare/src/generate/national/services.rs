@@ -4,7 +4,7 @@ use super::ends::{from_end, to_end, EndText};
 use super::{stop_name, FAMILY};
 use crate::columns::{a, g, line, z};
 use crate::generate::ends::hours_minutes;
-use crate::generate::plan::{random_cuts, Call};
+use crate::generate::plan::{random_cuts, Call, Change};
 use crate::generate::rng::Rng;
 
 const ADMINISTRATIONS: [&str; 5] = ["FERRY_", "80____", "000011", "BLS_33", "PAG801"];
@@ -20,18 +20,18 @@ pub struct Services<'a> {
 impl Services<'_> {
     /// The lines of a service.
     pub fn service(&self, rng: &mut Rng, number: u32) -> Vec<String> {
-        let calls = self.calls(rng);
         let administration = rng.pick(&ADMINISTRATIONS);
+        let calls = self.calls(rng, number % 100_000, administration);
         let number = format!("{:05}", number % 100_000);
         let mut lines = vec![opening(rng, &number, administration)];
         lines.extend(categories(rng, &calls));
         lines.extend(self.operating_days(rng, &calls));
         lines.extend(self.attributes(rng, &calls));
-        lines.extend(calls.iter().map(|call| call_line(rng, call, &number, administration)));
+        lines.extend(calls.iter().map(|call| call_line(rng, call)));
         lines
     }
 
-    fn calls(&self, rng: &mut Rng) -> Vec<Call> {
+    fn calls(&self, rng: &mut Rng, number: u32, administration: &str) -> Vec<Call> {
         let count = match rng.below(100) {
             0..=14 => rng.between(2, 7),
             15..=79 => rng.between(8, 25),
@@ -47,7 +47,8 @@ impl Services<'_> {
             let departure = now;
             now += rng.between(1, 9);
             let stated = |time: u32, is: bool| if is { Some(time) } else { None };
-            Call { stop: *stop, arrival: stated(arrival, at > 0), departure: stated(departure, at < last) }
+            let change = change(rng, number, administration);
+            Call { stop: *stop, arrival: stated(arrival, at > 0), departure: stated(departure, at < last), change }
         };
         stops.iter().enumerate().map(call).collect()
     }
@@ -107,6 +108,17 @@ impl Services<'_> {
     }
 }
 
+/// Mostly nothing, now and then the service's own, once in a while another number or another administration.
+fn change(rng: &mut Rng, number: u32, administration: &str) -> Change {
+    let own = |name: &str| name.as_bytes().try_into().ok();
+    match rng.below(120) {
+        0..=9 => Change { number: Some(number), administration: own(administration) },
+        10 => Change { number: Some(rng.below(100_000)), administration: None },
+        11 => Change { number: None, administration: own(rng.pick(&ADMINISTRATIONS)) },
+        _ => Change::default(),
+    }
+}
+
 /// Now and then with repeats.
 fn opening(rng: &mut Rng, number: &str, administration: &str) -> String {
     if rng.once_in(8) {
@@ -148,16 +160,16 @@ fn parts_of((end, detail): &EndText) -> (&str, &str) {
 }
 
 /// With the stop's name; now and then with number and administration, a time that forbids, or an X.
-fn call_line(rng: &mut Rng, call: &Call, number: &str, administration: &str) -> String {
-    let (number, administration) = if rng.once_in(12) { (number, administration) } else { ("", "") };
+fn call_line(rng: &mut Rng, call: &Call) -> String {
+    let Change { number, administration } = call.change;
     let cross = if rng.once_in(200) { "X" } else { "" };
     line(&[
         (1, &format!("{:07}", call.stop)),
         (9, &stop_name(call.stop)),
         (30, &time_text(rng, call.arrival)),
         (37, &time_text(rng, call.departure)),
-        (44, number),
-        (50, administration),
+        (44, &number.map_or_else(String::new, |number| format!("{:05}", number))),
+        (50, &administration.map_or_else(String::new, |bytes| String::from_utf8_lossy(&bytes).into_owned())),
         (57, cross),
         (59, "%"),
     ])

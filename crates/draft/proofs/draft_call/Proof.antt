@@ -8,11 +8,17 @@ enum-known-said c = search call-drafts
 returns : tie.Need-returns
 returns c = search call-drafts
 
+announced-last-requires : tie.Need-announced-last-requires
+announced-last-requires c κs = search call-drafts
+
 cast-put-call : tie.Need-cast-put-call
 cast-put-call c = search call-drafts
 
 mul-put-call : tie.Need-mul-put-call
 mul-put-call c = search call-drafts
+
+call-by-requires : tie.Need-call-by-requires
+call-by-requires c κs = search call-drafts
 
 put-call-requires : tie.Need-put-call-requires
 put-call-requires c κs = search call-drafts
@@ -32,8 +38,10 @@ draft-call-spec =
     (tie.spec
     enum-known-said
     returns
+    announced-last-requires
     cast-put-call
     mul-put-call
+    call-by-requires
     put-call-requires
     add-k
     same-length

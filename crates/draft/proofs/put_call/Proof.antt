@@ -5,14 +5,11 @@ use Rattle.draft.proofs.put_call.Tie as tie
 put4-requires : tie.Need-put4-requires
 put4-requires c κs = search written
 
-add-calls : tie.Need-add-calls
-add-calls c = search written
+add-put4 : tie.Need-add-put4
+add-put4 c = search written
 
-mul-calls : tie.Need-mul-calls
-mul-calls c = search written
-
-slice-write-calls : tie.Need-slice-write-calls
-slice-write-calls c = search written
+put4-requires-2 : tie.Need-put4-requires-2
+put4-requires-2 c κs = search written
 
 same-length : tie.Need-same-length
 same-length c = search written
@@ -21,5 +18,4 @@ returns : tie.Need-returns
 returns c = search written
 
 pub put-call-spec : {M : Type 1} → statement M
-put-call-spec =
-    tie.close (tie.spec put4-requires add-calls mul-calls slice-write-calls same-length returns)
+put-call-spec = tie.close (tie.spec put4-requires add-put4 put4-requires-2 same-length returns)

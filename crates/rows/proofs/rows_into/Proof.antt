@@ -2,6 +2,7 @@ use mathlib.Core.Path.{_≡_}
 use Prim.Native.Nat.{_+_, _-_, _*_, _≤_}
 use native.Mathlib.Omega.{arith}
 use lib.ListN.{length}
+use Rattle.timetable.specs.Layout.{rowSize}
 use Rattle.timetable.specs.Table.{serviceAt, tableOf}
 use Rattle.timetable.specs.Questions.{rowsOf}
 use Rattle.words.specs.Words.{write}
@@ -12,7 +13,7 @@ use Rattle.rows.proofs.rows_into.Tie as tie
 
 abbrev Inv-loop : tie.InvT-loop
 Inv-loop w s a n delay rows₀ k₀ at₀ rows k at =
-    (k ≤ n + 1) × (at ≡ 7 * k) × (length rows ≡ length rows₀)
+    (k ≤ n + 1) × (at ≡ rowSize * k) × (length rows ≡ length rows₀)
     × (write rows at (rowsOf (tableOf w) (serviceAt s) a n delay k (callsFrom s (a + k) (n + 1 - k))) ≡ write rows₀ 0 (rowsOf (tableOf w) (serviceAt s) a n delay 0 (callsFrom s a (n + 1))))
 
 abbrev μ-loop : tie.MeasureT-loop

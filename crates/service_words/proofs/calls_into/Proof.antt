@@ -24,8 +24,8 @@ loop-holds c = search calling
 call-at-requires : tie.Need-call-at-requires Inv-loop μ-loop
 call-at-requires c κs = search calling
 
-put4-requires : tie.Need-put4-requires Inv-loop μ-loop
-put4-requires c κs = search calling
+put-call-requires : tie.Need-put-call-requires Inv-loop μ-loop
+put-call-requires c κs = search calling
 
 add-place : tie.Need-add-place Inv-loop μ-loop
 add-place c = search calling
@@ -56,7 +56,7 @@ calls-into-spec =
     μ-loop
     loop-holds
     call-at-requires
-    put4-requires
+    put-call-requires
     add-place
     add-to
     add-i

@@ -3,13 +3,14 @@ use Prim.Native.Nat.{_+_, _*_, _≤_}
 use native.Mathlib.Omega.{arith}
 use lib.ListN.{length, drop}
 use Rattle.base.specs.Lists.{every}
+use Rattle.timetable.specs.Layout.{callSize}
 use Rattle.timetable.specs.Table.{rowsIn, callAt, callSound}
 use Rattle.table.proofs.Laws.{rows}
 use Rattle.table.proofs.calls_sound.Statement.{statement}
 use Rattle.table.proofs.calls_sound.Tie as tie
 
 abbrev Inv-loop : tie.InvT-loop
-Inv-loop w at n p₀ k₀ p k = (p + 4 * k ≤ length w) × (every callSound (rowsIn callAt 4 k (drop p w)) ≡ every callSound (rowsIn callAt 4 n (drop at w)))
+Inv-loop w at n p₀ k₀ p k = (p + callSize * k ≤ length w) × (every callSound (rowsIn callAt callSize k (drop p w)) ≡ every callSound (rowsIn callAt callSize n (drop at w)))
 
 abbrev μ-loop : tie.MeasureT-loop
 μ-loop w at n p₀ k₀ p k = k

@@ -14,9 +14,6 @@ tail-fits-requires c κs = search usual
 head-fits-requires : tie.Need-head-fits-requires
 head-fits-requires c κs = search usual
 
-number-in-requires : tie.Need-number-in-requires
-number-in-requires c κs = search usual
-
 call-of-requires : tie.Need-call-of-requires
 call-of-requires c κs = search usual
 
@@ -37,7 +34,6 @@ usual-call-spec =
     time-at-requires-2
     tail-fits-requires
     head-fits-requires
-    number-in-requires
     call-of-requires
     returns
     tabled-call-requires
