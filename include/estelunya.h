@@ -1,7 +1,8 @@
 /*
  * Estelunya: the proved timetable loader. Link libestelunya.a.
  *
- * A load makes a table from the five files of a delivery; day, interchange and walk are asked of a table; and there is arithmetic on operating days.
+ * A load makes a table from the five files of a delivery; day, interchange, stop name and walk are asked of a table; and there is arithmetic on operating
+ * days.
  * The rules, and the numbers of the refusals, are those of documents 01 and 02; docs/REFUSALS.md tells them to people.
  *
  * What the caller owes: each pointer is good for its length, given in items (bytes or 32-bit words), and aligned as its type is; it may be null
@@ -23,7 +24,7 @@ extern "C" {
 #endif
 
 typedef struct EstelunyaLoadResult {
-    uint32_t number; /* 0: accepted; else the refusal, 1 to 20 or 51 */
+    uint32_t number; /* 0: accepted; else the refusal, 1 to 20, 39 or 51 */
     uint32_t file;   /* 1 ECKDATEN, 2 BITFELD, 3 BAHNHOF, 4 UMSTEIGB, 5 FPLAN; 0 if accepted, and for 20 and 51 */
     uint32_t line;   /* the line, counted from 1; 0 if accepted, and for 1, 20 and 51 */
     uint32_t words;  /* accepted: the words used; 20: the words needed; 51: the helper words needed; else 0 */
@@ -39,6 +40,12 @@ typedef struct EstelunyaInterchangeResult {
     uint32_t number;  /* 0: answered; else the refusal: 21, 26 or 27 */
     uint32_t minutes; /* the interchange time; 0 if refused */
 } EstelunyaInterchangeResult;
+
+typedef struct EstelunyaNameResult {
+    uint32_t number; /* 0: answered; else the refusal: 21, 27, 39, 40 or 41 */
+    size_t start;    /* the byte of BAHNHOF at which the name starts, counted from 0; 0 if refused */
+    size_t length;   /* how many bytes the name has, one or more; 0 if refused */
+} EstelunyaNameResult;
 
 typedef struct EstelunyaWalkResult {
     uint32_t number; /* 0: answered; else the refusal: 21 to 25, 29, 31 to 36 */
@@ -79,7 +86,10 @@ typedef struct EstelunyaDayCountResult {
 #define ESTELUNYA_BIT_FIELD_WORDS 13
 #define ESTELUNYA_BIT_WORDS 12 /* of its bits */
 
-/* Stop: number; byte of BAHNHOF at which its name starts, counted from 0; length of the name without trailing blanks */
+/*
+ * Stop: number; byte of BAHNHOF at which its name field starts, counted from 0; length of the field without trailing blanks. All its names stand there, with
+ * their patterns: estelunya_stop_name finds one of them.
+ */
 #define ESTELUNYA_STOP_WORDS 3
 
 /*
@@ -154,7 +164,7 @@ typedef struct EstelunyaDayCountResult {
  * none asks for their number. After 1 and 51 all words of `helper` hold what they held. They are not needed once the call is over.
  *
  * The table lives in the caller's words: it is good as long as they are neither changed nor given back, and may be copied, kept in a file, or
- * asked by another program. It holds no pointers and does not need the files; only a stop's name is not in it, but its place and length in BAHNHOF.
+ * asked by another program. It holds no pointers and does not need the files; only a stop's names are not in it, but their place and length in BAHNHOF.
  */
 EstelunyaLoadResult estelunya_load(
     const uint8_t *eckdaten, size_t eckdaten_len,
@@ -166,7 +176,7 @@ EstelunyaLoadResult estelunya_load(
     uint32_t *helper, size_t helper_len);
 
 /*
- * In the three questions `table` may be any words. Words that are not a table are refused with 21; words after the table's own are not looked at,
+ * In the four questions `table` may be any words. Words that are not a table are refused with 21; words after the table's own are not looked at,
  * so that all words lent to the load may be given.
  */
 
@@ -180,6 +190,19 @@ EstelunyaDayResult estelunya_day(
 EstelunyaInterchangeResult estelunya_interchange(
     const uint32_t *table, size_t table_len,
     uint32_t stop, uint32_t arriving, uint32_t departing);
+
+/*
+ * The name of stop number `stop` in a language and of a type: the first name with a pattern that fits both, else the first name. `language` is the byte of its
+ * letter in the standard's list (5.1: d e f h i j n o p s t u w x), `kind` is 1 to 9; 0 stands for any, and fits every pattern. A pattern without letters fits
+ * every language, one without digits every type; a name without patterns is answered only as the first name.
+ *
+ * `bahnhof` are the bytes that were loaded, and the name is a part of them. With other bytes there is an answer too: 41 where the stop's names are not inside
+ * them, 39 where what stands there is no list of names.
+ */
+EstelunyaNameResult estelunya_stop_name(
+    const uint32_t *table, size_t table_len,
+    const uint8_t *bahnhof, size_t bahnhof_len,
+    uint32_t stop, uint32_t language, uint32_t kind);
 
 /*
  * Walks a run that starts on a date: `service` is the index of the service from 0, in the order of FPLAN; `repeat` is 0 for the run itself, up to the

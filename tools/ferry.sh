@@ -43,6 +43,12 @@ fresh
 sed -i '2s/1000022/1000011/' "$place/BAHNHOF"
 says 'a stop listed twice' 'refused 6 file 3 line 2 column 0'
 fresh
+sed -i '2s/$/$<d/' "$place/BAHNHOF"
+says 'a pattern that is not closed' 'refused 39 file 3 line 2 column 0'
+fresh
+sed -i '2s/$/$Kai B$<d>/' "$place/BAHNHOF"
+says 'a name in another language' 'accepted days 7 bitfields 1 stops 3 interchange 1 services 1 words 78'
+fresh
 sed -i 's/  2  3/ 61  3/' "$place/UMSTEIGB"
 says '61 minutes' 'refused 4 file 4 line 1 column 9'
 fresh

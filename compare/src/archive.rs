@@ -1,7 +1,7 @@
 //! The linked archive as a `Boundary`, by its C functions: an answer's fields are all taken, so that one more is not overlooked.
 //! A module of the programs that link it; the library does not.
 
-use compare::boundary::{column_word, Boundary};
+use compare::boundary::{size_word, Boundary};
 use compare::reader::Combination;
 use estelunya_planner::raw;
 
@@ -18,7 +18,7 @@ impl Boundary for Archive {
             raw::estelunya_load(a, a_len, b, b_len, c, c_len, d, d_len, e, e_len, words, room, helps, help_room)
         };
         let raw::LoadResult { number, file, line, words, column } = answer;
-        [number, file, line, words, column_word(column)]
+        [number, file, line, words, size_word(column)]
     }
 
     fn day(&self, table: &[u32], [day, month, year]: [u32; 3], field: u32) -> [u32; 2] {
@@ -31,6 +31,13 @@ impl Boundary for Archive {
         let answer = unsafe { raw::estelunya_interchange(table.as_ptr(), table.len(), stop, arriving, departing) };
         let raw::InterchangeResult { number, minutes } = answer;
         [number, minutes]
+    }
+
+    fn stop_name(&self, table: &[u32], bahnhof: &[u8], stop: u32, [language, kind]: [u32; 2]) -> [u32; 3] {
+        let ((words, used), (bytes, length)) = ((table.as_ptr(), table.len()), (bahnhof.as_ptr(), bahnhof.len()));
+        let answer = unsafe { raw::estelunya_stop_name(words, used, bytes, length, stop, language, kind) };
+        let raw::NameResult { number, start, length } = answer;
+        [number, size_word(start), size_word(length)]
     }
 
     fn walk(&self, table: &[u32], service: u32, repeat: u32, date: [u32; 3], rows: &mut [u32]) -> [u32; 3] {

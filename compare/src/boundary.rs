@@ -1,6 +1,6 @@
 //! The boundary's functions as numbers, and the independent reader behind them.
 
-use crate::reader::{self, Changed, Combination, DayAnswer, Loaded, Refused, Walked};
+use crate::reader::{self, Changed, Combination, DayAnswer, Loaded, Named, Refused, Walked};
 
 /// Whatever answers as the archive does. An answer's numbers stand in the order of its fields.
 pub trait Boundary {
@@ -12,6 +12,9 @@ pub trait Boundary {
 
     /// number, minutes
     fn interchange(&self, table: &[u32], stop: u32, classes: [u32; 2]) -> [u32; 2];
+
+    /// number, start, length; a language and a type are wanted
+    fn stop_name(&self, table: &[u32], bahnhof: &[u8], stop: u32, wanted: [u32; 2]) -> [u32; 3];
 
     /// number, rows, needed
     fn walk(&self, table: &[u32], service: u32, repeat: u32, date: [u32; 3], rows: &mut [u32]) -> [u32; 3];
@@ -33,7 +36,7 @@ impl Boundary for Reader {
     fn load(&self, files: [&[u8]; 5], table: &mut [u32], helper: &mut [u32]) -> [u32; 5] {
         match reader::load(files, table, helper) {
             Loaded::Accepted { words } => [0, 0, 0, words, 0],
-            Loaded::Refused { number, file, line, column, needed } => [number, file, line, needed, column_word(column)],
+            Loaded::Refused { number, file, line, column, needed } => [number, file, line, needed, size_word(column)],
         }
     }
 
@@ -52,6 +55,13 @@ impl Boundary for Reader {
         }
     }
 
+    fn stop_name(&self, table: &[u32], bahnhof: &[u8], stop: u32, [language, kind]: [u32; 2]) -> [u32; 3] {
+        match reader::stop_name(table, bahnhof, stop, language, kind) {
+            Named::Part { start, length } => [0, size_word(start), size_word(length)],
+            Named::Refused { number } => [number, 0, 0],
+        }
+    }
+
     fn walk(&self, table: &[u32], service: u32, repeat: u32, date: [u32; 3], rows: &mut [u32]) -> [u32; 3] {
         let [day, month, year] = date;
         match reader::walk(table, service, repeat, day, month, year, rows) {
@@ -60,6 +70,7 @@ impl Boundary for Reader {
             Walked::Refused { number, needed } => [number, 0, needed],
         }
     }
+
     fn combine(&self, of: Combination, n: u32, first: &[u32], second: &[u32], result: &mut [u32]) -> [u32; 1] {
         number(reader::combine(of, n, first, second, result))
     }
@@ -76,9 +87,9 @@ impl Boundary for Reader {
     }
 }
 
-/// A column as a word. No file that is read has one that needs more.
-pub fn column_word(column: usize) -> u32 {
-    u32::try_from(column).unwrap_or(u32::MAX)
+/// A column, or a place or length in a file, as a word. No file that is read has one that needs more.
+pub fn size_word(size: usize) -> u32 {
+    u32::try_from(size).unwrap_or(u32::MAX)
 }
 
 fn number(given: Result<(), Refused>) -> [u32; 1] {

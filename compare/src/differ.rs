@@ -1,7 +1,8 @@
 //! The comparison of boundaries with the independent reader: the same calls to all, answers and every word lent.
 //!
 //! A case is a seed and an index: one delivery, questions on the table that it gives, on bent tables, and on words of no
-//! sense, and arithmetic on operating days. It depends on nothing before it, so that a failing case runs again alone.
+//! sense, names of its stops among them, and arithmetic on operating days. It depends on nothing before it, so that a failing
+//! case runs again alone.
 
 mod cases;
 mod columns;
@@ -18,7 +19,7 @@ pub use report::report;
 pub use tally::Tally;
 
 use crate::boundary::{Boundary, Reader};
-use crate::generate::{arithmetic, damaged_table, question, Question, Rng};
+use crate::generate::{arithmetic, damaged_table, name_question, names_bent, other_bytes, question, Question, Rng};
 use cases::{delivery, other_room};
 
 /// A boundary to compare, and what it is called in a report.
@@ -26,6 +27,7 @@ pub type Named<'a> = (&'static str, &'a dyn Boundary);
 
 const QUESTIONS_ON_TABLE: u32 = 6;
 const QUESTIONS_ON_BENT: u32 = 8;
+const NAMES: u32 = 6;
 const ARITHMETIC: u32 = 8;
 
 /// The first call of a case that a boundary answered otherwise than the reader.
@@ -50,8 +52,10 @@ pub fn compare(seed: u64, index: u64, boundaries: &[Named], tally: &mut Tally) -
     let mut rng = rng_of(seed, index);
     let mut run = Run { boundaries, tally };
     let case = delivery(&mut rng, index);
+    let bahnhof = case.files[2].clone();
     let loaded = run.call(Call::load(case))?;
     run.ask_all(&mut rng, &loaded)?;
+    run.ask_names(&mut rng, &loaded, &bahnhof)?;
     for _ in 0..ARITHMETIC {
         run.call(Call::Days(arithmetic(&mut rng)))?;
     }
@@ -87,6 +91,25 @@ impl Run<'_, '_> {
         }
         for _ in 0..QUESTIONS_ON_BENT {
             self.ask(rng, |rng| damaged_table(rng, loaded.lent()))?;
+        }
+        Ok(())
+    }
+
+    /// Questions for names on what a load left, as it is and bent, and on BAHNHOF as it was loaded or otherwise.
+    fn ask_names(&mut self, rng: &mut Rng, loaded: &Outcome, bahnhof: &[u8]) -> Compared<()> {
+        if loaded.answer[0] != 0 {
+            let table = senseless(rng);
+            let question = name_question(rng, &table);
+            return self.call(Call::Name { bahnhof: other_bytes(rng, &table, b"A"), table, question }).map(|_| ());
+        }
+        for turn in 0..NAMES {
+            let table = match turn % 3 {
+                0 => loaded.lent().to_vec(),
+                1 => names_bent(rng, loaded.lent()),
+                _ => damaged_table(rng, loaded.lent()),
+            };
+            let question = name_question(rng, &table);
+            self.call(Call::Name { bahnhof: other_bytes(rng, &table, bahnhof), table, question })?;
         }
         Ok(())
     }

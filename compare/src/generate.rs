@@ -10,6 +10,7 @@ pub mod break_sheet;
 pub mod case;
 pub mod day_sets;
 pub mod ends;
+pub mod names;
 pub mod national;
 pub mod numbers;
 pub mod plan;
@@ -18,9 +19,10 @@ pub mod raw_table;
 pub mod rng;
 pub mod sheet;
 
-pub use bend_table::damaged_table;
+pub use bend_table::{damaged_table, names_bent};
 pub use case::{counted_helper, damaged, mixed, mutated, oversized, several, some_helper, valid, Aim, Case, DAMAGES};
 pub use day_sets::{arithmetic, Arithmetic};
+pub use names::{name_question, other_bytes, NameQuestion};
 pub use national::{
     bucket, empty_lines, national, shortest_in, shortest_records, worst_numbers, National, MIB, WORST_STOP_LINES,
 };

@@ -1,10 +1,12 @@
 //! The linked archive as a `Boundary`, through the planner's safe layer, its answers turned back into numbers. A module of
 //! the programs that link it.
 
-use compare::boundary::{column_word, Boundary};
+use compare::boundary::{size_word, Boundary};
 use compare::reader::Combination;
 use estelunya_planner::layout::BIT_WORDS;
-use estelunya_planner::{load, load_with, BitField, Date, File, Files, LoadRefusal, Loaded, Refusal, Table, Walk};
+use estelunya_planner::{
+    load, load_with, BitField, Date, File, Files, Language, LoadRefusal, Loaded, NameType, Refusal, Table, Walk,
+};
 
 pub struct Planner;
 
@@ -33,6 +35,14 @@ impl Boundary for Planner {
         match Table::new(table).interchange(stop, arriving, departing) {
             Ok(minutes) => [0, minutes],
             Err(refusal) => [refusal.number(), 0],
+        }
+    }
+
+    fn stop_name(&self, table: &[u32], bahnhof: &[u8], stop: u32, [language, kind]: [u32; 2]) -> [u32; 3] {
+        match Table::new(table).stop(stop, bahnhof).name(Language(language), NameType(kind)) {
+            // The layer gives the part itself; where it starts is told by the pointers.
+            Ok(name) => [0, size_word(name.as_ptr() as usize - bahnhof.as_ptr() as usize), size_word(name.len())],
+            Err(refusal) => [refusal.number(), 0, 0],
         }
     }
 
@@ -74,7 +84,7 @@ fn numbers(answer: Result<Loaded, LoadRefusal>) -> [u32; 5] {
         Ok(loaded) => [0, 0, 0, loaded.words, 0],
         Err(refusal) => {
             let file = refusal.file.map_or(0, File::number);
-            [refusal.offence.number(), file, refusal.line, refusal.needed, column_word(refusal.column)]
+            [refusal.offence.number(), file, refusal.line, refusal.needed, size_word(refusal.column)]
         }
     }
 }

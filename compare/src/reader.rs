@@ -9,9 +9,10 @@ pub mod fields;
 pub mod forms;
 pub mod lines;
 pub mod load;
+pub mod names;
 pub mod service;
 pub mod table;
 
-pub use ask::{day, interchange, is_table, walk, Changed, DayAnswer, Walked};
+pub use ask::{day, interchange, is_table, stop_name, walk, Changed, DayAnswer, Named, Walked};
 pub use day_sets::{combine, complement, day_count, Combination, Refused};
 pub use load::{helper_needed, load, Loaded};

@@ -6,6 +6,7 @@ mod differ;
 mod examples;
 mod expected;
 mod ground;
+mod names;
 mod national;
 mod random;
 mod refusals;

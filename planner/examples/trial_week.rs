@@ -9,7 +9,7 @@ use std::error::Error;
 use std::fs::read;
 use std::path::{Path, PathBuf};
 
-use estelunya_planner::{load, Date, Files, Row, Table, Walk, MOST_ROW_WORDS};
+use estelunya_planner::{load, Date, Files, Language, NameType, Row, Table, Walk, MOST_ROW_WORDS};
 
 /// Enough for a small delivery; a longer table is refused with the words that it needs.
 const TABLE_WORDS: usize = 4_096;
@@ -58,7 +58,7 @@ fn directory() -> PathBuf {
 }
 
 fn row_text(row: Row<'_>, table: Table<'_>, bahnhof: &[u8]) -> String {
-    let name = text(table.stop_name(row.stop(), bahnhof).unwrap_or(b"?"));
+    let name = text(table.stop(row.stop(), bahnhof).name(Language::ENGLISH, NameType::ANY).unwrap_or(b"?"));
     let category = row.category().map_or(String::new(), |bytes| text(&bytes));
     let (times, service) = ([row.arrival(), row.departure()].map(clock), text(&row.administration()));
     format!("{} {} {:3} {:05} {} {} {}", times[0], times[1], category, row.number(), service, row.stop(), name)

@@ -42,9 +42,10 @@ impl<'a> Table<'a> {
         self.stop_records().nth(index as usize).map(|record| record[0])
     }
 
-    /// The name of the stop with this number, as a [`Row`](crate::Row) says it: the bytes from column 13 of its line in
-    /// BAHNHOF, without trailing blanks. The bytes of BAHNHOF must be those that were loaded. `None` if the stop is not
-    /// in the table, or these bytes do not reach so far.
+    /// The name field of the stop with this number, as a [`Row`](crate::Row) says it: the bytes from column 13 of its line in
+    /// BAHNHOF, without trailing blanks. All its names stand there with their patterns; the one to show is
+    /// [`Stop::name`](crate::Stop::name). The bytes of BAHNHOF must be those that were loaded. `None` if the stop is not in
+    /// the table, or these bytes do not reach so far.
     pub fn stop_name(self, stop: u32, bahnhof: &[u8]) -> Option<&[u8]> {
         let record = self.stop_records().find(|record| record[0] == stop)?;
         let (start, length) = (record[1] as usize, record[2] as usize);

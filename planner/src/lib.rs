@@ -6,7 +6,7 @@
 //! The sample delivery, read from this crate's directory, loaded and walked:
 //!
 //! ```
-//! use estelunya_planner::{load, Date, Files, Table, Walk, MOST_ROW_WORDS};
+//! use estelunya_planner::{load, Date, Files, Language, NameType, Table, Walk, MOST_ROW_WORDS};
 //! use std::fs::read;
 //!
 //! # fn main() -> Result<(), Box<dyn std::error::Error>> {
@@ -30,7 +30,8 @@
 //!         let stops: Vec<u32> = rows.iter().map(|row| row.stop()).collect();
 //!         assert_eq!(stops, [1_000_011, 1_000_022, 1_000_033, 1_000_022]);
 //!         assert!(rows.iter().all(|row| row.number() == 42 && row.administration() == *b"FERRY_"));
-//!         assert_eq!(table.stop_name(stops[0], &bahnhof), Some(&b"Quay A"[..]));
+//!         let name = table.stop(stops[0], &bahnhof).name(Language::GERMAN, NameType::ANY)?;
+//!         assert_eq!(name, b"Quay A");
 //!     }
 //!     Walk::NotRunning => panic!("it runs on Fridays"),
 //! }
@@ -71,6 +72,7 @@ mod contents;
 mod days;
 pub mod layout;
 mod load;
+mod names;
 pub mod raw;
 mod refusal;
 mod row;
@@ -79,5 +81,6 @@ pub use ask::{Date, Table, Walk};
 pub use days::BitField;
 pub use layout::{MOST_ROW_WORDS, ROW_WORDS};
 pub use load::{helper_words, load, load_with, Files, Loaded};
+pub use names::{Language, NameType, Stop};
 pub use refusal::{File, LoadRefusal, Offence, Refusal};
 pub use row::{Row, Rows};

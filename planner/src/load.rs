@@ -28,7 +28,7 @@ pub struct Loaded {
 /// Loads a delivery into the words lent. Accepted: later words stay. Refused: all words stay as lent.
 ///
 /// The files are not needed afterwards, but for BAHNHOF if stop names are shown: see
-/// [`Table::stop_name`](crate::Table::stop_name).
+/// [`Table::stop`](crate::Table::stop).
 ///
 /// A load works in helper words besides. They are lent from the heap here, as many as it needs, and given back; to lend them from
 /// elsewhere there is [`load_with`].

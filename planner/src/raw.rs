@@ -5,7 +5,7 @@
 #[repr(C)]
 #[derive(Clone, Copy, Debug, PartialEq, Eq)]
 pub struct LoadResult {
-    /// 0: accepted; else the refusal, 1 to 20 or 51.
+    /// 0: accepted; else the refusal, 1 to 20, 39 or 51.
     pub number: u32,
     /// 1 ECKDATEN, 2 BITFELD, 3 BAHNHOF, 4 UMSTEIGB, 5 FPLAN; 0 if accepted, and for 20 and 51.
     pub file: u32,
@@ -35,6 +35,18 @@ pub struct InterchangeResult {
     pub number: u32,
     /// The interchange time; 0 if refused.
     pub minutes: u32,
+}
+
+/// The answer of [`estelunya_stop_name`].
+#[repr(C)]
+#[derive(Clone, Copy, Debug, PartialEq, Eq)]
+pub struct NameResult {
+    /// 0: answered; else the refusal: 21, 27, 39, 40, 41.
+    pub number: u32,
+    /// The byte of BAHNHOF at which the name starts, counted from 0; 0 if refused.
+    pub start: usize,
+    /// How many bytes the name has; 0 if refused.
+    pub length: usize,
 }
 
 /// The answer of [`estelunya_walk`].
@@ -102,6 +114,17 @@ extern "C" {
         arriving: u32,
         departing: u32,
     ) -> InterchangeResult;
+
+    /// The name of a stop in a language (the byte of its letter, 0 for any) and of a type (1 to 9, 0 for any).
+    pub fn estelunya_stop_name(
+        table: *const u32,
+        table_len: usize,
+        bahnhof: *const u8,
+        bahnhof_len: usize,
+        stop: u32,
+        language: u32,
+        kind: u32,
+    ) -> NameResult;
 
     /// Walks a repeat of a service on a date into the words lent, 10 a row. Listed: later words stay. Not running or
     /// refused: all words stay.

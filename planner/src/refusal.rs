@@ -98,11 +98,13 @@ pub enum Offence {
     TwoStretches = 19,
     /// 20: the delivery is right, but its table needs more words than were lent.
     TableTooShort = 20,
+    /// 39: the name field of a stop is no list of names with their patterns.
+    NameList = 39,
     /// 51: the load needs more helper words than were lent. [`load`](crate::load) lends enough.
     HelperTooShort = 51,
 }
 
-const OFFENCES: [(Offence, &str); 21] = [
+const OFFENCES: [(Offence, &str); 22] = [
     (Offence::FileTooLong, "the file has more than 16,777,216 bytes"),
     (Offence::LineMissing, "a line is missing: ECKDATEN needs three lines, UMSTEIGB at least the record of 9999999"),
     (Offence::FourthLine, "ECKDATEN has more than three lines"),
@@ -126,16 +128,17 @@ const OFFENCES: [(Offence, &str); 21] = [
     (Offence::OperatingDays, "a leg of the service does not have exactly one *A VE line"),
     (Offence::TwoStretches, "on some day the service runs on two or more separate stretches"),
     (Offence::TableTooShort, "the delivery is right, but the table lent is too short for it"),
+    (Offence::NameList, "the name field is no list of names with their patterns, such as Genf$<d>$Geneva$<e>"),
     (Offence::HelperTooShort, "the helper words lent are too few for the lines of BITFELD, BAHNHOF and UMSTEIGB"),
 ];
 
 impl Offence {
-    /// Its number, 1 to 20 or 51.
+    /// Its number, 1 to 20, 39 or 51.
     pub fn number(self) -> u32 {
         self as u32
     }
 
-    /// The offence of a number; `None` unless 1 to 20 or 51.
+    /// The offence of a number; `None` unless 1 to 20, 39 or 51.
     pub fn from_number(number: u32) -> Option<Offence> {
         OFFENCES.iter().map(|(offence, _)| *offence).find(|offence| offence.number() == number)
     }
@@ -177,7 +180,8 @@ impl fmt::Display for LoadRefusal {
 
 impl Error for LoadRefusal {}
 
-/// Why a question, or arithmetic on operating days, is refused. 31 to 36 cannot occur on the unaltered table of an accepted delivery: that is proved.
+/// Why a question, or arithmetic on operating days, is refused. 31 to 36 cannot occur on the
+/// unaltered table of an accepted delivery, nor 39 and 41 with its own BAHNHOF: that is proved.
 #[derive(Clone, Copy, Debug, PartialEq, Eq)]
 pub enum Refusal {
     /// 21: the words are not a table.
@@ -213,11 +217,17 @@ pub enum Refusal {
     TwoStretches,
     /// 36: a call has no time where the run needs one, or one that is earlier than the one needed before.
     Times,
+    /// 39: the stop's name field is no list of names with their patterns, or longer than the 50 columns that it can have.
+    NameList,
+    /// 40: the language or the type is neither 0 nor in the standard's list.
+    NoSuchLanguageOrType,
+    /// 41: the stop's name field is not inside the bytes of BAHNHOF that were given.
+    NameOutside,
     /// 42: the words are not twelve with the frame of the period, or the period does not have 1 to 380 days.
     NotAField,
 }
 
-const REFUSALS: [(u32, Refusal, &str); 16] = [
+const REFUSALS: [(u32, Refusal, &str); 19] = [
     (21, Refusal::NotATable, "the words are not a table"),
     (22, Refusal::NoSuchDate, "there is no such date"),
     (23, Refusal::OutsidePeriod, "the date is outside the period"),
@@ -233,16 +243,19 @@ const REFUSALS: [(u32, Refusal, &str); 16] = [
     (34, Refusal::OperatingDays, "a leg does not have exactly one range of operating days"),
     (35, Refusal::TwoStretches, "on that day the service runs on two or more separate stretches"),
     (36, Refusal::Times, "a time that the run needs is missing, or earlier than the one before it"),
+    (39, Refusal::NameList, "the name field of the stop is no list of names"),
+    (40, Refusal::NoSuchLanguageOrType, "there is no such language or type"),
+    (41, Refusal::NameOutside, "the names of the stop are not inside the bytes of BAHNHOF given"),
     (42, Refusal::NotAField, "the words are not a bit field with the frame of the period"),
 ];
 
 impl Refusal {
-    /// Its number, 21 to 29, 31 to 36 or 42.
+    /// Its number, 21 to 29, 31 to 36 or 39 to 42.
     pub fn number(self) -> u32 {
         self.entry().0
     }
 
-    /// The refusal of a number, with the words needed if it is 29; `None` unless 21 to 29, 31 to 36 or 42.
+    /// The refusal of a number, with the words needed if it is 29; `None` unless 21 to 29, 31 to 36 or 39 to 42.
     pub fn from_number(number: u32, needed: u32) -> Option<Refusal> {
         match REFUSALS.iter().find(|entry| entry.0 == number)?.1 {
             Refusal::RowsTooShort { .. } => Some(Refusal::RowsTooShort { needed }),

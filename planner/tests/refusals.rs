@@ -6,10 +6,10 @@ use estelunya_planner::{load, File, Files, Offence, Refusal};
 fn numbers_and_back() {
     for number in 0..100 {
         let offence = Offence::from_number(number);
-        assert_eq!(offence.is_some(), (1..=20).contains(&number) || number == 51);
+        assert_eq!(offence.is_some(), (1..=20).contains(&number) || [39, 51].contains(&number));
         assert_eq!(offence.map_or(number, Offence::number), number);
         let refusal = Refusal::from_number(number, 28);
-        assert_eq!(refusal.is_some(), (21..=36).contains(&number) && number != 30 || number == 42);
+        assert_eq!(refusal.is_some(), (21..=36).contains(&number) && number != 30 || (39..=42).contains(&number));
         assert_eq!(refusal.map_or(number, Refusal::number), number);
         let file = File::from_number(number);
         assert_eq!(file.is_some(), (1..=5).contains(&number));
@@ -32,8 +32,8 @@ fn texts() {
     );
     assert_eq!(Refusal::TwoStretches.number(), 35);
     let texts: Vec<String> = (1..=51).filter_map(Offence::from_number).map(|offence| offence.to_string()).collect();
-    assert_eq!(texts.len(), 21);
-    assert!((0..21).all(|i| !texts[i].is_empty() && !texts[..i].contains(&texts[i])));
+    assert_eq!(texts.len(), 22);
+    assert!((0..22).all(|i| !texts[i].is_empty() && !texts[..i].contains(&texts[i])));
 }
 
 #[test]

@@ -93,6 +93,10 @@ fn handed_on() {
     unsafe {
         let day = drift_estelunya_day(words, length, 5, 12, 2025, 1);
         assert_eq!((day, day.runs), (raw::estelunya_day(words, length, 5, 12, 2025, 1), 1));
+        let (bahnhof, bytes) = (FILES[2].as_ptr(), FILES[2].len());
+        let name = drift_estelunya_stop_name(words, length, bahnhof, bytes, 1_000_022, u32::from(b'd'), 1);
+        let same = raw::estelunya_stop_name(words, length, bahnhof, bytes, 1_000_022, u32::from(b'd'), 1);
+        assert_eq!((name, &FILES[2][name.start..][..name.length]), (same, &b"Quay B"[..]));
         let change = drift_estelunya_interchange(words, length, 1_000_011, 3, 1);
         assert_eq!((change, change.minutes), (raw::estelunya_interchange(words, length, 1_000_011, 3, 1), 3));
     }

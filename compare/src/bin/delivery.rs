@@ -18,7 +18,18 @@ use planner::Planner;
 const DELIVERY: Program = Program {
     name: "delivery",
     command: "tools/planner.sh",
-    calls: &["load", "day", "interchange", "walk", "union", "intersection", "difference", "complement", "count"],
+    calls: &[
+        "load",
+        "day",
+        "interchange",
+        "name",
+        "walk",
+        "union",
+        "intersection",
+        "difference",
+        "complement",
+        "count",
+    ],
 };
 
 fn main() {

@@ -47,6 +47,10 @@ impl Boundary for Ordinary {
         unreachable!()
     }
 
+    fn stop_name(&self, _: &[u32], _: &[u8], _: u32, _: [u32; 2]) -> [u32; 3] {
+        unreachable!()
+    }
+
     fn walk(&self, _: &[u32], _: u32, _: u32, _: [u32; 3], _: &mut [u32]) -> [u32; 3] {
         unreachable!()
     }

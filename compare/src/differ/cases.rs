@@ -29,7 +29,7 @@ fn over_length(rng: &mut Rng) -> Case {
         1 => case.files[beside] = oversized(rng).files[beside].clone(),
         _ => return case,
     }
-    case.helper = some_helper(rng, counted_helper(&case.files));
+    case.helper = some_helper(rng, counted_helper(&case.files), 2);
     case
 }
 

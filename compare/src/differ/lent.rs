@@ -1,7 +1,7 @@
 //! One call of the boundary, with words lent in a pattern, and all that it left.
 
 use crate::boundary::Boundary;
-use crate::generate::{Arithmetic, Case, Question};
+use crate::generate::{Arithmetic, Case, NameQuestion, Question};
 
 /// Words on each side of the words lent that no call may touch.
 const GUARD: usize = 16;
@@ -18,6 +18,11 @@ pub enum Call {
     Ask {
         table: Vec<u32>,
         question: Question,
+    },
+    Name {
+        table: Vec<u32>,
+        bahnhof: Vec<u8>,
+        question: NameQuestion,
     },
     Days(Arithmetic),
 }
@@ -65,7 +70,7 @@ impl Call {
             Call::Load { room, .. } => *room,
             Call::Ask { question: Question::Walk { room, .. }, .. } => *room,
             Call::Days(Arithmetic::Combine { room, .. } | Arithmetic::Complement { room, .. }) => *room,
-            Call::Ask { .. } | Call::Days(Arithmetic::Count { .. }) => 0,
+            Call::Ask { .. } | Call::Name { .. } | Call::Days(Arithmetic::Count { .. }) => 0,
         }
     }
 
@@ -73,7 +78,7 @@ impl Call {
     fn helper(&self) -> &[u32] {
         match self {
             Call::Load { helper, .. } => helper,
-            Call::Ask { .. } | Call::Days(_) => &[],
+            Call::Ask { .. } | Call::Name { .. } | Call::Days(_) => &[],
         }
     }
 
@@ -84,6 +89,7 @@ impl Call {
         let (answer, read_only) = match self {
             Call::Load { files, .. } => loaded(boundary, files, lent_words, lent(&mut helper)),
             Call::Ask { table, question } => asked(boundary, table, *question, lent_words),
+            Call::Name { table, bahnhof, question } => named(boundary, table, bahnhof, *question),
             Call::Days(arithmetic) => reckoned(boundary, arithmetic, lent_words),
         };
         Outcome { answer, words, helper, read_only }
@@ -105,6 +111,13 @@ fn asked(boundary: &dyn Boundary, table: &[u32], question: Question, lent: &mut 
         Question::Walk { service, repeat, date, .. } => boundary.walk(&given, service, repeat, date, lent).to_vec(),
     };
     (answer, given == table)
+}
+
+fn named(boundary: &dyn Boundary, table: &[u32], bahnhof: &[u8], question: NameQuestion) -> (Vec<u32>, bool) {
+    let (given, bytes) = (table.to_vec(), bahnhof.to_vec());
+    let NameQuestion { stop, language, kind } = question;
+    let answer = boundary.stop_name(&given, &bytes, stop, [language, kind]);
+    (answer.to_vec(), given == table && bytes == bahnhof)
 }
 
 fn reckoned(boundary: &dyn Boundary, arithmetic: &Arithmetic, lent: &mut [u32]) -> (Vec<u32>, bool) {

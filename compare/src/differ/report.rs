@@ -7,7 +7,7 @@ use std::path::Path;
 use super::lent::Call;
 use super::Difference;
 use crate::files;
-use crate::generate::{Arithmetic, Question};
+use crate::generate::{Arithmetic, NameQuestion, Question};
 
 /// Tells a difference, with what was given written below a directory, and the command that takes a seed, a count and a first
 /// case.
@@ -30,6 +30,9 @@ fn call_text(call: &Call) -> String {
     match call {
         Call::Load { room, helper, .. } => format!("load into {} words, with {} helper words", room, helper.len()),
         Call::Ask { question, .. } => question_text(*question),
+        Call::Name { bahnhof, question: NameQuestion { stop, language, kind }, .. } => {
+            format!("name of {} in language {} of type {}, with {} bytes", stop, language, kind, bahnhof.len())
+        }
         Call::Days(arithmetic) => arithmetic_text(arithmetic),
     }
 }
@@ -52,7 +55,7 @@ fn question_text(question: Question) -> String {
     }
 }
 
-/// The five files under their names, and the helper words as decimal numbers in HELPER; the words asked in the same way in TABLE;
+/// The five files under their names, and the helper words as decimal numbers in HELPER; the words asked in the same way in TABLE, with BAHNHOF;
 /// or fields in FIRST, SECOND.
 fn write_given(call: &Call, directory: &Path) -> io::Result<()> {
     if directory.exists() {
@@ -65,6 +68,10 @@ fn write_given(call: &Call, directory: &Path) -> io::Result<()> {
             fs::write(directory.join("HELPER"), words_text(helper))
         }
         Call::Ask { table, .. } => fs::write(directory.join("TABLE"), words_text(table)),
+        Call::Name { table, bahnhof, .. } => {
+            fs::write(directory.join("TABLE"), words_text(table))?;
+            fs::write(directory.join("BAHNHOF"), bahnhof)
+        }
         Call::Days(Arithmetic::Combine { first, second, .. }) => {
             fs::write(directory.join("FIRST"), words_text(first))?;
             fs::write(directory.join("SECOND"), words_text(second))

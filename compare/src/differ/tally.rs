@@ -6,13 +6,15 @@ use std::fmt;
 use super::columns::Columns;
 use super::lent::{Call, Outcome};
 use crate::generate::{Arithmetic, Question};
+use crate::layout::{BIT_FIELDS_AT, BIT_FIELD_WORDS, HEADER_WORDS, STOP_WORDS};
 use crate::reader::Combination;
 
 /// Every kind of answer that there is, by call: what it is called without a refusal, and its refusals.
-const ANSWERS: [(&str, &[&str], &[u32]); 9] = [
-    ("load", &["accepted"], &[1, 2, 3, 4, 5, 6, 7, 8, 9, 10, 11, 12, 13, 14, 15, 16, 17, 18, 19, 20, 51]),
+const ANSWERS: [(&str, &[&str], &[u32]); 10] = [
+    ("load", &["accepted"], &[1, 2, 3, 4, 5, 6, 7, 8, 9, 10, 11, 12, 13, 14, 15, 16, 17, 18, 19, 20, 39, 51]),
     ("day", &["runs", "rests"], &[21, 22, 23, 28]),
     ("interchange", &["minutes"], &[21, 26, 27]),
+    ("name", &["first", "later"], &[21, 27, 39, 40, 41]),
     ("walk", &["rows", "not running"], &[21, 22, 23, 24, 25, 29, 31, 32, 33, 34, 35, 36]),
     ("union", &["given"], &[42]),
     ("intersection", &["given"], &[42]),
@@ -56,6 +58,13 @@ fn refused(number: u32) -> String {
     format!("refused {:2}", number)
 }
 
+/// Whether a stop's name field starts at this byte, by the first record of the stop; of words that are no table it does not matter.
+fn starts_field(table: &[u32], stop: u32, start: u32) -> bool {
+    let first = HEADER_WORDS as u64 + BIT_FIELD_WORDS as u64 * u64::from(*table.get(BIT_FIELDS_AT).unwrap_or(&0));
+    let records = usize::try_from(first).ok().and_then(|first| table.get(first..)).unwrap_or(&[]);
+    records.chunks_exact(STOP_WORDS).find(|record| record[0] == stop).map_or(false, |record| record[1] == start)
+}
+
 fn kind(call: &Call, answer: &[u32]) -> (&'static str, String) {
     let (name, plain) = match call {
         Call::Load { .. } => ("load", "accepted"),
@@ -63,6 +72,9 @@ fn kind(call: &Call, answer: &[u32]) -> (&'static str, String) {
         Call::Ask { question: Question::Interchange { .. }, .. } => ("interchange", "minutes"),
         Call::Ask { question: Question::Walk { .. }, .. } => {
             ("walk", if answer[1] > 0 { "rows" } else { "not running" })
+        }
+        Call::Name { table, question, .. } => {
+            ("name", if starts_field(table, question.stop, answer[1]) { "first" } else { "later" })
         }
         Call::Days(Arithmetic::Combine { of: Combination::Union, .. }) => ("union", "given"),
         Call::Days(Arithmetic::Combine { of: Combination::Intersection, .. }) => ("intersection", "given"),

@@ -23,6 +23,7 @@ pub const BENDS: &[Bend] = &[
     bitfield_word,
     bitfield_twice,
     stop_renamed,
+    name_elsewhere,
     call_elsewhere,
     record_twice,
     one_record,
@@ -128,6 +129,17 @@ fn bitfield_twice(rng: &mut Rng, table: &mut RawTable) -> Option<()> {
 
 fn stop_renamed(rng: &mut Rng, table: &mut RawTable) -> Option<()> {
     some(rng, &mut table.stops)?[0] = rng.pick(&[0, 9_999_999, 1_000_011]);
+    Some(())
+}
+
+/// Another place or length of a stop's names; no condition of 21 is about these.
+fn name_elsewhere(rng: &mut Rng, table: &mut RawTable) -> Option<()> {
+    let [_, place, length] = some(rng, &mut table.stops)?;
+    match rng.below(3) {
+        0 => *place = rng.pick(&[0, place.wrapping_add(1), place.saturating_sub(1), 1 << 31, u32::MAX]),
+        1 => *length = rng.pick(&[0, length.wrapping_add(1), length.saturating_sub(1), 50, 51, u32::MAX]),
+        _ => (*place, *length) = rng.pick(&[(0, 0), (0, 7), (u32::MAX, 1), (1, u32::MAX)]),
+    }
     Some(())
 }
 
@@ -393,6 +405,15 @@ fn section_count_off(rng: &mut Rng, words: &mut Vec<u32>) -> Option<()> {
     }
     words[which] = rng.pick(&[words[which] + 1, u32::MAX, 1 << 30, 201]);
     Some(())
+}
+
+/// A table in which some stops' names have another place or length.
+pub fn names_bent(rng: &mut Rng, table: &[u32]) -> Vec<u32> {
+    let mut raw = parts(table);
+    for _ in 0..rng.between(1, 3) {
+        name_elsewhere(rng, &mut raw);
+    }
+    raw.words()
 }
 
 /// Any damage to a table: bent, no table any more, or a word changed at random.

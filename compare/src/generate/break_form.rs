@@ -1,6 +1,7 @@
 //! Damages to the form of one line (refusal 4), each with the column where the form breaks (document 02, No. 6). Every
 //! column that can be told comes about as often as any other of its kind of line.
 
+use super::names::bad_list;
 use super::rng::Rng;
 use super::sheet::{Row, Sheet, Tag};
 
@@ -149,6 +150,7 @@ pub fn pile_on(rng: &mut Rng, row: &mut Row) {
         Tag::Call(..) | Tag::Record(_) => put(&mut row.text, 1, b"7654321"),
         Tag::Ve(..) | Tag::Other(..) => put(&mut row.text, 23, b"765432"),
         Tag::BitField(_) => put(&mut row.text, 8, &[b'0'; 96]),
+        Tag::Stop(_) => put(&mut row.text, 13, &bad_list(rng)),
         _ => {}
     }
 }

@@ -1,6 +1,7 @@
-//! Damages to a sheet: refusals 2, 3, 5, 11 and 12, which are about lines more than about what they mean.
+//! Damages to a sheet: refusals 2, 3, 5, 11, 12 and 39, which are about lines more than about what they mean.
 
 use super::break_plan::{At, Hit};
+use super::names::bad_list;
 use super::plan::{Plan, LAST_DAY};
 use super::rng::Rng;
 use super::sheet::{date_text, skipped_row, Row, Sheet, Tag};
@@ -17,6 +18,7 @@ pub const DAMAGES: &[(u32, SheetDamage)] = &[
     (5, over_380),
     (11, other_kind),
     (12, before_first_z),
+    (39, bad_names),
 ];
 
 fn few_lines(rng: &mut Rng, _: &Plan, sheet: &mut Sheet) -> Hit {
@@ -130,4 +132,25 @@ fn before_first_z(rng: &mut Rng, _: &Plan, sheet: &mut Sheet) -> Hit {
     let at = rng.index(first_z(rows).unwrap_or(rows.len()) + 1);
     rows.insert(at, Row { tag: Tag::Free, text });
     Some((5, At::Line(at as u32 + 1)))
+}
+
+/// A name field that is no list. It comes before 7 and 6, so that the number may be wrong as well.
+fn bad_names(rng: &mut Rng, _: &Plan, sheet: &mut Sheet) -> Hit {
+    let rows = &mut sheet.files[2];
+    let stops: Vec<usize> = (0..rows.len()).filter(|i| matches!(rows[*i].tag, Tag::Stop(_))).collect();
+    if stops.is_empty() {
+        return None;
+    }
+    let (at, before) = (rng.pick(&stops), rng.pick(&stops));
+    let number = rows[before].text[..7].to_vec();
+    let text = &mut rows[at].text;
+    text.truncate(12);
+    text.extend(bad_list(rng));
+    match rng.below(8) {
+        0 => text[..7].copy_from_slice(rng.pick(&[b"9999999", b"1200000", b"0000000"])),
+        1 => text[..7].copy_from_slice(&number),
+        2 => text.extend_from_slice(b"   "),
+        _ => {}
+    }
+    Some((3, At::Tag(rows[at].tag)))
 }

@@ -96,9 +96,9 @@ fn short_helper(rng: &mut Rng, needed: usize) -> Vec<u32> {
     lent_helper(rng, words)
 }
 
-/// Mostly enough, now and then fewer.
-pub fn some_helper(rng: &mut Rng, needed: usize) -> Vec<u32> {
-    if rng.once_in(8) {
+/// Enough, and once in so many times fewer.
+pub fn some_helper(rng: &mut Rng, needed: usize, rare: u32) -> Vec<u32> {
+    if rng.once_in(rare) {
         short_helper(rng, needed)
     } else {
         enough_helper(rng, needed)
@@ -124,7 +124,7 @@ pub fn valid(rng: &mut Rng, size: Size) -> Case {
 }
 
 /// The refusals that a delivery can be damaged for.
-pub const DAMAGES: [u32; 20] = [2, 3, 4, 5, 6, 7, 8, 9, 10, 11, 12, 13, 14, 15, 16, 17, 18, 19, 20, 51];
+pub const DAMAGES: [u32; 21] = [2, 3, 4, 5, 6, 7, 8, 9, 10, 11, 12, 13, 14, 15, 16, 17, 18, 19, 20, 39, 51];
 
 /// (b) A delivery that breaks one clause of one of these refusals, and nothing before it.
 pub fn damaged(rng: &mut Rng, size: Size, number: u32) -> Case {
@@ -229,7 +229,7 @@ pub fn several(rng: &mut Rng, size: Size) -> Case {
     }
     let words = planned_words(&plan);
     let room = rng.pick(&[words, words, words - 1]);
-    let helper = some_helper(rng, planned_helper(&sheet));
+    let helper = some_helper(rng, planned_helper(&sheet), 8);
     let files = files_of(rng, &sheet);
     Case { files, room, helper, aim: None, plan: None }
 }
@@ -252,7 +252,7 @@ pub fn mutated(rng: &mut Rng, size: Size) -> Case {
     }
     // Else as many as before, which a line more or less makes too few or further ones.
     if !rng.once_in(6) {
-        case.helper = some_helper(rng, counted_helper(&case.files));
+        case.helper = some_helper(rng, counted_helper(&case.files), 8);
     }
     Case { aim: None, plan: None, ..case }
 }
@@ -261,7 +261,7 @@ pub fn mutated(rng: &mut Rng, size: Size) -> Case {
 fn telling_byte(rng: &mut Rng) -> u8 {
     match rng.below(3) {
         0 => rng.below(256) as u8,
-        _ => rng.pick(b"0123456789 \n\r%*#-XZGAVE.\t"),
+        _ => rng.pick(b"0123456789 \n\r%*#-XZGAVE.\t$<>d"),
     }
 }
 
@@ -327,7 +327,7 @@ pub fn oversized(rng: &mut Rng) -> Case {
     let size = rng.pick(&[MOST, MOST + 1, MOST + 1_000]);
     bytes.resize(size, b' ');
     let needed = counted_helper(&case.files);
-    let short = rng.once_in(3);
+    let short = rng.coin();
     case.helper = if short { short_helper(rng, needed) } else { enough_helper(rng, needed) };
     case.aim = match (size > MOST, short) {
         (true, _) => Some(Aim { number: 1, file: file as u32 + 1, line: 0, column: 0 }),

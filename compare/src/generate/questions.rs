@@ -55,7 +55,7 @@ fn bitfield(rng: &mut Rng, words: &[u32]) -> u32 {
     }
 }
 
-fn stop(rng: &mut Rng, words: &[u32]) -> u32 {
+pub fn stop(rng: &mut Rng, words: &[u32]) -> u32 {
     let start = HEADER_WORDS + BIT_FIELD_WORDS * word(words, BIT_FIELDS_AT) as usize;
     match word(words, STOPS_AT) {
         listed @ 1..=1_000 if !rng.once_in(5) => word(words, start + STOP_WORDS * rng.index(listed as usize)),

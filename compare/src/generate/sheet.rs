@@ -1,6 +1,7 @@
 //! The lines of a delivery, each with what it stands for, and the bytes that they make.
 
 use super::ends::{from_text, hours_minutes, to_text};
+use super::names::{list, written};
 use super::plan::{date_of, Given, Plan, Range, Service};
 use super::rng::Rng;
 use crate::columns::bit_digits;
@@ -112,7 +113,11 @@ fn bitfields(rng: &mut Rng, plan: &Plan) -> Vec<Row> {
     rows
 }
 
+/// One name, or a list of names with patterns.
 fn name(rng: &mut Rng) -> Vec<u8> {
+    if rng.coin() {
+        return written(&list(rng));
+    }
     let length = rng.pick(&[1, 4, 9, 9, 20, 50]);
     let mut name = rng.text(length);
     let at = rng.index(length);
@@ -130,6 +135,8 @@ fn stops(rng: &mut Rng, plan: &Plan) -> Vec<Row> {
         }
         match rng.below(6) {
             0 => line.put(63, &rng.text(5)),
+            // free columns, whatever they would make of the list
+            1 if line.0.len() == 62 => line.put(63, b"$<"),
             1 => line.put(62, &line_end(&line.0)),
             _ => &mut line,
         };

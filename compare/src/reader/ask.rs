@@ -1,7 +1,8 @@
-//! "Questions" on any words: refusals 21 to 36.
+//! "Questions" on any words: refusals 21 to 36, and 39 to 41 of document 02, No. 3.
 
 use super::bits::{runs_on, BitWords};
 use super::calendar::{day_number, LAST_DAY, MOST_DAYS};
+use super::names::{chosen, names, wanted};
 use super::service::stretches;
 use crate::layout::{
     ARRIVAL, BIT_FIELDS_AT, BIT_FIELD_WORDS, CALLS_AT, CALL_WORDS, CATEGORIES_AT, CATEGORY_WORDS, DAYS_AT, DAYS_WORDS,
@@ -22,6 +23,13 @@ pub enum DayAnswer {
 #[derive(Clone, Copy, Debug, PartialEq, Eq)]
 pub enum Changed {
     Minutes(u32),
+    Refused { number: u32 },
+}
+
+/// The answer of a question for a stop's name: the part of BAHNHOF that holds it.
+#[derive(Clone, Copy, Debug, PartialEq, Eq)]
+pub enum Named {
+    Part { start: usize, length: usize },
     Refused { number: u32 },
 }
 
@@ -183,9 +191,14 @@ impl<'a> Table<'a> {
         }
     }
 
-    fn stop_known(&self, stop: u32) -> bool {
+    /// The first record of a stop: number, place and length of its name.
+    fn stop_record(&self, stop: u32) -> Option<&'a [u32]> {
         let start = HEADER_WORDS + BIT_FIELD_WORDS * self.bitfields;
-        self.words[start..].chunks_exact(STOP_WORDS).take(self.stops).any(|record| record[0] == stop)
+        self.words[start..].chunks_exact(STOP_WORDS).take(self.stops).find(|record| record[0] == stop)
+    }
+
+    fn stop_known(&self, stop: u32) -> bool {
+        self.stop_record(stop).is_some()
     }
 
     /// "the stop's record, else the first record"; "Lookups take the first match."
@@ -261,6 +274,26 @@ pub fn interchange(words: &[u32], stop: u32, class_a: u32, class_b: u32) -> Chan
     }
     let [first, second] = table.interchange_times(stop);
     Changed::Minutes(if class_a <= 2 && class_b <= 2 { first } else { second })
+}
+
+/// Document 02, No. 3: "Asked for a stop, a language and a type (0 for any), answer .., as the part of BAHNHOF that holds it.
+/// Refusals: .. in the question, in order, 21, 40 .., 27, 41 name not inside the bytes given, 39."
+pub fn stop_name(words: &[u32], bahnhof: &[u8], stop: u32, language: u32, kind: u32) -> Named {
+    match found_name(words, bahnhof, stop, language, kind) {
+        Ok((start, length)) => Named::Part { start, length },
+        Err(number) => Named::Refused { number },
+    }
+}
+
+fn found_name(words: &[u32], bahnhof: &[u8], stop: u32, language: u32, kind: u32) -> Result<(usize, usize), u32> {
+    let table = table(words).ok_or(21_u32)?;
+    let wanted = wanted(language, kind).ok_or(40_u32)?;
+    let record = table.stop_record(stop).ok_or(27_u32)?;
+    let (place, length) = (record[1] as usize, record[2] as usize);
+    let field = bahnhof.get(place..).and_then(|rest| rest.get(..length)).ok_or(41_u32)?;
+    let names = names(field).ok_or(39_u32)?;
+    let name = chosen(&names, wanted);
+    Ok((place + name.start, name.length))
 }
 
 /// "Walk of service, repeat, date": the rows go into the slice lent, unless the walk is refused or not running.

@@ -1,4 +1,5 @@
-//! The load of a delivery: "Order of offences", refusals 1 to 20; and 51, helper words (document 02, No. 13).
+//! The load of a delivery: "Order of offences", refusals 1 to 20; and of document 02 39, name lists (No. 3), and 51, helper words
+//! (No. 13).
 
 use std::collections::{HashMap, HashSet};
 
@@ -10,6 +11,7 @@ use super::fields::{
 };
 use super::forms::{form_a, form_bitfield, form_date, form_g, form_interchange, form_schedule, form_stop, form_z};
 use super::lines::{lines, skipped, Line};
+use super::names::names;
 use super::service::{checked, Call, Draft, End, Given, Range, Service};
 use super::table;
 
@@ -20,7 +22,7 @@ pub enum Loaded {
     Refused { number: u32, file: u32, line: u32, column: usize, needed: u32 },
 }
 
-/// A refusal 1 to 19; the column is 0 unless 4.
+/// A refusal 1 to 19 or 39; the column is 0 unless 4.
 #[derive(Clone, Copy, Debug, PartialEq, Eq)]
 pub struct Offence {
     pub number: u32,
@@ -195,17 +197,22 @@ fn read_bitfields(file: &[u8], delivery: &mut Delivery) -> Result<(), Offence> {
     Ok(())
 }
 
-/// "name length without trailing blanks", of columns 13-62 as far as the line goes.
-fn name_length(line: &[u8]) -> u32 {
+/// The name "without trailing blanks", of columns 13-62 as far as the line goes.
+fn name_field(line: &[u8]) -> &[u8] {
     let name = &line[12..line.len().min(62)];
-    name.iter().rposition(|byte| *byte != b' ').map_or(0, |last| last as u32 + 1)
+    &name[..name.iter().rposition(|byte| *byte != b' ').map_or(0, |last| last + 1)]
 }
 
-/// BAHNHOF: within a line 4, 7, 6.
+/// BAHNHOF: within a line 4, 39, 7, 6. Open point: document 02, No. 3's "39 after 4" is directly after it.
 fn read_stops(file: &[u8], delivery: &mut Delivery) -> Result<(), Offence> {
     let mut seen = HashSet::new();
     for line in records(file) {
         must_hold(form_stop(line.text), 3, &line)?;
+        let field = name_field(line.text);
+        // No. 3: "at load 39 after 4 for a bad list"
+        if names(field).is_none() {
+            return refuse(39, 3, line.no);
+        }
         let number = digits(line.text, 1, 7).unwrap_or(0);
         // 7: "BAHNHOF stop 9999999 or ending 00000"
         if number == DEFAULT_RECORD || number % 100_000 == 0 {
@@ -216,7 +223,7 @@ fn read_stops(file: &[u8], delivery: &mut Delivery) -> Result<(), Offence> {
         }
         // "byte offset of column 13 in BAHNHOF from 0"
         let name_at = line.start as u32 + 12;
-        delivery.stops.push(Stop { number, name_at, name_length: name_length(line.text) });
+        delivery.stops.push(Stop { number, name_at, name_length: field.len() as u32 });
     }
     Ok(())
 }

@@ -3,9 +3,10 @@
 use crate::boundary::{Boundary, Reader};
 use crate::differ::{compare, Tally, OVERSIZED_EVERY};
 use crate::generate::raw_table::parts;
-use crate::layout::{ADMINISTRATION_AT, NUMBER_AT, ROW_CATEGORY_AT, ROW_NUMBER_AT, ROW_WORDS};
+use crate::layout::{ADMINISTRATION_AT, NUMBER_AT, ROW_CATEGORY_AT, ROW_NUMBER_AT, ROW_WORDS, USED_AT};
 use crate::reader::lines::{lines, skipped};
-use crate::reader::{helper_needed, Combination};
+use crate::reader::names::{fits, names, wanted, Name};
+use crate::reader::{helper_needed, is_table, Combination};
 
 /// The reader with one slip each, and the list of them.
 macro_rules! slips {
@@ -50,6 +51,19 @@ slips!(
     BothTakenOver,
     FirstRowOfOpening,
     LastRowUnnumbered,
+    NamesUnread,
+    NamesAfterNumbers,
+    LastFittingName,
+    NoLettersNoLanguage,
+    TwoPatternsTogether,
+    AnyFitsNothing,
+    AlwaysFirstName,
+    BareNameFits,
+    ReadToTheFit,
+    LongListRead,
+    PlaceWraps,
+    LanguageAfterStop,
+    NameBehindItsDollar,
     DayZeroRests,
     OldClassTwo,
     NoRows,
@@ -76,6 +90,10 @@ impl Boundary for Slip {
     fn load(&self, files: [&[u8]; 5], table: &mut [u32], helper: &mut [u32]) -> [u32; 5] {
         if let RefusesAll = self {
             return [4, 1, 1, 0, 1];
+        }
+        if let NamesUnread = self {
+            let plain = without_marks(files[2]);
+            return Reader.load([files[0], files[1], &plain, files[3], files[4]], table, helper);
         }
         let (needed, before) = (helper_needed(files), helper.to_vec());
         let asked = self.helper_asked(files, needed);
@@ -114,6 +132,12 @@ impl Boundary for Slip {
             ColumnOfRun if number == 4 && file == 5 && (51..=55).contains(&column) => return [4, 5, line, 0, 50],
             RepeatsBlamed if number == 4 && column == 27 => return [4, file, line, 0, 23],
             ColumnOfDate if number == 5 => return [5, file, line, 0, 1],
+            NamesAfterNumbers if number == 39 => {
+                let stop = String::from_utf8_lossy(&lines(files[2])[line as usize - 1].text[..7]).into_owned();
+                if stop == "9999999" || stop.ends_with("00000") {
+                    return [7, file, line, words, column];
+                }
+            }
             NumberOfOpening | NumberOfNextCall | BothTakenOver if number == 0 => {
                 self.renumber(&mut table[..words as usize])
             }
@@ -133,6 +157,32 @@ impl Boundary for Slip {
         let like_third = |class: u32| if class == 2 { 3 } else { class };
         let classes = if let OldClassTwo = self { classes.map(like_third) } else { classes };
         Reader.interchange(table, stop, classes)
+    }
+
+    fn stop_name(&self, table: &[u32], bahnhof: &[u8], stop: u32, [language, kind]: [u32; 2]) -> [u32; 3] {
+        let answer = Reader.stop_name(table, bahnhof, stop, [language, kind]);
+        let record = stop_record(table, stop);
+        match (self, answer) {
+            (LanguageAfterStop, [40, ..]) if record.is_none() => [27, 0, 0],
+            (NameBehindItsDollar, [0, start, length]) => [0, start + 1, length],
+            (PlaceWraps, [41, ..]) => match record {
+                Some([_, place, length]) if place.wrapping_add(length) as usize <= bahnhof.len() => [39, 0, 0],
+                _ => answer,
+            },
+            (ReadToTheFit | LongListRead, [39, ..]) => match record {
+                Some([_, place, length]) => self.read_on(&bahnhof[place as usize..][..length as usize], place, answer),
+                None => answer,
+            },
+            (_, [0, ..]) => match record {
+                Some([_, place, length]) => {
+                    let field = &bahnhof[place as usize..][..length as usize];
+                    let (start, length) = self.choose(&names(field).unwrap(), [language, kind]);
+                    [0, place + start as u32, length as u32]
+                }
+                None => answer,
+            },
+            _ => answer,
+        }
     }
 
     fn walk(&self, table: &[u32], service: u32, repeat: u32, date: [u32; 3], rows: &mut [u32]) -> [u32; 3] {
@@ -194,7 +244,55 @@ impl Boundary for Slip {
     }
 }
 
+/// BAHNHOF with nothing in its columns that parts names or opens and closes patterns.
+fn without_marks(bahnhof: &[u8]) -> Vec<u8> {
+    bahnhof.iter().map(|byte| if b"$<>".contains(byte) { b'A' } else { *byte }).collect()
+}
+
+/// The first record of a stop in a table.
+fn stop_record(table: &[u32], stop: u32) -> Option<[u32; 3]> {
+    if !is_table(table) {
+        return None;
+    }
+    parts(&table[..table[USED_AT] as usize]).stops.into_iter().find(|record| record[0] == stop)
+}
+
 impl Slip {
+    /// The name that a slip in the question chooses: its place in the field and its length.
+    fn choose(&self, names: &[Name], [language, kind]: [u32; 2]) -> (usize, usize) {
+        let only = |language, kind| wanted(language, kind).unwrap();
+        let asked = only(language, kind);
+        let fitting = |name: &&Name| match self {
+            NoLettersNoLanguage => name
+                .patterns
+                .iter()
+                .any(|pattern| fits(pattern, asked) && (language == 0 || !pattern.letters.is_empty())),
+            TwoPatternsTogether => [only(language, 0), only(0, kind)]
+                .iter()
+                .all(|part| name.patterns.iter().any(|pattern| fits(pattern, *part))),
+            AnyFitsNothing => language != 0 && name.patterns.iter().any(|pattern| fits(pattern, asked)),
+            AlwaysFirstName => false,
+            BareNameFits => name.patterns.is_empty() || name.patterns.iter().any(|pattern| fits(pattern, asked)),
+            _ => name.patterns.iter().any(|pattern| fits(pattern, asked)),
+        };
+        let found = match self {
+            LastFittingName => names.iter().rev().find(fitting),
+            _ => names.iter().find(fitting),
+        };
+        let name = found.unwrap_or(&names[0]);
+        (name.start, name.length)
+    }
+
+    /// A list that is refused, read as far as it is one, or though it is too long.
+    fn read_on(&self, field: &[u8], place: u32, refused: [u32; 3]) -> [u32; 3] {
+        let first = |length: usize| names(&field[..length]).map(|names| [0, place, names[0].length as u32]);
+        let so_far = (1..field.len().min(51)).rev().find_map(first);
+        match self {
+            LongListRead if field.len() <= 50 => refused,
+            _ => so_far.unwrap_or(refused),
+        }
+    }
+
     /// Numbers and administrations of calls as a slip in No. 5 has them.
     fn renumber(&self, table: &mut [u32]) {
         let mut raw = parts(table);

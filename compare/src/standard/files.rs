@@ -13,19 +13,74 @@ const STOPS: [&str; 4] = [
     "7654321     CCCC$<12>$DDDD$<34>",
 ];
 
-/// 5.1: the name field as it stands; "a maximum of the first 50 characters", of the second line's 52.
+/// The second line without the "$" that may be left out: 50 characters.
+const SHORTER: &str = "8833001     Louvain [B]$<f>Leuven [B]$<n>Louvain$<f2>Louv$<f1>";
+
+/// 5.1: "a maximum of the first 50 characters", of the second line's 52, which end inside a pattern. The others, and the second made
+/// shorter, with the names that the explanation gives for languages and types; 0 asks for any.
 pub fn stops(boundary: &dyn Boundary) -> Vec<Checked> {
-    let (accepted, table) = Paper::new().with(3, &STOPS).accepted(
+    let printed = Paper::new().with(3, &STOPS).refused(boundary, "5.1 as printed, the second stop", [39, 3, 2, 0]);
+    let lines = [STOPS[0], SHORTER, STOPS[2], STOPS[3]];
+    let paper = Paper::new().with(3, &lines);
+    let (accepted, table) = paper.accepted(
         boundary,
-        "5.1 the four stops",
+        "5.1 the four stops, the second shorter",
         HEADER_WORDS + 4 * STOP_WORDS + INTERCHANGE_WORDS,
     );
-    let records = [8_800_002, 12, 49, 8_833_001, 74, 50, 1_234_567, 139, 29, 7_654_321, 181, 19];
-    vec![
+    let records = [8_800_002, 12, 49, 8_833_001, 74, 50, 1_234_567, 137, 29, 7_654_321, 179, 19];
+    let mut checked = vec![
+        printed,
         accepted,
         Checked::new("5.1 places and lengths of the names", &records, &table[HEADER_WORDS..][..4 * STOP_WORDS]),
-    ]
+    ];
+    for (stop, language, kind, name) in NAMES {
+        let wanted = [if *language == '0' { 0 } else { *language as u32 }, *kind];
+        let [number, start, length] = boundary.stop_name(&table, &paper.files[2], *stop, wanted);
+        let found = paper.files[2].get(start as usize..).and_then(|rest| rest.get(..length as usize)).unwrap_or(b"");
+        let numbers =
+            |number: u32, name: &[u8]| [vec![number], name.iter().map(|byte| u32::from(*byte)).collect()].concat();
+        let latin: Vec<u8> = name.chars().map(|character| character as u8).collect();
+        let text = format!("5.1 stop {}, language {}, type {}: {}", stop, language, kind, name);
+        checked.push(Checked::new(&text, &numbers(0, &latin), &numbers(number, found)));
+    }
+    checked
 }
+
+/// Stop, language, type, and the name that the explanation gives.
+const NAMES: &[(u32, char, u32, &str)] = &[
+    // "The default name of the stop 8800002 is "Bruxelles-Nord"."
+    (8_800_002, 'f', 0, "Bruxelles-Nord"),
+    (8_800_002, 'e', 3, "Bruxelles-Nord"),
+    // ".. defined to be a german name", "a dutch one"
+    (8_800_002, 'd', 0, "Brüssel Nord"),
+    (8_800_002, 'n', 9, "Brussel Noord"),
+    (8_800_002, '0', 0, "Brüssel Nord"),
+    // "The default name of the stop 8833001 is "Louvain [B]", which is a french name. The dutch name is "Leuven [B]"."
+    (8_833_001, 'e', 0, "Louvain [B]"),
+    (8_833_001, 'f', 0, "Louvain [B]"),
+    (8_833_001, 'n', 0, "Leuven [B]"),
+    // ""Louv" has type 1 and "Louvain" has type 2": the first French name has every type, and comes first.
+    (8_833_001, 'f', 1, "Louvain [B]"),
+    // ""AAAA", which is a german name, carrying type 1 and 2. Moreover, this is a french name, having types 2 and 3."
+    (1_234_567, 'd', 1, "AAAA"),
+    (1_234_567, 'd', 2, "AAAA"),
+    (1_234_567, 'f', 2, "AAAA"),
+    (1_234_567, 'f', 3, "AAAA"),
+    // ""BBBB", which is used in English and French and it has type 1"
+    (1_234_567, 'e', 1, "BBBB"),
+    (1_234_567, 'f', 1, "BBBB"),
+    (1_234_567, 'e', 0, "BBBB"),
+    // No pattern fits both: German has types 1 and 2 only, English type 1.
+    (1_234_567, 'd', 3, "AAAA"),
+    (1_234_567, 'e', 2, "AAAA"),
+    // "used in any language": "CCCC", having types 1 and 2, "DDDD" 3 and 4
+    (7_654_321, 'x', 1, "CCCC"),
+    (7_654_321, '0', 2, "CCCC"),
+    (7_654_321, 'u', 3, "DDDD"),
+    (7_654_321, '0', 4, "DDDD"),
+    (7_654_321, 'd', 0, "CCCC"),
+    (7_654_321, 'd', 5, "CCCC"),
+];
 
 /// 5.4.1: 30.09.1996 to 01.06.1997.
 pub fn period(boundary: &dyn Boundary) -> Vec<Checked> {

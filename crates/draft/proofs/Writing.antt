@@ -238,11 +238,11 @@ before-said b x y e = rw e
 pub before-blank : (b : Bool) (x y : ℕ) → b ≡ false → y ≡ cond b x y
 before-blank b x y e = rw e
 
-pub call-held : (a : Announced) (l : CallLine) (n h k : ℕ) → n ≡ cond (l .numbered) (l .number) (a .number) → h ≡ cond (l .administered) (l .high) (a .high) → k ≡ cond (l .administered) (l .low) (a .low)
+pub called-by : (a : Announced) (l : CallLine) (n h k : ℕ) → n ≡ cond (l .numbered) (l .number) (a .number) → h ≡ cond (l .administered) (l .high) (a .high) → k ≡ cond (l .administered) (l .low) (a .low)
     → record { stop = l .stop; arrival = l .arrival; departure = l .departure; flags = l .flags; number = n; high = h; low = k } ≡ callBy a l
-call-held a l n h k p q r = rw (p, q, r)
+called-by a l n h k p q r = rw (p, q, r)
 
-pub ruleset holds = (tests, last-none, last-some, before-said, before-blank, call-held)
+pub ruleset holds = (tests, last-none, last-some, before-said, before-blank, called-by)
 
 -- ---- the needs of `draft_call`, `draft_range` and `count_part`, for `search drafted`
 

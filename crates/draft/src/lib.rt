@@ -109,13 +109,7 @@ pub fn draft_line(
 }
 
 // "Only schedule lines are taken as calls; every other kind is passed over when the route is gathered."
-fn draft_call(
-    opening: Opening,
-    said: Told,
-    line: u32,
-    counts: Counts,
-    calls: &mut [u32],
-) -> Counts
+fn draft_call(opening: Opening, said: Told, line: u32, counts: Counts, calls: &mut [u32]) -> Counts
     requires { ⌜ Within (countCalls counts (asCall said)) ⌝ }
     requires { ⌜ callsLent ≤ length (now calls) ⌝ }
     ensures { λ r. ⌜ r ≡ countCalls counts (asCall said) ⌝ }
@@ -124,12 +118,12 @@ fn draft_call(
     let Told::Calls(call) = said else {
         return counts;
     };
-    let held = announced_last(opening, counts.calls, calls);
+    let before = announced_last(opening, counts.calls, calls);
     put_call(
         calls,
         DRAFT_CALL_WORDS * counts.calls as usize,
         line,
-        call_by(held, call),
+        call_by(before, call),
     );
     let mut k = counts;
     k.calls += 1;
@@ -157,17 +151,17 @@ fn announced_last(opening: Opening, c: u32, calls: &[u32]) -> Announced
 }
 
 // The call of a schedule line, where that held before it.
-fn call_by(held: Announced, line: CallLine) -> Call
-    ensures { λ r. ⌜ r ≡ callBy held line ⌝ }
+fn call_by(before: Announced, line: CallLine) -> Call
+    ensures { λ r. ⌜ r ≡ callBy before line ⌝ }
 {
     Call {
         stop: line.stop,
         arrival: line.arrival,
         departure: line.departure,
         flags: line.flags,
-        number: or_before(line.numbered, line.number, held.number),
-        high: or_before(line.administered, line.high, held.high),
-        low: or_before(line.administered, line.low, held.low),
+        number: or_before(line.numbered, line.number, before.number),
+        high: or_before(line.administered, line.high, before.high),
+        low: or_before(line.administered, line.low, before.low),
     }
 }
 

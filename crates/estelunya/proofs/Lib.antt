@@ -1,3 +1,4 @@
 pub mod Exported
 pub mod Slack
 pub mod DaySets
+pub mod StopNames

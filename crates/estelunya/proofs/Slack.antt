@@ -7,11 +7,13 @@ use lib.ListN.{length}
 use Rattle.timetable.specs.Delivery.{Files}
 use Rattle.timetable.specs.Load.{loaded, written, helped}
 use Rattle.timetable.specs.Questions.{dayAsked, interchangeAsked, walked, walkRows}
+use Rattle.timetable.specs.StopNames.{stopNameAsked}
 use Rattle.estelunya.specs.declared.LoadResult.{LoadResult}
 use Rattle.estelunya.specs.declared.DayResult.{DayResult}
 use Rattle.estelunya.specs.declared.InterchangeResult.{InterchangeResult}
+use Rattle.estelunya.specs.declared.NameResult.{NameResult}
 use Rattle.estelunya.specs.declared.WalkResult.{WalkResult}
-use Rattle.estelunya.specs.Answers.{loadResult, dayResult, interchangeResult, walkResult}
+use Rattle.estelunya.specs.Answers.{loadResult, dayResult, interchangeResult, nameResult, walkResult}
 
 -- load: its result, all words of the table afterwards, and all helper words
 pub load-no-slack : (f : Files) (lent helper : List ℕ) {a b : LoadResult} {t u g h : List ℕ}
@@ -31,3 +33,7 @@ day-no-slack w d m y field a b = a ∙ sym b
 pub interchange-no-slack : (w : List ℕ) (n x y : ℕ) {a b : InterchangeResult}
     → a ≡ interchangeResult (interchangeAsked w n x y) → b ≡ interchangeResult (interchangeAsked w n x y) → a ≡ b
 interchange-no-slack w n x y a b = a ∙ sym b
+
+pub name-no-slack : (w bahnhof : List ℕ) (stop language type : ℕ) {a b : NameResult}
+    → a ≡ nameResult (stopNameAsked w bahnhof stop language type) → b ≡ nameResult (stopNameAsked w bahnhof stop language type) → a ≡ b
+name-no-slack w bahnhof stop language type a b = a ∙ sym b

@@ -6,14 +6,17 @@ use Rattle.timetable.specs.declared.DayAnswer.{DayAnswer}
 use Rattle.timetable.specs.declared.DayAnswer.the-variants.{Runs, Idle, Refused as DayRefused}
 use Rattle.timetable.specs.declared.InterchangeAnswer.{InterchangeAnswer}
 use Rattle.timetable.specs.declared.InterchangeAnswer.the-variants.{Minutes, Refused as InterchangeRefused}
+use Rattle.timetable.specs.declared.NameAnswer.{NameAnswer}
+use Rattle.timetable.specs.declared.NameAnswer.the-variants.{Part, Refused as NameRefused}
 use Rattle.timetable.specs.declared.Walked.{Walked}
 use Rattle.timetable.specs.declared.Walked.the-variants.{Listed, NotRunning, Refused as WalkRefused}
 use Rattle.estelunya.specs.declared.LoadResult.{LoadResult}
 use Rattle.estelunya.specs.declared.DayResult.{DayResult}
 use Rattle.estelunya.specs.declared.InterchangeResult.{InterchangeResult}
+use Rattle.estelunya.specs.declared.NameResult.{NameResult}
 use Rattle.estelunya.specs.declared.WalkResult.{WalkResult}
 
--- "A refusal returns number, file, line, and the words needed (0 unless 20) .. Acceptance returns words used"; No. 6: "A refusal 4 also returns the
+-- "A refusal returns number, file, line, and the words needed (0 unless 20)" (or 51, by No. 13) ".. Acceptance returns words used"; No. 6: "A refusal 4 also returns the
 -- column ..; all other refusals return 0 there."
 abbrev pub loadResult : Loaded → LoadResult
 loadResult (Accepted used) = record { number = 0; file = 0; line = 0; words = used; column = 0 }
@@ -28,6 +31,11 @@ dayResult (DayRefused number) = record { number = number; runs = 0 }
 abbrev pub interchangeResult : InterchangeAnswer → InterchangeResult
 interchangeResult (Minutes minutes) = record { number = 0; minutes = minutes }
 interchangeResult (InterchangeRefused number) = record { number = number; minutes = 0 }
+
+-- No. 3: "the part of BAHNHOF that holds it", by the byte where it starts, from 0, and its length
+abbrev pub nameResult : NameAnswer → NameResult
+nameResult (Part start size) = record { number = 0; start = start; length = size }
+nameResult (NameRefused number) = record { number = number; start = 0; length = 0 }
 
 -- "A walk that lists rows returns how many"; 0 rows where it is not running; "29 also the words needed"
 abbrev pub walkResult : Walked → WalkResult

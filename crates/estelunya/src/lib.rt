@@ -1,20 +1,22 @@
-// The C boundary: load, walk, day and interchange, and the arithmetic on operating days, with numbers and slices. Nothing is asked of the caller: bad input gets its numbered refusal,
-// and the lent words then hold what they held.
+// The C boundary: load, walk, day, interchange and stop name, and the arithmetic on operating days, with numbers and slices. Nothing is asked of the caller: bad input gets its numbered refusal,
+// and table, rows and result words then hold what they held (the helper words of a load: `helped`, timetable/specs/Load).
 use day_sets::CountAnswer;
 use day_sets::Operation;
 use day_sets::SetAnswer;
 use timetable::DayAnswer;
 use timetable::InterchangeAnswer;
 use timetable::Loaded;
+use timetable::NameAnswer;
 use timetable::Walked;
 ghost use mathlib.Core.Path.{_≡_};
 ghost use lib.ListN.{length};
 ghost use Rattle.timetable.specs.Delivery.{filesOf};
 ghost use Rattle.timetable.specs.Load.{loaded, written, helped};
 ghost use Rattle.timetable.specs.Questions.{dayAsked, interchangeAsked, walked, walkRows};
+ghost use Rattle.timetable.specs.StopNames.{stopNameAsked};
 ghost use Rattle.day_sets.specs.declared.Operation.the-variants.{Union, Intersection, Difference};
 ghost use Rattle.day_sets.specs.DaySets.{combineAsked, combineWritten, complementAsked, complementWritten, countAsked};
-ghost use Rattle.estelunya.specs.Answers.{loadResult, dayResult, interchangeResult, walkResult};
+ghost use Rattle.estelunya.specs.Answers.{loadResult, dayResult, interchangeResult, nameResult, walkResult};
 ghost use Rattle.estelunya.specs.DaySets.{daySetResult, dayCountResult};
 
 // number 0: accepted, and words is the words used; else the refusal's number, file and line, words is the words needed (0 unless 20 or 51), and column is
@@ -42,7 +44,15 @@ pub struct InterchangeResult {
     pub minutes: u32,
 }
 
-// number 0: how many rows of 7 words are listed, 0 where the service is not running; other numbers are refusals, 29 with the words needed.
+// number 0: the byte of BAHNHOF where the name starts, from 0, and how many bytes it has; other numbers are refusals, with 0 and 0.
+#[repr(C)]
+pub struct NameResult {
+    pub number: u32,
+    pub start: usize,
+    pub length: usize,
+}
+
+// number 0: how many rows of 10 words are listed, 0 where the service is not running; other numbers are refusals, 29 with the words needed.
 #[repr(C)]
 pub struct WalkResult {
     pub number: u32,
@@ -103,6 +113,20 @@ pub extern "C" fn estelunya_interchange(
     ensures { λ r. ⌜ r ≡ interchangeResult (interchangeAsked (now (table .entry)) stop arriving departing) ⌝ }
 {
     interchange_result(questions::interchange(table, stop, arriving, departing))
+}
+
+// The language is the byte of its letter in 5.1 of the standard, or 0 for any; the kind is the type, 1 to 9, or 0 for any.
+#[no_mangle]
+pub extern "C" fn estelunya_stop_name(
+    table: &[u32],
+    bahnhof: &[u8],
+    stop: u32,
+    language: u32,
+    kind: u32,
+) -> NameResult
+    ensures { λ r. ⌜ r ≡ nameResult (stopNameAsked (now (table .entry)) (now (bahnhof .entry)) stop language kind) ⌝ }
+{
+    name_result(stop_names::name(table, bahnhof, stop, language, kind))
 }
 
 #[no_mangle]
@@ -222,6 +246,23 @@ fn interchange_result(a: InterchangeAnswer) -> InterchangeResult
     match a {
         InterchangeAnswer::Minutes(minutes) => InterchangeResult { number: 0, minutes },
         InterchangeAnswer::Refused(number) => InterchangeResult { number, minutes: 0 },
+    }
+}
+
+fn name_result(a: NameAnswer) -> NameResult
+    ensures { λ r. ⌜ r ≡ nameResult a ⌝ }
+{
+    match a {
+        NameAnswer::Part { start, size } => NameResult {
+            number: 0,
+            start,
+            length: size,
+        },
+        NameAnswer::Refused(number) => NameResult {
+            number,
+            start: 0,
+            length: 0,
+        },
     }
 }
 

@@ -1,3 +1,5 @@
+pub mod Naming
 pub mod Computing
 pub mod Rows
 pub mod Trial
+pub mod Names

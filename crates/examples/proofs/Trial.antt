@@ -29,7 +29,7 @@ use Rattle.examples.proofs.Computing.{computing}
 
 -- ---- accepted, with exactly these words
 
--- "accepted days 7 bitfields 1 stops 3 interchange 1 services 1 words 78"; with 64 helper words and four for each of the five lines of BITFELD, BAHNHOF
+-- "accepted days 7 bitfields 1 stops 3 interchange 1 services 1 words 66"; with document 02's No. 5, 78: three words more for each of four calls; with 64 helper words and four for each of the five lines of BITFELD, BAHNHOF
 -- and UMSTEIGB
 pub accepted : (helper : ℕ) → 84 ≤ helper → loaded trial 4096 helper ≡ Accepted 78
 unfolding computing

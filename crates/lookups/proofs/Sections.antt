@@ -17,12 +17,15 @@ use Rattle.timetable.specs.Files.{hasStop}
 use Rattle.timetable.specs.Legs.{fieldKnown, runsBy, fieldRuns}
 use Rattle.timetable.specs.Table.{rowsIn, bitFieldAt, stopAt, interchangeAt, tableOf}
 use Rattle.timetable.specs.Questions.{interchangeBy, interchangeAtStop}
+use Rattle.timetable.specs.StopNames.{stopNumbered}
 use Rattle.timetable.proofs.Rows.{one-row}
 use Rattle.table.specs.JustTable.{JustTable}
 use Rattle.table.proofs.JustTable.{whole-says, sections-fit, fields-are, stops-are, interchanges-are}
-use Rattle.lookups.specs.Lookups.{placeOf, timesOf}
+use Rattle.lookups.specs.Lookups.{placeOf, namePlace, nameIn, timesOf}
 use Rattle.lookups.specs.declared.Found.{Found}
 use Rattle.lookups.specs.declared.Found.the-variants.{At, Nothing}
+use Rattle.lookups.specs.declared.StopName.{StopName}
+use Rattle.lookups.specs.declared.StopName.the-variants.{Place, Unknown}
 use Rattle.lookups.specs.declared.Times.{Times}
 use Rattle.lookups.proofs.Search.{readAt, isAt, find-there, some-there, place-inside}
 
@@ -119,7 +122,26 @@ module _ (w : List ℕ) (h : JustTable w) (stop p : ℕ) (q : p ≡ 8 + 13 * get
   pub stop-unknown : f ≡ Nothing → false ≡ hasStop stop (tableOf w .stops)
   stop-unknown g = sym (stop-known ∙ ap isAt g)
 
+  -- the record of the stop, and what it says of its name
+  stop-read : stopNumbered stop (tableOf w .stops) ≡ readAt stopAt w f
+  stop-read = rw (stops-are w h, e, q) (find-there stopAt (λ (x : StopRecord). x .number) (λ u. refl) w stop 3 (getD w 4 0) (8 + 13 * getD w 3 0))
+
+  module _ (n : StopName) where
+    pub name-found : (x : ℕ) → f ≡ At x → n ≡ namePlace (stopAt (drop x w)) → n ≡ nameIn (stopNumbered stop (tableOf w .stops))
+    name-found x g k = k ∙ ap nameIn (sym (stop-read ∙ ap (readAt stopAt w) g))
+
+  pub name-unknown : f ≡ Nothing → Unknown ≡ nameIn (stopNumbered stop (tableOf w .stops))
+  name-unknown g = ap nameIn (sym (stop-read ∙ ap (readAt stopAt w) g))
+
+  pub name-room : (x : ℕ) → f ≡ At x → x + 3 ≤ length w
+  name-room x g = omega (arith, place-inside w stop 3 (getD w 4 0) p x (sym e ∙ g), stops-room w h p q)
+
+pub name-is : (w : List ℕ) (p : ℕ) → Place (getD w (p + 1) 0) (getD w (p + 2) 0) ≡ namePlace (stopAt (drop p w))
+name-is w p = rw (getD-drop p w 1 0, getD-drop p w 2 0)
+
 pub ruleset stops = (tests, word-4, stops-room, stop-found, stop-unknown)
+
+pub ruleset stop-names = (tests, word-4, stops-room, name-found, name-unknown, name-room, name-is)
 
 -- ---- interchange records, for `search interchanges`; p is where they begin, f where the search found the stop
 

@@ -2,14 +2,17 @@
 use Prim.Native.Nat.{ℕ, zero, suc, _+_}
 use mathlib.Core.List.{List}
 use mathlib.Core.Bool.{cond}
+use mathlib.Core.Option.{Option, none, some}
 use lib.Dec.{eqb}
-use Rattle.timetable.specs.Delivery.{Interchange}
+use Rattle.timetable.specs.Delivery.{StopRecord, Interchange}
 use Rattle.timetable.specs.Table.{word, tableOf, isTable}
 use Rattle.timetable.specs.Questions.{Dated, undated, dated, dateOf}
 use Rattle.lookups.specs.declared.Found.{Found}
 use Rattle.lookups.specs.declared.Found.the-variants.{At, Nothing}
 use Rattle.lookups.specs.declared.PeriodDay.{PeriodDay}
 use Rattle.lookups.specs.declared.PeriodDay.the-variants.{On, Refused}
+use Rattle.lookups.specs.declared.StopName.{StopName}
+use Rattle.lookups.specs.declared.StopName.the-variants.{Place, Unknown}
 use Rattle.lookups.specs.declared.Times.{Times}
 
 -- "Lookups take the first match": the first of n records of a size from place p on that begins with the key
@@ -24,6 +27,13 @@ recordPlace w p (suc i) = recordPlace w (p + word w p) i
 
 abbrev pub servicePlace : List ℕ → ℕ → ℕ
 servicePlace w i = recordPlace w (word w 7) i
+
+abbrev pub namePlace : StopRecord → StopName
+namePlace s = Place (s .offset) (s .size)
+
+abbrev pub nameIn : Option StopRecord → StopName
+nameIn none = Unknown
+nameIn (some s) = namePlace s
 
 abbrev pub timesOf : Interchange → Times
 timesOf c = record { first = c .firstTime; second = c .secondTime }

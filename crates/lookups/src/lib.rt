@@ -19,10 +19,11 @@ ghost use Rattle.bitfield.specs.BitField.{runsOn};
 ghost use Rattle.timetable.specs.Files.{hasStop};
 ghost use Rattle.timetable.specs.Legs.{fieldKnown, fieldRuns};
 ghost use Rattle.timetable.specs.Layout.{headerSize, bitFieldSize, stopSize, interchangeSize, mostPeriodDays};
-ghost use Rattle.timetable.specs.Table.{bitFields#, stops#, services#, interchangeAt, tableOf};
+ghost use Rattle.timetable.specs.Table.{bitFields#, stops#, services#, stopAt, interchangeAt, tableOf};
 ghost use Rattle.timetable.specs.Questions.{datedBy, interchangeAtStop};
+ghost use Rattle.timetable.specs.StopNames.{stopNumbered};
 ghost use Rattle.table.specs.JustTable.{JustTable};
-ghost use Rattle.lookups.specs.Lookups.{placeOf, servicePlace, timesOf, periodDay, datedAsked};
+ghost use Rattle.lookups.specs.Lookups.{placeOf, servicePlace, namePlace, nameIn, timesOf, periodDay, datedAsked};
 
 // A day of the period, counted from 0, or the number of a refusal.
 pub enum PeriodDay {
@@ -40,6 +41,12 @@ pub struct Field {
 pub struct Times {
     pub first: u32,
     pub second: u32,
+}
+
+// What the record of a stop says of its name: where it begins in BAHNHOF and how long it is. Or no stop has the number.
+pub enum StopName {
+    Place { offset: u32, size: u32 },
+    Unknown,
 }
 
 // The place of a record.
@@ -123,6 +130,29 @@ pub fn stop_known(w: &[u32], stop: u32) -> bool
     match found {
         Found::At(p) => true,
         Found::Nothing => false,
+    }
+}
+
+// What the stop's record says of its name.
+pub fn stop_name(w: &[u32], stop: u32) -> StopName
+    requires { ⌜ JustTable (now w) ⌝ }
+    ensures { λ r. ⌜ r ≡ nameIn (stopNumbered stop (tableOf (now (w .entry)) .stops)) ⌝ }
+{
+    let found = find(w, stops_place(w), w[STOPS_AT], STOP_WORDS, stop);
+    match found {
+        Found::At(p) => name_at(w, p),
+        Found::Nothing => StopName::Unknown,
+    }
+}
+
+// What the stop record at a place says of its name.
+fn name_at(w: &[u32], p: usize) -> StopName
+    requires { ⌜ p + stopSize ≤ length (now w) ⌝ }
+    ensures { λ r. ⌜ r ≡ namePlace (stopAt (drop p (now (w .entry)))) ⌝ }
+{
+    StopName::Place {
+        offset: w[p + 1],
+        size: w[p + 2],
     }
 }
 

@@ -1,4 +1,4 @@
--- An answer is a part of the field, and a name (`answer-is-part`). Assumes nothing.
+-- An answer is a part of the field, and a name (`answer-is-part`); a name list has an answer for every question (`list-answers`). Assumes nothing.
 use mathlib.Core.Path.{_≡_, refl, sym, ap, _∙_}
 use mathlib.Core.List.{List, [], _∷_, _++_, append-nil}
 use mathlib.Core.Bool.{Bool, true, false, cond}
@@ -8,9 +8,9 @@ use native.Mathlib.Omega.{arith}
 use lib.ListN.{length, take, drop, length-append, length-drop}
 use lib.Seq.{drop-drop, drop-append-add, drop-append-seam, take-append-seam, take-length}
 use Rattle.base.specs.Lists.{All, nil, cons, find}
-use Rattle.base.proofs.Laws.{apart}
+use Rattle.base.proofs.Laws.{apart, clash}
 use Rattle.names.specs.Grammar.{dollar, Pattern, Named, named, IsName, IsPattern, IsNames, IsPatterns, last-name, then-name, then-patterns, last-pattern, more-patterns, dollar-name, name-at-once}
-use Rattle.names.specs.Names.{namesOf, nameList, fitting, nameElse, answerBy, nameFor, IsPart}
+use Rattle.names.specs.Names.{namesOf, nameList, isRead, isNameList, fitting, nameElse, answerBy, nameFor, IsPart}
 use Rattle.names.specs.declared.Name.{Name}
 use Rattle.names.specs.declared.Wanted.{Wanted}
 use Rattle.names.proofs.Runs.{inside}
@@ -94,3 +94,19 @@ module _ (f : List ℕ) where
       go (some (m ∷ ns)) k h =
           let q : nameElse (find (fitting w) (m ∷ ns)) m ≡ n = cc in
           rw (← q) (pick ns m (names-are-parts (m ∷ ns) k) (find (fitting w) (m ∷ ns)) refl)
+
+-- ---- a name list has a name for every question
+
+some-name : {at : ℕ} {text : List ℕ} {ns : List Named} → IsNames at text ns → 0 < length ns
+some-name (last-name h) = omega arith
+some-name (then-name h k) = omega arith
+some-name (then-patterns h k) = omega arith
+
+pub list-answers : (w : Wanted) (field : List ℕ) → isNameList field ≡ true → (n : Name) × (nameFor w field ≡ some n)
+unfolding nameFor
+list-answers w field h = go (nameList field) refl h
+  where
+    go : (o : Option (List Named)) → nameList field ≡ o → isRead o ≡ true → (n : Name) × (answerBy w o ≡ some n)
+    go none q h = clash h
+    go (some []) q h = absurd (omega (arith, some-name (field-right field [] q .1)))
+    go (some (m ∷ ns)) q h = (nameElse (find (fitting w) (m ∷ ns)) m, refl)

@@ -67,7 +67,13 @@ fn put_stop(t: &mut [u32], q: usize, number: u32, start: usize, text: &[u8]) -> 
     requires { ⌜ q + stopSize ≤ length (now t) ⌝ }
     ensures { λ r. ⌜ (r ≡ q + stopSize) × (now (t .exit) ≡ write (now (t .entry)) q (number ∷ (start + 12) ∷ nameLength (columns 13 62 (now (text .entry))) ∷ [])) ⌝ }
 {
-    words::put3(t, q, number, (start + 12) as u32, name_length(text));
+    words::put3(
+        t,
+        q,
+        number,
+        (start + 12) as u32,
+        name_field::name_length(text),
+    );
     q + STOP_WORDS
 }
 
@@ -83,19 +89,4 @@ fn put_interchange(t: &mut [u32], q: usize, number: u32, text: &[u8]) -> usize
         columns::number_in(text, 12, 13),
     );
     q + INTERCHANGE_WORDS
-}
-
-// The length of the name in columns 13 to 62 without trailing blanks.
-fn name_length(text: &[u8]) -> u32
-    ensures { λ r. ⌜ r ≡ nameLength (columns 13 62 (now (text .entry))) ⌝ }
-{
-    let name = columns::part(text, 13, 62);
-    let mut k: u32 = 50;
-    while 0 < k {
-        if columns::byte_at(name, k as usize - 1) != b' ' {
-            return k;
-        }
-        k -= 1;
-    }
-    0
 }

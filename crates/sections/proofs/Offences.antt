@@ -12,9 +12,10 @@ use Rattle.base.specs.Lists.{some-of}
 use Rattle.base.proofs.Laws.{tests}
 use Rattle.lines.specs.Lines.{Line}
 use Rattle.bitfield.specs.BitField.{bitsIn, framed}
+use Rattle.names.specs.Names.{isNameList}
 use Rattle.timetable.specs.Delivery.{StopRecord, Interchange}
 use Rattle.timetable.specs.Offences.{offenceAt, given, _<|>_, verdictBy}
-use Rattle.timetable.specs.Files.{held-in, bitFieldOf, bitFieldOffence, hasInterchange, hasStop, stopOf, stopOffence, interchangeOf, interchangeOffence}
+use Rattle.timetable.specs.Files.{held-in, bitFieldOf, bitFieldOffence, hasInterchange, hasStop, nameField, stopOf, stopOffence, namedStopOffence, interchangeOf, interchangeOffence}
 use Rattle.timetable.specs.declared.Verdict.{Verdict}
 use Rattle.timetable.specs.declared.Verdict.the-variants.{Fine, Offends}
 use Rattle.timetable.proofs.Offences.{then-none, given-none}
@@ -73,6 +74,21 @@ module _ (k no : ℕ) (ls : List Line) (a : Bool) (d : a ≡ (eqb k 9999999 || e
     stop-fine y = rw (sym d ∙ z, sym (has-stop b k ls s) ∙ y) refl
 
 pub ruleset stop-checks = (tests, stop-barred, stop-seen, stop-fine)
+
+-- 39 before them: a is whether the name field is a name list
+module _ (k no : ℕ) (text : List ℕ) (ls : List Line) (a : Bool) (d : a ≡ isNameList (nameField text)) (v : Verdict) where
+  abbrev NamedGives : Type 0
+  NamedGives = v ≡ verdictBy (namedStopOffence (held-in stopOf ls) no text (record { number = k; offset = 0; size = 0 }))
+
+  pub stop-named : a ≡ true → v ≡ verdictBy (stopOffence (held-in stopOf ls) no (record { number = k; offset = 0; size = 0 })) → NamedGives
+  unfolding _<|>_
+  stop-named z e = rw (sym d ∙ z) e
+
+  pub stop-unnamed : a ≡ false → v ≡ Offends (offenceAt 39 no) → NamedGives
+  unfolding _<|>_
+  stop-unnamed z e = rw (sym d ∙ z) e
+
+pub ruleset named-checks = (tests, stop-named, stop-unnamed)
 
 -- ---- an interchange record of number k after c records: 7 for the first, 6 and 9 for others
 
@@ -139,7 +155,7 @@ module _ (s : Section) (days no : ℕ) (stops : List StopRecord) (before : List 
     unfolding recordOffence
     line-field z e = rw (y, z) e
 
-    pub line-stop : s ≡ Stops → v ≡ verdictBy (stopOffence (held-in stopOf before) no (record { number = k; offset = 0; size = 0 })) → LineGives v
+    pub line-stop : s ≡ Stops → v ≡ verdictBy (namedStopOffence (held-in stopOf before) no text (record { number = k; offset = 0; size = 0 })) → LineGives v
     unfolding recordOffence
     line-stop z e = rw (y, z) e
 
@@ -159,7 +175,7 @@ module _ (days no k : ℕ) (stops : List StopRecord) (before : List Line) (text 
   pub record-unseen : (s : Section) → recordOffence s days stops before no text k ≡ none → hasNumber k (numbers s before) ≡ false
   unfolding recordOffence some-of
   record-unseen BitFields e = has-field (hasNumber k (numbers BitFields before)) k before refl ∙ given-none _ 6 no (then-none _ _ (then-none _ _ e .1) .0)
-  record-unseen Stops e = has-stop (hasNumber k (numbers Stops before)) k before refl ∙ given-none _ 6 no (then-none _ _ e .1)
+  record-unseen Stops e = has-stop (hasNumber k (numbers Stops before)) k before refl ∙ given-none _ 6 no (then-none _ _ (then-none _ _ e .1) .1)
   record-unseen Interchanges e = has-interchange (hasNumber k (numbers Interchanges before)) k before refl ∙ none-earlier (held-in interchangeOf before) e
     where
       none-earlier : (es : List Interchange) → interchangeOffence stops es no (just k) ≡ none → hasInterchange k es ≡ false

@@ -17,7 +17,7 @@ use Rattle.forms.specs.declared.LineKind.{LineKind}
 use Rattle.forms.specs.declared.LineKind.the-variants.{BitField as BitFieldLine, Stop, Interchange}
 use Rattle.timetable.specs.Delivery.{BitField, StopRecord}
 use Rattle.timetable.specs.Offences.{formOffence}
-use Rattle.timetable.specs.Files.{held-in, bitFieldOf, bitFieldOffence, stopOf, stopOffence, interchangeOf, interchangeOffence}
+use Rattle.timetable.specs.Files.{held-in, bitFieldOf, bitFieldOffence, stopOf, namedStopOffence, interchangeOf, interchangeOffence}
 use Rattle.timetable.specs.declared.Offence.{Offence}
 use Rattle.sections.specs.declared.Section.{Section}
 use Rattle.sections.specs.declared.Section.the-variants.{BitFields, Stops, Interchanges}
@@ -59,10 +59,10 @@ hasNumber n ns = some-of (λ (x : ℕ). eqb x n) ns
 
 -- ---- what is wrong with a line
 
--- with the record of number k on a line, after the lines before it: its own offence looks at nothing else of the record but a bit field's words
+-- with the record of number k on a line, after the lines before it: its own offence looks at nothing else of the record but a bit field's words and a stop's name
 unfoldable pub recordOffence : Section → ℕ → List StopRecord → List Line → ℕ → List ℕ → ℕ → Option Offence
 recordOffence BitFields n stops before line text k = bitFieldOffence n (held-in bitFieldOf before) line (record { number = k; words = bitsIn text })
-recordOffence Stops n stops before line text k = stopOffence (held-in stopOf before) line (record { number = k; offset = 0; size = 0 })
+recordOffence Stops n stops before line text k = namedStopOffence (held-in stopOf before) line text (record { number = k; offset = 0; size = 0 })
 recordOffence Interchanges n stops before line text k = interchangeOffence stops (held-in interchangeOf before) line (record { number = k; firstTime = 0; secondTime = 0 })
 
 -- 4, then the record's own

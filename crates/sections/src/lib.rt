@@ -18,7 +18,7 @@ ghost use Rattle.bitfield.specs.BitField.{bitsIn};
 ghost use Rattle.timetable.specs.Layout.{mostFileBytes, mostPeriodDays};
 ghost use Rattle.timetable.specs.Offences.{first, verdictBy, checkedBy};
 ghost use Rattle.timetable.specs.Files.{bitFieldsIn, hasField, bitFieldOffence, bitFieldsFirst};
-ghost use Rattle.timetable.specs.Files.{stopsIn, hasStop, stopOffence, stopsFirst};
+ghost use Rattle.timetable.specs.Files.{stopsIn, hasStop, stopOffence, namedStopOffence, stopsFirst};
 ghost use Rattle.timetable.specs.Files.{interchangesIn, interchangeOffence, interchangesFirst};
 ghost use Rattle.sections.specs.Sections.{lineKind, numberEnd, numberOn, numbers, hasNumber};
 ghost use Rattle.sections.specs.Sections.{recordOffence, numberedOffence, lineOffence, wordsOf};
@@ -270,7 +270,7 @@ fn line_verdict(
             let seen = &m[split..m.len()];
             match section {
                 Section::BitFields => field_verdict(x, before, seen, text, no, days),
-                Section::Stops => stop_verdict(x, before, seen, no),
+                Section::Stops => named_stop_verdict(x, before, seen, text, no),
                 Section::Interchanges => {
                     interchange_verdict(x, before, seen, no, bahnhof, &m[0..split], count)
                 }
@@ -302,6 +302,17 @@ fn field_verdict(
         return Verdict::Fine;
     }
     timetable::offends(8, no)
+}
+
+// 39, then the others: the name field is no name list.
+fn named_stop_verdict(number: u32, before: &[u8], seen: &[u32], text: &[u8], no: u32) -> Verdict
+    requires { ⌜ Seen Stops (linesOf (now before)) (now seen) ⌝ }
+    ensures { λ r. ⌜ r ≡ verdictBy (namedStopOffence (stopsIn (now (before .entry))) no (now (text .entry)) (record { number = number; offset = 0; size = 0 })) ⌝ }
+{
+    if name_field::is_named(text) {
+        return stop_verdict(number, before, seen, no);
+    }
+    timetable::offends(39, no)
 }
 
 // 7 or 6: a number that no stop has, seen earlier.

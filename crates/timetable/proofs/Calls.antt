@@ -14,16 +14,16 @@ use Rattle.timetable.proofs.Lines.{said-more, said-on}
 
 -- ---- how many
 
-held-length : (a : Announced) (xs : List (ℕ × CallLine)) → length (holding a xs) ≡ length xs
+holding-length : (a : Announced) (xs : List (ℕ × CallLine)) → length (holding a xs) ≡ length xs
 unfolding holding
-held-length a [] = refl
-held-length a (x ∷ xs) = ap suc (held-length (announced (callBy a (x .1))) xs)
+holding-length a [] = refl
+holding-length a (x ∷ xs) = ap suc (holding-length (announced (callBy a (x .1))) xs)
 
 pub calls-count : (ls : List Line) → length (callsOf ls) ≡ length (gathered asCall (tolds ls))
 unfolding calledOn
 calls-count ls =
     length-map (calledOn ls) (λ (c : ℕ × Call). c .1)
-    ∙ (held-length (opened (openingOf ls)) (saidOn asCall ls)
+    ∙ (holding-length (opened (openingOf ls)) (saidOn asCall ls)
     ∙ (sym (length-map (saidOn asCall ls) (λ (c : ℕ × CallLine). c .1)) ∙ ap length (said-on asCall ls)))
 
 -- with one line more
@@ -36,11 +36,11 @@ calls-more before l =
 -- ---- what holds of each schedule line holds of its call, if it does so whatever held before
 
 module _ (P : CallLine → Type 0) (Q : Call → Type 0) (by : (a : Announced) (l : CallLine) → P l → Q (callBy a l)) where
-  held-all : (a : Announced) (xs : List (ℕ × CallLine)) → All P (map (λ (c : ℕ × CallLine). c .1) xs) → All Q (map (λ (c : ℕ × Call). c .1) (holding a xs))
+  holding-all : (a : Announced) (xs : List (ℕ × CallLine)) → All P (map (λ (c : ℕ × CallLine). c .1) xs) → All Q (map (λ (c : ℕ × Call). c .1) (holding a xs))
   unfolding holding
-  held-all a [] h = nil
-  held-all a (x ∷ xs) (cons p h) = cons (by a (x .1) p) (held-all (announced (callBy a (x .1))) xs h)
+  holding-all a [] h = nil
+  holding-all a (x ∷ xs) (cons p h) = cons (by a (x .1) p) (holding-all (announced (callBy a (x .1))) xs h)
 
   pub calls-all : (ls : List Line) → All P (gathered asCall (tolds ls)) → All Q (callsOf ls)
   unfolding calledOn
-  calls-all ls h = held-all (opened (openingOf ls)) (saidOn asCall ls) (rw (said-on asCall ls) h)
+  calls-all ls h = holding-all (opened (openingOf ls)) (saidOn asCall ls) (rw (said-on asCall ls) h)

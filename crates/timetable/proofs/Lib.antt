@@ -3,3 +3,4 @@ pub mod Calls
 pub mod Offences
 pub mod Records
 pub mod Rows
+pub mod NameField

@@ -1,10 +1,10 @@
--- Files 1 to 4, line by line: what a line holds, and its own offences "by the order 12, 11, 4, 13, 5, 7, 6, 8, 9, 10".
--- Assumes nothing.
+-- Files 1 to 4, line by line: what a line holds, and its own offences "by the order 12, 11, 4, 13, 5, 7, 6, 8, 9, 10" (document 02, No. 3: 39 directly
+-- after 4). Assumes nothing.
 use Prim.Native.Nat.{ℕ, zero, suc, _+_, _-_, _*_, _/_, _%_}
 use mathlib.Core.List.{List, [], _∷_, _++_}
 use mathlib.Core.Bool.{Bool, true, false, cond, not, _&&_, _||_}
 use mathlib.Core.Option.{Option, none, some}
-use lib.ListN.{length}
+use lib.ListN.{length, take}
 use lib.Dec.{ltb, leb, eqb}
 use Rattle.base.specs.Lists.{some-of}
 use Rattle.columns.specs.Columns.{columns, blank, number}
@@ -19,6 +19,7 @@ use Rattle.forms.specs.Form.{Row, formOf}
 use Rattle.forms.specs.declared.Form.{Form}
 use Rattle.forms.specs.declared.Form.the-variants.{Fits, Broken}
 use Rattle.forms.specs.Columns.{dateColumns, bitFieldColumns, stopColumns, interchangeColumns}
+use Rattle.names.specs.Names.{isNameList}
 use Rattle.timetable.specs.Delivery.{Period, BitField, StopRecord, Interchange}
 use Rattle.timetable.specs.Offences.{offenceAt, given, formOffence, _<|>_, first}
 use Rattle.timetable.specs.declared.Offence.{Offence}
@@ -133,6 +134,10 @@ unfoldable pub nameLength : List ℕ → ℕ
 nameLength [] = 0
 nameLength (b ∷ p) = cond (blank (b ∷ p)) 0 (suc (nameLength p))
 
+-- the name field: columns 13-62 without trailing blanks
+abbrev pub nameField : List ℕ → List ℕ
+nameField text = take (nameLength (columns 13 62 text)) (columns 13 62 text)
+
 -- "number, byte offset of column 13 in BAHNHOF from 0, name length"
 abbrev pub stopOf : Line → Held StopRecord
 stopOf l =
@@ -152,9 +157,13 @@ abbrev pub stopOffence : List StopRecord → ℕ → StopRecord → Option Offen
 stopOffence earlier line s =
     given (eqb (s .number) 9999999 || eqb (s .number % 100000) 0) 7 line <|> given (hasStop (s .number) earlier) 6 line
 
--- 4, then those
+-- document 02, No. 3: "at load 39 after 4 for a bad list", so before those
+abbrev pub namedStopOffence : List StopRecord → ℕ → List ℕ → StopRecord → Option Offence
+namedStopOffence earlier line text s = given (not (isNameList (nameField text))) 39 line <|> stopOffence earlier line s
+
+-- 4, then these
 abbrev pub stopLineOffence : List Line → Line → Option Offence
-stopLineOffence before l = heldOffence (stopOffence (held-in stopOf before) (l .no)) (l .no) (stopOf l)
+stopLineOffence before l = heldOffence (namedStopOffence (held-in stopOf before) (l .no) (l .text)) (l .no) (stopOf l)
 
 unfoldable pub stopsFirst : List Line → Option Offence
 stopsFirst ls = first stopLineOffence [] ls

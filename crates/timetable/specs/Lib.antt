@@ -10,4 +10,5 @@ pub mod Checks
 pub mod Table
 pub mod Load
 pub mod Questions
+pub mod StopNames
 pub mod Trial

@@ -99,7 +99,7 @@ writtenBy (Refused number file line column needed) ws t = t
 unfoldable pub written : Files → List ℕ → ℕ → List ℕ
 written f t helper = writtenBy (loaded f (length t) helper) (tableWords (delivered f)) t
 
--- No. 13: "Those words hold 0 afterwards; any further ones stay. .. after 1 and 51 all helper words stay." (What is 1, and whether they are too few for 51.)
+-- No. 13: "Those words hold 0 afterwards; any further ones stay. .. after 1 and 51 all helper words stay." (The offence 1, if any, and whether 51 is told.)
 abbrev pub helpedBy : Option Where → Bool → ℕ → List ℕ → List ℕ
 helpedBy (some w) few needed h = h
 helpedBy none few needed h = cond few h (onto (replicate needed 0) h)

@@ -158,6 +158,12 @@ pub enum InterchangeAnswer {
     Refused(u32),
 }
 
+// What a question for a stop's name answers: the part of BAHNHOF that holds the name, by the byte where it starts, from 0, and its length.
+pub enum NameAnswer {
+    Part { start: usize, size: usize },
+    Refused(u32),
+}
+
 // What a walk answers: how many rows it lists, that the service is not running, or the refusal and the words needed (0 unless 29).
 pub enum Walked {
     Listed(u32),

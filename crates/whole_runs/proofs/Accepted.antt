@@ -9,7 +9,7 @@ use native.Mathlib.Omega.{arith}
 use lib.ListN.{length, drop, length-append}
 use lib.Seq.{drop-at}
 use lib.Dec.{ltb, leb, eqb}
-use borrow.Author.Tests.{le-leb, ltb-false, eqb-false, eq-eqb}
+use borrow.Author.Tests.{le-leb, le-ltb, ltb-false, eqb-false, eq-eqb}
 use Rattle.base.specs.Lists.{All, nil, cons, gathered}
 use Rattle.base.proofs.Laws.{apart}
 use Rattle.calendar.specs.Calendar.{lastDay}
@@ -210,3 +210,15 @@ module _ (f : Files) (t : List ℕ) (helper u : ℕ) (e : loaded f (length t) he
 
   pub interchange-accepted : (n a b : ℕ) → interchangeAsked (written f t helper) n a b ≡ cond (leb a 13 && leb b 13) (cond (hasStop n (delivered f .stops)) (Minutes (minutesFor (interchangeAtStop (delivered f) n) a b)) (InterchangeRefused 27)) (InterchangeRefused 26)
   interchange-accepted = interchange-held (written f t helper) (delivered f) (table-is f t helper u e) (table-holds f t helper u e)
+
+-- ---- No. 13: "Table and answers stay the same": with helper words enough a load answers by the first offence of all, then 20, as it did without them
+
+same-by : (a b : Option Where) (few : Bool) (short later : Loaded) → few ≡ false → refusedOr a (cond few short (refusedOr b later)) ≡ refusedOr (a <|> b) later
+unfolding _<|>_
+same-by none b few short later e = rw e refl
+same-by (some w) b few short later e = refl
+
+pub answers-same : (f : Files) (room helper : ℕ) → helperNeeded f ≤ helper
+    → loaded f room helper ≡ refusedOr (offence f) (shortOr 20 room (length (tableWords (delivered f))) (Accepted (length (tableWords (delivered f)))))
+unfolding loaded offence
+answers-same f room helper h = same-by (lengthOffence f) (contentOffence f) (ltb helper (helperNeeded f)) _ _ (le-ltb helper (helperNeeded f) h)

@@ -19,3 +19,5 @@ pub mod Any
 pub mod Demand3
 pub mod Slack
 pub mod Numbers
+pub mod StopLines
+pub mod StopNames

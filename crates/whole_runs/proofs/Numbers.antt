@@ -25,11 +25,12 @@ use Rattle.forms.proofs.Leftmost.{broken-from-1}
 use Rattle.forms.specs.declared.Form.{Form}
 use Rattle.forms.specs.declared.Form.the-variants.{Fits, Broken}
 use Rattle.lines.specs.Lines.{Line, linesOf, skipped}
+use Rattle.names.specs.Names.{isNameList}
 use Rattle.timetable.specs.Delivery.{Files, BitField as BitFieldRecord, StopRecord, Interchange as InterchangeRecord, CategoryRange, DayRange, Service}
 use Rattle.timetable.specs.declared.Offence.{Offence}
 use Rattle.timetable.specs.Offences.{offenceAt, given, formOffence, _<|>_, first}
 use Rattle.timetable.specs.Files.{skip, held-in, heldBy, heldOffence, noDate, noPeriod, dayNumber, dateLineOffence, periodLineOffence, periodFirst}
-use Rattle.timetable.specs.Files.{hasField, bitFieldOf, bitFieldOffence, bitFieldLineOffence, bitFieldsFirst, hasStop, stopOf, stopOffence, stopLineOffence, stopsFirst}
+use Rattle.timetable.specs.Files.{hasField, bitFieldOf, bitFieldOffence, bitFieldLineOffence, bitFieldsFirst, hasStop, nameField, stopOf, namedStopOffence, stopLineOffence, stopsFirst}
 use Rattle.timetable.specs.Files.{hasInterchange, interchangeOf, interchangeOffence, interchangeLineOffence, interchangesFirst}
 use Rattle.timetable.specs.Table.{tableWords, tableOf, isTable}
 use Rattle.timetable.specs.Plan.{openingIn, categoryIn, attributeIn, callIn, formed, toldBy, toldIn, asRange, partLines, saidOn}
@@ -143,8 +144,9 @@ by-field n before l =
 
 by-stop : (before : List Line) (l : Line) → Numbered (stopLineOffence before l)
 by-stop before l =
-    by-held (stopOffence (held-in stopOf before) (l .no)) (λ s.
-    either _ _ (by-given (eqb (s .number) 9999999 || eqb (s .number % 100000) 0) 7 (l .no) refl) (by-given (hasStop (s .number) (held-in stopOf before)) 6 (l .no) refl))
+    by-held (namedStopOffence (held-in stopOf before) (l .no) (l .text)) (λ s.
+    either _ _ (by-given (not (isNameList (nameField (l .text)))) 39 (l .no) refl)
+    (either _ _ (by-given (eqb (s .number) 9999999 || eqb (s .number % 100000) 0) 7 (l .no) refl) (by-given (hasStop (s .number) (held-in stopOf before)) 6 (l .no) refl)))
     Stop (l .no) (l .text) _
 
 module _ (stops : List StopRecord) where

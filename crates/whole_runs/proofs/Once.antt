@@ -13,7 +13,7 @@ use Rattle.bitfield.specs.BitField.{runsOn}
 use Rattle.lines.specs.Lines.{Line, linesOf}
 use Rattle.timetable.specs.Delivery.{Files, BitField, StopRecord, Interchange}
 use Rattle.timetable.specs.Offences.{first}
-use Rattle.timetable.specs.Files.{Held, skip, broken, held, listed, held-in, heldOffence, bitFieldOf, bitFieldOffence, bitFieldsFirst, stopOf, stopOffence, stopsFirst, hasInterchange, interchangeOf, interchangeOffence, interchangesFirst}
+use Rattle.timetable.specs.Files.{Held, skip, broken, held, listed, held-in, heldOffence, bitFieldOf, bitFieldOffence, bitFieldsFirst, stopOf, namedStopOffence, stopsFirst, hasInterchange, interchangeOf, interchangeOffence, interchangesFirst}
 use Rattle.timetable.specs.Legs.{fieldRuns}
 use Rattle.timetable.specs.Load.{delivered}
 use Rattle.timetable.specs.Questions.{interchangeBy, interchangeAtStop}
@@ -114,14 +114,14 @@ fields-run f h k =
 
 -- ---- 3 BAHNHOF
 
-stop-unseen : (line : ℕ) (earlier : List StopRecord) (h : Held StopRecord) → heldOffence (stopOffence earlier line) line h ≡ none → All (λ (s : StopRecord). Unseen (λ (y : StopRecord). y .number) earlier (s .number)) (listed h)
-stop-unseen line earlier skip e = nil
-stop-unseen line earlier (broken c) e = nil
-stop-unseen line earlier (held s) e = cons {x = s} (given-none _ 6 line (then-none _ _ e .1)) nil
+stop-unseen : (line : ℕ) (text : List ℕ) (earlier : List StopRecord) (h : Held StopRecord) → heldOffence (namedStopOffence earlier line text) line h ≡ none → All (λ (s : StopRecord). Unseen (λ (y : StopRecord). y .number) earlier (s .number)) (listed h)
+stop-unseen line text earlier skip e = nil
+stop-unseen line text earlier (broken c) e = nil
+stop-unseen line text earlier (held s) e = cons {x = s} (given-none _ 6 line (then-none _ _ (then-none _ _ e .1) .1)) nil
 
 pub stops-own : (f : Files) → Clear f → All (Own (λ (y : StopRecord). y .number) (delivered f .stops)) (delivered f .stops)
 unfolding delivered stopsFirst
-stops-own f h = own-held (λ (y : StopRecord). y .number) stopOf _ (λ before l o. stop-unseen (l .no) (held-in stopOf before) (stopOf l) o) (linesOf (f .bahnhof)) (h .stops)
+stops-own f h = own-held (λ (y : StopRecord). y .number) stopOf _ (λ before l o. stop-unseen (l .no) (l .text) (held-in stopOf before) (stopOf l) o) (linesOf (f .bahnhof)) (h .stops)
 
 -- ---- 4 UMSTEIGB
 

@@ -9,6 +9,7 @@ mod bits;
 mod calendar;
 mod fields;
 mod lines;
+mod names;
 mod period;
 mod plan;
 mod refusal;
@@ -60,7 +61,7 @@ pub fn load(files: &Files<'_>, lent: &mut [u32]) -> Result<u32, Refusal> {
     Ok(needed)
 }
 
-/// The words of a delivery's table, or the first offence (1 to 19).
+/// The words of a delivery's table, or the first offence (1 to 19, or 39).
 pub fn words_of(files: &Files<'_>) -> Result<Vec<u32>, Refusal> {
     check_lengths(files)?;
     let [eckdaten, bitfeld, bahnhof, umsteigb, fplan] = files.numbered();

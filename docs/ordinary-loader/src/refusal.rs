@@ -1,6 +1,6 @@
 //! What is wrong with a delivery, and where.
 
-/// The numbers of document 01's refusals.
+/// The numbers of documents 01's and 02's refusals.
 pub mod number {
     pub const FILE_LONG: u32 = 1;
     pub const LINE_MISSING: u32 = 2;
@@ -22,12 +22,13 @@ pub mod number {
     pub const DAYS_COVER: u32 = 18;
     pub const STRETCHES: u32 = 19;
     pub const TABLE_SHORT: u32 = 20;
+    pub const NAMES: u32 = 39;
 }
 
 /// A refusal of a delivery.
 #[derive(Clone, Copy, Debug, PartialEq, Eq)]
 pub struct Refusal {
-    /// 1 to 20.
+    /// 1 to 20, or 39.
     pub number: u32,
     /// 1 ECKDATEN, 2 BITFELD, 3 BAHNHOF, 4 UMSTEIGB, 5 FPLAN; 0 for 20.
     pub file: u32,

@@ -5,6 +5,7 @@ use std::collections::{HashMap, HashSet};
 use crate::bits::{bits_in, Bits};
 use crate::fields::without_trailing_blanks;
 use crate::lines::{is_blank, lines, records, Broken, Line};
+use crate::names::is_list;
 use crate::period::Period;
 use crate::refusal::{number, Offence};
 use crate::table::Table;
@@ -70,18 +71,21 @@ fn bit_field_in(line: &Line<'_>) -> Result<(u32, Bits), Broken> {
     Ok((field, bits))
 }
 
-/// BAHNHOF: 4, 7, 6.
+/// BAHNHOF: 4, 39, 7, 6.
 pub fn read_stops(file: &[u8], table: &mut Table) -> Result<Stops, Offence> {
     let mut stops = Stops { known: HashSet::new() };
     for line in records(file) {
-        let (stop, name) = line.formed(stop_in(&line))?;
+        let (stop, names) = line.formed(stop_in(&line))?;
+        if !is_list(names) {
+            return Err(line.offence(number::NAMES));
+        }
         if stop == EVERY_STOP || stop % 100_000 == 0 {
             return Err(line.offence(number::RESERVED));
         }
         if !stops.known.insert(stop) {
             return Err(line.offence(number::REPEATED));
         }
-        table.stop(stop, line.start + 12, name.len());
+        table.stop(stop, line.start + 12, names.len());
     }
     Ok(stops)
 }

@@ -32,8 +32,8 @@ field-verdict-requires c κs = search line-checks
 enum-told-3 : tie.Need-enum-told-3
 enum-told-3 c = search line-checks
 
-stop-verdict-requires : tie.Need-stop-verdict-requires
-stop-verdict-requires c κs = search line-checks
+named-stop-verdict-requires : tie.Need-named-stop-verdict-requires
+named-stop-verdict-requires c κs = search line-checks
 
 enum-told-4 : tie.Need-enum-told-4
 enum-told-4 c = search line-checks
@@ -79,7 +79,7 @@ line-verdict-spec =
     enum-told-2
     field-verdict-requires
     enum-told-3
-    stop-verdict-requires
+    named-stop-verdict-requires
     enum-told-4
     sub-interchange-verdict
     part-interchange-verdict-start

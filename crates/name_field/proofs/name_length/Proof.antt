@@ -1,13 +1,13 @@
--- `section_words::name_length` meets its contract: only blanks stand behind the loop's place. Assumes nothing.
+-- `name_field::name_length` meets its contract: only blanks stand behind the loop's place. Assumes nothing.
 use mathlib.Core.Path.{_≡_}
 use Prim.Native.Nat.{_≤_}
 use native.Mathlib.Omega.{arith}
 use lib.ListN.{take}
 use Rattle.columns.specs.Columns.{columns}
 use Rattle.timetable.specs.Files.{nameLength}
-use Rattle.section_words.proofs.Names.{names}
-use Rattle.section_words.proofs.name_length.Statement.{statement}
-use Rattle.section_words.proofs.name_length.Tie as tie
+use Rattle.name_field.proofs.Names.{names}
+use Rattle.name_field.proofs.name_length.Statement.{statement}
+use Rattle.name_field.proofs.name_length.Tie as tie
 
 abbrev Inv-loop : tie.InvT-loop
 Inv-loop text name k₀ k = (k ≤ 50) × (nameLength (take k (columns 13 62 text)) ≡ nameLength (columns 13 62 text))

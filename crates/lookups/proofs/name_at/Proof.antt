@@ -1,0 +1,29 @@
+use Rattle.lookups.proofs.Sections.{stop-names}
+use Rattle.lookups.proofs.name_at.Statement.{statement}
+use Rattle.lookups.proofs.name_at.Tie as tie
+
+add-t3 : tie.Need-add-t3
+add-t3 c = search stop-names
+
+mul-t4 : tie.Need-mul-t4
+mul-t4 c = search stop-names
+
+shared-slice-read-t6 : tie.Need-shared-slice-read-t6
+shared-slice-read-t6 c = search stop-names
+
+add-t7 : tie.Need-add-t7
+add-t7 c = search stop-names
+
+mul-t8 : tie.Need-mul-t8
+mul-t8 c = search stop-names
+
+shared-slice-read-t10 : tie.Need-shared-slice-read-t10
+shared-slice-read-t10 c = search stop-names
+
+returns : tie.Need-returns
+returns c = search stop-names
+
+pub name-at-spec : {M : Type 1} → statement M
+name-at-spec =
+    tie.close
+    (tie.spec add-t3 mul-t4 shared-slice-read-t6 add-t7 mul-t8 shared-slice-read-t10 returns)
