@@ -99,17 +99,25 @@ typedef struct EstelunyaDayCountResult {
 #define ESTELUNYA_INTERCHANGE_WORDS 3
 
 /* Head of a service */
-#define ESTELUNYA_SERVICE_WORDS 11
+#define ESTELUNYA_SERVICE_WORDS 12
 #define ESTELUNYA_SIZE_AT 0           /* words of this service, with its head */
 #define ESTELUNYA_NUMBER_AT 1         /* its number */
 #define ESTELUNYA_ADMINISTRATION_AT 2 /* two words of three bytes */
-#define ESTELUNYA_REPEATS_AT 4
-#define ESTELUNYA_OFFSET_AT 5         /* in minutes */
+#define ESTELUNYA_REPEATS_AT 4        /* repeats; of a *T service its running time in minutes */
+#define ESTELUNYA_OFFSET_AT 5         /* in minutes; of a *T service its density in seconds, 1 or more */
 #define ESTELUNYA_CALLS_AT 6          /* how many calls it has */
 #define ESTELUNYA_CATEGORIES_AT 7     /* *G */
 #define ESTELUNYA_DAYS_AT 8           /* *A VE */
 #define ESTELUNYA_EXTRAS_AT 9         /* other *A */
-#define ESTELUNYA_OPENING_LINE_AT 10  /* line of its *Z in FPLAN */
+#define ESTELUNYA_OPENING_LINE_AT 10  /* line of its *Z or *T in FPLAN */
+#define ESTELUNYA_KIND_AT 11          /* its kind */
+
+/*
+ * The kinds of a service. Opened by *Z: runs 0 to `repeats`, run j late by j times the offset. Opened by *T: runs j = 0, 1, 2.. while j times the density is at
+ * most sixty times the running time, run j late by j times the density over sixty, rounded up, in minutes.
+ */
+#define ESTELUNYA_KIND_Z 0u
+#define ESTELUNYA_KIND_T 1u
 
 /*
  * Call: number of the stop; arrival; departure, both in minutes, 0 if there is none; flags; number and administration (two words of three bytes) of the service
@@ -206,7 +214,7 @@ EstelunyaNameResult estelunya_stop_name(
 
 /*
  * Walks a run that starts on a date: `service` is the index of the service from 0, in the order of FPLAN; `repeat` is 0 for the run itself, up to the
- * service's repeats.
+ * service's last run (see the kinds of a service above); a higher one is refused with 25.
  *
  * Listed: `rows` begins with the rows, as many as the answer says, ESTELUNYA_ROW_WORDS each, one for each call of the stretch that is operated on that
  * date; the words after them hold what they held. Not running, or refused: all words of `rows` hold what they held.

@@ -5,7 +5,7 @@
 # with the same parameters, each in the same order: by text; and by the compilers, a C side and a Rust side, both written from the Rattle source
 # (drift/sides.awk) and linked with the archive, agree on layouts, prototypes and answers.
 #
-# The table's layout: each .._WORDS, .._AT and flag of the header has the same value in planner/src/layout.rs, which compare/ takes too; those that the
+# The table's layout: each .._WORDS, .._AT, kind and flag of the header has the same value in planner/src/layout.rs, which compare/ takes too; those that the
 # loader (crates/timetable) or the ordinary loader name are the header's.
 set -eu
 cd "$(dirname "$0")/.."
@@ -80,7 +80,9 @@ planner=planner/src/layout.rs
 ordinary=docs/ordinary-loader
 constants_c "$header" >"$said/$header"
 constants_rust "$planner" >"$said/$planner"
-constants_rust "$timetable/src/lib.rt" | grep '_WORDS \|_AT ' | grep -v '^MOST_' >"$said/$timetable"
+# The loader names both words of an administration, the header only where they begin.
+constants_rust "$timetable/src/lib.rt" | grep '_WORDS \|_AT \|^KIND_' | grep -v '^MOST_' |
+    awk '$1 == "HIGH_AT" || $1 == "LOW_AT" { $2 -= $1 == "LOW_AT"; $1 = "ADMINISTRATION_AT" } { print }' >"$said/$timetable"
 constants_rust "$ordinary"/src/*.rs >"$said/all"
 awk 'FNR == NR { named[$1] = 1; next } $1 in named' "$said/$header" "$said/all" >"$said/$ordinary"
 for list in "$header" "$planner" "$timetable" "$ordinary"; do [ -s "$said/$list" ] || die "no constants are seen in $list"; done

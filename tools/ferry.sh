@@ -32,7 +32,7 @@ filled() {
 }
 
 fresh
-says 'the trial week' 'accepted days 7 bitfields 1 stops 3 interchange 1 services 1 words 78'
+says 'the trial week' 'accepted days 7 bitfields 1 stops 3 interchange 1 services 1 words 79'
 fresh
 echo '31.02.2025' >"$place/ECKDATEN"
 says 'no such date' 'refused 5 file 1 line 1 column 0'
@@ -47,7 +47,7 @@ sed -i '2s/$/$<d/' "$place/BAHNHOF"
 says 'a pattern that is not closed' 'refused 39 file 3 line 2 column 0'
 fresh
 sed -i '2s/$/$Kai B$<d>/' "$place/BAHNHOF"
-says 'a name in another language' 'accepted days 7 bitfields 1 stops 3 interchange 1 services 1 words 78'
+says 'a name in another language' 'accepted days 7 bitfields 1 stops 3 interchange 1 services 1 words 79'
 fresh
 sed -i 's/  2  3/ 61  3/' "$place/UMSTEIGB"
 says '61 minutes' 'refused 4 file 4 line 1 column 9'
@@ -69,7 +69,7 @@ mkdir "$place/FPLAN"
 says 'FPLAN is a directory' 'unread file 5'
 fresh
 filled BAHNHOF 8192
-says '8,192 bytes' 'accepted days 7 bitfields 1 stops 3 interchange 1 services 1 words 78'
+says '8,192 bytes' 'accepted days 7 bitfields 1 stops 3 interchange 1 services 1 words 79'
 filled BAHNHOF 8194
 says 'a longer file' 'unread file 3'
 fresh
@@ -78,7 +78,7 @@ for file in BITFELD BAHNHOF UMSTEIGB; do
     size=$(wc -c <"$place/$file")
     printf '%*s' "$((8192 - size))" '' | tr ' ' '\n' >>"$place/$file"
 done
-says 'the most lines' 'accepted days 7 bitfields 1 stops 3 interchange 1 services 1 words 78'
+says 'the most lines' 'accepted days 7 bitfields 1 stops 3 interchange 1 services 1 words 79'
 fresh
 filled FPLAN 8193
 says '8,193 bytes' 'unread file 5'

@@ -9,7 +9,7 @@ seed=${1:-1} count=${2:-20000} first=${3:-0}
 planner_library
 compare_library
 linked trial_week planner/examples/trial_week.rs
-tests='days helper largest names refusals rows table'
+tests='days helper largest names refusals rows runs table'
 for test in $tests; do linked "$test" "planner/tests/$test.rs" --test; done
 for tool in standard delivery; do linked "$tool" "compare/src/bin/$tool.rs"; done
 

@@ -17,6 +17,11 @@ pub fn z(number: &str, administration: &str, repeats: &str, offset: &str) -> Str
     line(&[(1, "*Z"), (4, number), (10, administration), (23, repeats), (27, offset), (59, "%")])
 }
 
+/// A *T line: running time in minutes, density in seconds.
+pub fn t(number: &str, administration: &str, running_time: &str, density: &str) -> String {
+    line(&[(1, "*T"), (4, number), (10, administration), (17, running_time), (22, density), (59, "%")])
+}
+
 /// A *G line; the ends are pairs of end and detail.
 pub fn g(category: &str, from: (&str, &str), to: (&str, &str)) -> String {
     line(&[(1, "*G"), (4, category), (8, from.0), (16, to.0), (24, from.1), (31, to.1), (59, "%")])

@@ -47,7 +47,14 @@ impl Boundary for Planner {
     }
 
     fn walk(&self, table: &[u32], service: u32, repeat: u32, date: [u32; 3], rows: &mut [u32]) -> [u32; 3] {
-        match Table::new(table).walk(service, repeat, dated(date), rows) {
+        let run = Table::new(table).runs(service).and_then(|runs| runs.run(repeat));
+        let walked = Table::new(table).walk(service, repeat, dated(date), rows);
+        match walked {
+            Ok(_) => assert_eq!(run.map(|run| run.number), Some(repeat), "the run that was walked"),
+            Err(Refusal::NoSuchRepeat) => assert_eq!(run, None, "the run that is refused"),
+            Err(_) => {}
+        }
+        match walked {
             Ok(Walk::Rows(rows)) => [0, rows.iter().len() as u32, 0],
             Ok(Walk::NotRunning) => [0, 0, 0],
             Err(Refusal::RowsTooShort { needed }) => [29, 0, needed],

@@ -10,6 +10,7 @@ pub mod forms;
 pub mod lines;
 pub mod load;
 pub mod names;
+pub mod runs;
 pub mod service;
 pub mod table;
 

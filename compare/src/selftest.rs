@@ -10,6 +10,7 @@ mod names;
 mod national;
 mod random;
 mod refusals;
+mod runs;
 mod standard;
 
-pub use crate::columns::{a, bitfield, call, file, g, text, z};
+pub use crate::columns::{a, bitfield, call, file, g, t, text, z};

@@ -2,6 +2,7 @@
 //! the reason that document 01 gives; and the mended ones, accepted and walked as printed.
 
 mod files;
+mod frequency;
 mod services;
 
 use crate::boundary::Boundary;
@@ -28,8 +29,11 @@ pub fn examples(boundary: &dyn Boundary) -> Vec<Checked> {
     let sections = [
         files::stops,
         services::service_1554,
+        frequency::service_1554,
         services::service_114_refused,
         services::service_114_mended,
+        frequency::regions,
+        frequency::on_call,
         files::period,
         files::saturdays,
         files::interchange_times,

@@ -64,7 +64,8 @@ impl<'a> Table<'a> {
         answered(answer.number, 0, answer.minutes)
     }
 
-    /// Walks a run that starts on a date: service by its index from 0 in FPLAN's order, repeat 0 for the run itself.
+    /// Walks a run that starts on a date: service by its index from 0 in FPLAN's order, repeat 0 for the run itself, else the
+    /// number of one of its [`runs`](Table::runs).
     /// Refused: the rows stay as lent.
     pub fn walk(self, service: u32, repeat: u32, date: Date, rows: &mut [u32]) -> Result<Walk<'_>, Refusal> {
         let Date { day, month, year } = date;

@@ -8,6 +8,7 @@ use crate::layout::{
     BIT_FIELDS_AT, BIT_FIELD_WORDS, FIRST_SERVICE_AT, HEADER_WORDS, NUMBER_AT, PERIOD_DAYS_AT, SERVICES_AT,
     SERVICE_WORDS, SIZE_AT, STOPS_AT, STOP_WORDS, USED_AT,
 };
+use crate::runs::Runs;
 
 impl<'a> Table<'a> {
     /// How many days the period has; 0 where there are fewer words than a header has.
@@ -20,16 +21,21 @@ impl<'a> Table<'a> {
         self.header(SERVICES_AT)
     }
 
-    /// The numbers of all services (columns 4-8 of their *Z lines), in FPLAN's order: the first is that of index 0.
+    /// The numbers of all services (columns 4-8 of their *Z or *T lines), in FPLAN's order: the first is that of index 0.
     pub fn service_numbers(self) -> impl Iterator<Item = u32> + 'a {
-        let services = self.from(u64::from(self.header(FIRST_SERVICE_AT)));
-        heads(services).take(self.services() as usize).map(|head| head[NUMBER_AT])
+        self.service_heads().map(|head| head[NUMBER_AT])
     }
 
-    /// The number of the service with this index, columns 4-8 of its *Z line; `None` if there is no such service. It
-    /// passes over the services before it: for all of them take [`Table::service_numbers`].
+    /// The number of the service with this index, columns 4-8 of its *Z or *T line; `None` if there is no such service.
+    /// It passes over the services before it: for all of them take [`Table::service_numbers`].
     pub fn service_number(self, index: u32) -> Option<u32> {
         self.service_numbers().nth(index as usize)
+    }
+
+    /// The runs of the service with this index, which say of what kind it is; `None` if there is no such service, or its words say what no
+    /// table says. It passes over the services before it.
+    pub fn runs(self, index: u32) -> Option<Runs> {
+        self.service_heads().nth(index as usize).and_then(Runs::of_head)
     }
 
     /// How many stops there are; 0 where there are fewer words than a header has.
@@ -72,6 +78,11 @@ impl<'a> Table<'a> {
         let used = self.words().len().min(self.header(USED_AT) as usize);
         let start = used.min(usize::try_from(place).unwrap_or(used));
         &self.words()[start..used]
+    }
+
+    /// The head of each service, in FPLAN's order.
+    fn service_heads(self) -> impl Iterator<Item = &'a [u32]> {
+        heads(self.from(u64::from(self.header(FIRST_SERVICE_AT)))).take(self.services() as usize)
     }
 
     /// Number, place and length of the name of each stop.

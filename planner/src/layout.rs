@@ -30,16 +30,16 @@ pub const STOP_WORDS: usize = 3;
 pub const INTERCHANGE_WORDS: usize = 3;
 
 /// Words of a service's head.
-pub const SERVICE_WORDS: usize = 11;
+pub const SERVICE_WORDS: usize = 12;
 /// Head of a service: words of this service, with its head.
 pub const SIZE_AT: usize = 0;
 /// Head of a service: its number.
 pub const NUMBER_AT: usize = 1;
 /// Head of a service: its administration, two words of three bytes.
 pub const ADMINISTRATION_AT: usize = 2;
-/// Head of a service: repeats.
+/// Head of a service: repeats; of a *T service its running time in minutes.
 pub const REPEATS_AT: usize = 4;
-/// Head of a service: offset in minutes.
+/// Head of a service: offset in minutes; of a *T service its density in seconds.
 pub const OFFSET_AT: usize = 5;
 /// Head of a service: how many calls it has.
 pub const CALLS_AT: usize = 6;
@@ -49,8 +49,15 @@ pub const CATEGORIES_AT: usize = 7;
 pub const DAYS_AT: usize = 8;
 /// Head of a service: how many other *A.
 pub const EXTRAS_AT: usize = 9;
-/// Head of a service: line of its *Z in FPLAN.
+/// Head of a service: line of its *Z or *T in FPLAN.
 pub const OPENING_LINE_AT: usize = 10;
+/// Head of a service: its kind.
+pub const KIND_AT: usize = 11;
+
+/// Kind of a service: opened by *Z, with repeats.
+pub const KIND_Z: u32 = 0;
+/// Kind of a service: opened by *T, with a running time and a density.
+pub const KIND_T: u32 = 1;
 
 /// Words of a call: stop, arrival, departure, flags, number, administration (two words).
 pub const CALL_WORDS: usize = 7;

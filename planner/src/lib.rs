@@ -24,6 +24,7 @@
 //!
 //! let table = Table::new(&words);
 //! assert_eq!((table.services(), table.service_number(0)), (1, Some(42)));
+//! assert_eq!(table.runs(0).map(|runs| runs.last()), Some(0));
 //! let mut lent = vec![0; MOST_ROW_WORDS];
 //! match table.walk(0, 0, Date { day: 5, month: 12, year: 2025 }, &mut lent)? {
 //!     Walk::Rows(rows) => {
@@ -76,6 +77,7 @@ mod names;
 pub mod raw;
 mod refusal;
 mod row;
+mod runs;
 
 pub use ask::{Date, Table, Walk};
 pub use days::BitField;
@@ -84,3 +86,4 @@ pub use load::{helper_words, load, load_with, Files, Loaded};
 pub use names::{Language, NameType, Stop};
 pub use refusal::{File, LoadRefusal, Offence, Refusal};
 pub use row::{Row, Rows};
+pub use runs::{Run, Runs};

@@ -80,11 +80,11 @@ pub enum Offence {
     BitFieldUnknown = 10,
     /// 11: the line is of a kind that is not taken.
     OtherLineKind = 11,
-    /// 12: the line stands before the first *Z line, so that it belongs to no service.
+    /// 12: the line stands before the first *Z or *T line, so that it belongs to no service.
     NoServiceYet = 12,
     /// 13: the service has over 200 calls, 50 *G, 50 *A VE or 100 other *A lines. The line is the first over.
     TooManyLines = 13,
-    /// 14: the service has fewer than two calls. The line is its *Z line, as for 17 to 19.
+    /// 14: the service has fewer than two calls. The line is its *Z or *T line, as for 17 to 19.
     UnderTwoCalls = 14,
     /// 15: a call has no time where it needs one, or one that is earlier than the one stated before.
     Times = 15,
@@ -119,7 +119,7 @@ const OFFENCES: [(Offence, &str); 22] = [
     (Offence::StopUnknown, "the stop is not in BAHNHOF"),
     (Offence::BitFieldUnknown, "the bit field is not in BITFELD"),
     (Offence::OtherLineKind, "a line of this kind is not taken"),
-    (Offence::NoServiceYet, "no *Z line has opened a service yet"),
+    (Offence::NoServiceYet, "no *Z or *T line has opened a service yet"),
     (Offence::TooManyLines, "the service has over 200 calls, 50 *G, 50 *A VE or 100 other *A lines"),
     (Offence::UnderTwoCalls, "the service has fewer than two calls"),
     (Offence::Times, "a time of this call is missing, or earlier than the time before it"),
@@ -192,7 +192,8 @@ pub enum Refusal {
     OutsidePeriod,
     /// 24: the service index is not below the number of services.
     NoSuchService,
-    /// 25: the repeat number is over the service's repeats.
+    /// 25: the service has no run of this number: it is over the repeats of a *Z service, or starts after the running time of a *T
+    /// service.
     NoSuchRepeat,
     /// 26: a class is over 13.
     ClassOver13,
@@ -232,7 +233,7 @@ const REFUSALS: [(u32, Refusal, &str); 19] = [
     (22, Refusal::NoSuchDate, "there is no such date"),
     (23, Refusal::OutsidePeriod, "the date is outside the period"),
     (24, Refusal::NoSuchService, "the service index is not below the number of services"),
-    (25, Refusal::NoSuchRepeat, "the repeat number is over the service's repeats"),
+    (25, Refusal::NoSuchRepeat, "the service has no run of this number"),
     (26, Refusal::ClassOver13, "a class is over 13"),
     (27, Refusal::StopUnknown, "the stop is not in the table"),
     (28, Refusal::NoSuchBitField, "there is no such bit field in the table"),

@@ -44,13 +44,13 @@ impl<'r> Row<'r> {
     }
 
     /// The service's number that holds from this call on, as a conductor announces it: columns 44-48 of the last schedule line up
-    /// to this call that states one, else columns 4-8 of the *Z line. Every row has one.
+    /// to this call that states one, else columns 4-8 of the *Z or *T line. Every row has one.
     pub fn number(self) -> u32 {
         self.words[ROW_NUMBER_AT]
     }
 
     /// The administration that holds from this call on: columns 50-55 of the last schedule line up to this call that states one,
-    /// else columns 10-15 of the *Z line. Number and administration change each by itself.
+    /// else columns 10-15 of the *Z or *T line. Number and administration change each by itself.
     pub fn administration(self) -> [u8; 6] {
         let [a, b, c] = three_bytes(self.words[ROW_ADMINISTRATION_AT]);
         let [d, e, f] = three_bytes(self.words[ROW_ADMINISTRATION_AT + 1]);

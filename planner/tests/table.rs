@@ -14,7 +14,7 @@ fn trial_week() -> Vec<u32> {
         fplan: include_bytes!("../../crates/ferry/data/FPLAN"),
     };
     let mut words = vec![7; 100];
-    assert_eq!(load(&files, &mut words).unwrap().words, 78);
+    assert_eq!(load(&files, &mut words).unwrap().words, 79);
     words
 }
 
@@ -118,6 +118,9 @@ fn all_read(words: &[u32]) {
     let (services, stops) = (table.services(), table.stops());
     for index in [0, 1, 2, services, stops, u32::MAX] {
         table.service_number(index);
+        if let Some(runs) = table.runs(index) {
+            assert_eq!(runs.run(runs.last()).map(|run| run.number), Some(runs.last()));
+        }
         let stop = table.stop_number(index).unwrap_or(index);
         table.stop_name(stop, BAHNHOF);
     }
@@ -131,12 +134,12 @@ fn any_words() {
     for length in 0..words.len() {
         all_read(&words[..length]);
     }
-    for at in 0..78 {
-        for value in [0, 1, 8, 77, 78, 79, 1 << 31, u32::MAX] {
+    for at in 0..79 {
+        for value in [0, 1, 8, 77, 78, 79, 80, 1 << 31, u32::MAX] {
             let mut changed = words.clone();
             changed[at] = value;
             all_read(&changed);
-            all_read(&[value; 12]);
+            all_read(&[value; 13]);
         }
     }
     assert_eq!((Table::new(&[]).services(), Table::new(&words[..HEADER_WORDS - 1]).stops()), (0, 0));

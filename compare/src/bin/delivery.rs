@@ -24,6 +24,7 @@ const DELIVERY: Program = Program {
         "interchange",
         "name",
         "walk",
+        "run",
         "union",
         "intersection",
         "difference",

@@ -9,14 +9,15 @@ use crate::reader::lines::lines;
 /// BITFELD's columns from here on are counted as one.
 const ON: u32 = 111;
 
-/// The kinds of lines, and the columns that a refusal 4 can name there, from document 01's table: where a field starts that
-/// can break, and the columns that no field names.
-static KINDS: [(&str, &[(u32, u32)]); 8] = [
+/// The kinds of lines, and the columns that a refusal 4 can name there, from document 01's table and document 02, No. 8: where a
+/// field starts that can break, and the columns that no field names.
+static KINDS: [(&str, &[(u32, u32)]); 9] = [
     ("ECKDATEN", &[(1, 1)]),
     ("BITFELD", &[(1, 1), (7, 8), (104, ON)]),
     ("BAHNHOF", &[(1, 1), (8, 8), (12, 13)]),
     ("UMSTEIGB", &[(1, 1), (8, 9), (11, 12), (14, 14)]),
     ("*Z", &[(4, 4), (9, 10), (16, 23), (26, 27), (30, 59)]),
+    ("*T", &[(4, 4), (9, 10), (16, 17), (21, 22), (26, 59)]),
     ("*G", &[(4, 4), (7, 8), (15, 16), (23, 24), (30, 31), (37, 59)]),
     ("*A", &[(4, 4), (6, 7), (14, 15), (22, 23), (29, 30), (36, 37), (43, 59)]),
     ("schedule", &[(1, 1), (8, 8), (30, 30), (36, 37), (43, 44), (49, 50), (56, 59)]),
@@ -38,6 +39,7 @@ impl Columns {
             let (file, line) = (*file as usize - 1, *line as usize - 1);
             let name = match (file, kind(lines(&files[file])[line].text)) {
                 (4, LineKind::Z) => "*Z",
+                (4, LineKind::T) => "*T",
                 (4, LineKind::G) => "*G",
                 (4, LineKind::A) => "*A",
                 (4, _) => "schedule",

@@ -5,22 +5,48 @@ use std::fmt;
 
 use super::columns::Columns;
 use super::lent::{Call, Outcome};
+use crate::generate::questions::{head_of, last_run};
 use crate::generate::{Arithmetic, Question};
-use crate::layout::{BIT_FIELDS_AT, BIT_FIELD_WORDS, HEADER_WORDS, STOP_WORDS};
+use crate::layout::{BIT_FIELDS_AT, BIT_FIELD_WORDS, HEADER_WORDS, KIND_AT, KIND_T, OFFSET_AT, REPEATS_AT, STOP_WORDS};
+use crate::reader::fields::{self, LineKind};
+use crate::reader::lines::lines;
 use crate::reader::Combination;
 
-/// Every kind of answer that there is, by call: what it is called without a refusal, and its refusals.
-const ANSWERS: [(&str, &[&str], &[u32]); 10] = [
-    ("load", &["accepted"], &[1, 2, 3, 4, 5, 6, 7, 8, 9, 10, 11, 12, 13, 14, 15, 16, 17, 18, 19, 20, 39, 51]),
+/// Every kind of answer that there is, by call: what it is called without a refusal, and its refusals. A "run" is a walk that was not
+/// refused before 25, by the run that was asked for.
+const ANSWERS: [(&str, &[&str], &[u32]); 11] = [
+    (
+        "load",
+        &["accepted", "accepted *T", "accepted both"],
+        &[1, 2, 3, 4, 5, 6, 7, 8, 9, 10, 11, 12, 13, 14, 15, 16, 17, 18, 19, 20, 39, 51],
+    ),
     ("day", &["runs", "rests"], &[21, 22, 23, 28]),
     ("interchange", &["minutes"], &[21, 26, 27]),
     ("name", &["first", "later"], &[21, 27, 39, 40, 41]),
     ("walk", &["rows", "not running"], &[21, 22, 23, 24, 25, 29, 31, 32, 33, 34, 35, 36]),
+    ("run", &RUNS, &[]),
     ("union", &["given"], &[42]),
     ("intersection", &["given"], &[42]),
     ("difference", &["given"], &[42]),
     ("complement", &["given"], &[42]),
     ("count", &["none", "some"], &[42]),
+];
+
+/// The runs of both kinds of services. *T: the last one "at the end" starts a whole running time after the first, "rounded up" is no
+/// whole number of minutes late.
+const RUNS: [&str; 12] = [
+    "*Z first",
+    "*Z later",
+    "*Z last",
+    "*Z next",
+    "*Z far over",
+    "*T first",
+    "*T later",
+    "*T rounded up",
+    "*T last",
+    "*T at the end",
+    "*T next",
+    "*T far over",
 ];
 
 /// The answers counted, by the name of the call and of the answer, and the columns of refusals 4.
@@ -35,6 +61,9 @@ impl Tally {
         *self.counts.entry(kind(call, &outcome.answer)).or_insert(0) += 1;
         if let Call::Load { files, .. } = call {
             self.columns.count(files, &outcome.answer);
+        }
+        if let Some(run) = run_asked(call, &outcome.answer) {
+            *self.counts.entry(("run", run.to_string())).or_insert(0) += 1;
         }
     }
 
@@ -65,9 +94,42 @@ fn starts_field(table: &[u32], stop: u32, start: u32) -> bool {
     records.chunks_exact(STOP_WORDS).find(|record| record[0] == stop).map_or(false, |record| record[1] == start)
 }
 
+/// Which of `RUNS` a walk asked for, where the table has the service and its head was looked at.
+fn run_asked(call: &Call, answer: &[u32]) -> Option<&'static str> {
+    let (table, service, run) = match (call, answer[0]) {
+        (Call::Ask { table, question: Question::Walk { service, repeat, .. } }, 0 | 25 | 29) => {
+            (table, *service, u64::from(*repeat))
+        }
+        _ => return None,
+    };
+    let head = head_of(table, service)?;
+    let (last, seconds) = (last_run(head), run * u64::from(head[OFFSET_AT]));
+    let at = match run {
+        _ if run > last + 1 => [4, 11],
+        _ if run > last => [3, 10],
+        0 => [0, 5],
+        _ if head[KIND_AT] == KIND_T && seconds == 60 * u64::from(head[REPEATS_AT]) => [9; 2],
+        _ if run == last => [2, 8],
+        _ if seconds % 60 > 0 => [1, 7],
+        _ => [1, 6],
+    };
+    Some(RUNS[at[usize::from(head[KIND_AT] == KIND_T)]])
+}
+
+/// An accepted delivery, by the kinds of its services.
+fn accepted(fplan: &[u8]) -> &'static str {
+    let has = |kind: LineKind| lines(fplan).iter().any(|line| fields::kind(line.text) == kind);
+    match (has(LineKind::T), has(LineKind::Z)) {
+        (false, _) => "accepted",
+        (true, false) => "accepted *T",
+        (true, true) => "accepted both",
+    }
+}
+
 fn kind(call: &Call, answer: &[u32]) -> (&'static str, String) {
     let (name, plain) = match call {
-        Call::Load { .. } => ("load", "accepted"),
+        Call::Load { .. } if answer[0] > 0 => ("load", ""),
+        Call::Load { files, .. } => ("load", accepted(&files[4])),
         Call::Ask { question: Question::Day { .. }, .. } => ("day", if answer[1] == 1 { "runs" } else { "rests" }),
         Call::Ask { question: Question::Interchange { .. }, .. } => ("interchange", "minutes"),
         Call::Ask { question: Question::Walk { .. }, .. } => {
@@ -94,7 +156,7 @@ impl fmt::Display for Tally {
             writeln!(f, "{}: {} calls", of, self.calls(of))?;
             for ((call, answer), times) in &self.counts {
                 if call == of {
-                    writeln!(f, "  {:<12} {:>9}", answer, times)?;
+                    writeln!(f, "  {:<13} {:>9}", answer, times)?;
                 }
             }
         }

@@ -3,11 +3,13 @@
 // All pokes have one type, whether they change the length or not.
 #![allow(clippy::ptr_arg)]
 
+use super::plan::random_frequency;
 use super::raw_table::{parts, RawService, RawTable};
 use super::rng::Rng;
 use crate::layout::{
     BIT_FIELDS_AT, BIT_FIELD_WORDS, BIT_WORDS, CALLS_AT, CALL_WORDS, EXTRAS_AT, EXTRA_WORDS, FIRST_SERVICE_AT,
-    HEADER_WORDS, OFFSET_AT, REPEATS_AT, SERVICES_AT, SERVICE_WORDS, SIZE_AT, STOPS_AT, STOP_WORDS, USED_AT,
+    HEADER_WORDS, KIND_AT, KIND_T, KIND_Z, OFFSET_AT, REPEATS_AT, SERVICES_AT, SERVICE_WORDS, SIZE_AT, STOPS_AT,
+    STOP_WORDS, USED_AT,
 };
 
 /// A damage to a table; `None` where the table has no place for it.
@@ -34,6 +36,8 @@ pub const BENDS: &[Bend] = &[
     other_days,
     tear,
     other_repeats,
+    other_frequency,
+    other_kind,
     other_period,
 ];
 
@@ -48,6 +52,9 @@ pub const NO_TABLES: &[Bend] = &[
     over_50_days,
     over_100_others,
     repeats_over_999,
+    frequency_over_9999,
+    density_0,
+    no_such_kind,
     time_over_59999,
     flags_over_15,
     end_past_calls,
@@ -223,10 +230,34 @@ fn tear(rng: &mut Rng, table: &mut RawTable) -> Option<()> {
 }
 
 fn other_repeats(rng: &mut Rng, table: &mut RawTable) -> Option<()> {
-    let (repeats, offset) = (rng.below(1_000), rng.below(1_000));
-    let service = some_service(rng, table)?;
-    service.head[REPEATS_AT] = repeats;
-    service.head[OFFSET_AT] = offset;
+    let any = rng.below(1_000);
+    let (repeats, offset) = (rng.pick(&[any, any, 0, 1, 999]), rng.pick(&[any, 0, 1, 999]));
+    set_runs(rng, table, KIND_Z, [repeats, offset])
+}
+
+fn other_frequency(rng: &mut Rng, table: &mut RawTable) -> Option<()> {
+    let (running_time, density) = random_frequency(rng);
+    set_runs(rng, table, KIND_T, [running_time, density])
+}
+
+/// The other kind with the words that are there, where 21 lets it have them.
+fn other_kind(rng: &mut Rng, table: &mut RawTable) -> Option<()> {
+    let head = &mut some_service(rng, table)?.head;
+    let [repeats, offset] = [head[REPEATS_AT], head[OFFSET_AT]];
+    match head[KIND_AT] {
+        KIND_T if repeats <= 999 && offset <= 999 => head[KIND_AT] = KIND_Z,
+        KIND_Z if offset >= 1 => head[KIND_AT] = KIND_T,
+        _ => return None,
+    }
+    Some(())
+}
+
+/// Makes some service one of this kind, with these words for repeats and offset.
+fn set_runs(rng: &mut Rng, table: &mut RawTable, kind: u32, [repeats, offset]: [u32; 2]) -> Option<()> {
+    let head = &mut some_service(rng, table)?.head;
+    head[KIND_AT] = kind;
+    head[REPEATS_AT] = repeats;
+    head[OFFSET_AT] = offset;
     Some(())
 }
 
@@ -284,9 +315,26 @@ fn over_100_others(rng: &mut Rng, table: &mut RawTable) -> Option<()> {
 }
 
 fn repeats_over_999(rng: &mut Rng, table: &mut RawTable) -> Option<()> {
-    let which = rng.pick(&[REPEATS_AT, OFFSET_AT]);
-    some_service(rng, table)?.head[which] = rng.pick(&[1_000, u32::MAX]);
-    Some(())
+    let (over, right) = (rng.pick(&[1_000, 1_000, 9_999, 10_000, u32::MAX]), rng.between(1, 999));
+    let words = if rng.coin() { [over, right] } else { [right, over] };
+    set_runs(rng, table, KIND_Z, words)
+}
+
+fn frequency_over_9999(rng: &mut Rng, table: &mut RawTable) -> Option<()> {
+    let (over, right) = (rng.pick(&[10_000, 10_000, 60_000, u32::MAX]), rng.between(1, 9_999));
+    let words = if rng.coin() { [over, right] } else { [right, over] };
+    set_runs(rng, table, KIND_T, words)
+}
+
+fn density_0(rng: &mut Rng, table: &mut RawTable) -> Option<()> {
+    let running_time = rng.pick(&[0, 0, 1, 240, 9_999]);
+    set_runs(rng, table, KIND_T, [running_time, 0])
+}
+
+fn no_such_kind(rng: &mut Rng, table: &mut RawTable) -> Option<()> {
+    let words = [rng.pick(&[0, 1, 999]), rng.pick(&[1, 999])];
+    let kind = rng.pick(&[2, 2, 3, 256, u32::MAX]);
+    set_runs(rng, table, kind, words)
 }
 
 fn time_over_59999(rng: &mut Rng, table: &mut RawTable) -> Option<()> {
@@ -433,7 +481,7 @@ pub fn damaged_table(rng: &mut Rng, table: &[u32]) -> Vec<u32> {
         }
         1 => {
             let at = rng.index(words.len());
-            words[at] = rng.pick(&[0, 1, 2, 199, 59_999, 1 << 31, u32::MAX]);
+            words[at] = rng.pick(&[0, 1, 2, 199, 1_000, 9_999, 10_000, 59_999, 1 << 31, u32::MAX]);
         }
         _ => {}
     }

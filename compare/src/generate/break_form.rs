@@ -18,6 +18,8 @@ enum Field {
     NoBlank,
     NotBlank,
     Mismatch,
+    RunningTime,
+    Density,
     End,
     /// The column of the end beside it.
     Detail(usize),
@@ -25,6 +27,8 @@ enum Field {
     AllOrNone,
     CrossOrBlank,
     Percent,
+    /// Nothing behind the bytes that say the kind.
+    Bare,
     Unnamed,
     /// Unnamed columns from the first on.
     Further,
@@ -51,6 +55,19 @@ const Z: &[Part] = &[
     (27, 29, Mismatch),
     (30, 58, Unnamed),
     (59, 59, Percent),
+    (4, 8, Bare),
+];
+const T: &[Part] = &[
+    (4, 8, Digits),
+    (9, 9, Unnamed),
+    (10, 15, NoBlank),
+    (16, 16, Unnamed),
+    (17, 20, RunningTime),
+    (21, 21, Unnamed),
+    (22, 25, Density),
+    (26, 58, Unnamed),
+    (59, 59, Percent),
+    (4, 8, Bare),
 ];
 const G: &[Part] = &[
     (4, 4, NotBlank),
@@ -105,6 +122,7 @@ fn parts(tag: Tag) -> &'static [Part] {
         Tag::Stop(_) => STOP,
         Tag::Record(_) => RECORD,
         Tag::Z(_) => Z,
+        Tag::T(_) => T,
         Tag::G(..) => G,
         Tag::Ve(..) | Tag::Other(..) => A,
         Tag::Call(..) => SCHEDULE,
@@ -113,6 +131,11 @@ fn parts(tag: Tag) -> &'static [Part] {
 
 /// Breaks the form of some line, of any kind that the file has: the file, the line's place in it, and the column.
 pub fn break_form(rng: &mut Rng, sheet: &mut Sheet) -> Option<(u32, usize, usize)> {
+    if rng.once_in(6) {
+        if let Some(broken) = break_density(rng, sheet) {
+            return Some(broken);
+        }
+    }
     let file = rng.pick(&[0, 1, 2, 3, 4, 4, 4, 4, 4]);
     let rows = &mut sheet.files[file];
     let mut kinds: Vec<&[Part]> = Vec::new();
@@ -131,10 +154,24 @@ pub fn break_form(rng: &mut Rng, sheet: &mut Sheet) -> Option<(u32, usize, usize
     Some((file as u32 + 1, at, column))
 }
 
-/// One part for each column that can be told: every unnamed column stands by itself.
+/// Breaks the density of some *T line: 0, negative, or no digits.
+fn break_density(rng: &mut Rng, sheet: &mut Sheet) -> Option<(u32, usize, usize)> {
+    let rows = &mut sheet.files[4];
+    let frequent: Vec<usize> = (0..rows.len()).filter(|i| matches!(rows[*i].tag, Tag::T(_))).collect();
+    if frequent.is_empty() {
+        return None;
+    }
+    let at = rng.pick(&frequent);
+    put(&mut rows[at].text, 22, rng.pick(wrong_texts(Density, 4)));
+    Some((5, at, 22))
+}
+
+/// One part for each column that can be told: every unnamed column stands by itself. What can break in many ways comes more often.
 fn told(parts: &[Part]) -> Vec<Part> {
     let each = |(a, b, field): Part| match field {
         Unnamed => (a..=b).map(|column| (column, column, Unnamed)).collect(),
+        RunningTime | Density => vec![(a, b, field); 3],
+        Mismatch | Bare => vec![(a, b, field); 6],
         _ => vec![(a, b, field)],
     };
     parts.iter().copied().flat_map(each).collect()
@@ -171,6 +208,7 @@ fn break_row(rng: &mut Rng, row: &mut Row) -> Option<usize> {
             return Some(column);
         }
         Mismatch => mismatch(rng, text),
+        Bare => text.truncate(rng.pick(&[2, 3])),
         Percent if rng.coin() => {
             text.truncate(58);
             while rng.coin() && text.last() == Some(&b' ') {
@@ -232,6 +270,13 @@ fn wrong_texts(field: Field, width: usize) -> &'static [&'static [u8]] {
         (DigitsOrBlank, 3) => &[b"1  ", b" 12", b"  1", b"A12", b"1 2", b"-01", b"+01", b"01:"],
         (DigitsOrBlank, 5) => &[b"12 45", b" 1234", b"1234 ", b"ABCDE", b"-1234"],
         (DigitsOrBlank, _) => &[b"00000 ", b" 00001", b"     1", b"00000A", b"-00001", b"000 01"],
+        (RunningTime, _) => {
+            &[b"    ", b"-240", b"+240", b" 240", b"240 ", b"02 0", b"024:", b"O240", b"0x10", b"\t240"]
+        }
+        (Density, _) => &[
+            b"0000", b"0000", b"0000", b"0000", b"-090", b"-900", b"-450", b"-001", b"    ", b" 450", b"450 ", b"1   ",
+            b"+450", b"045:", b"0 50",
+        ],
         (CountTo60, _) => &[b"61", b"99", b"70", b"1 ", b"  ", b"A1", b"1A", b"-1", b"+1", b"\t1"],
         (Count, _) => &[b"1 ", b"  ", b"A1", b"1A", b"-1", b"+1", b"\t1"],
         (End, _) => &[

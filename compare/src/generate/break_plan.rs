@@ -5,7 +5,7 @@ use super::plan::{
     add_bitfield, bitfield_of, new_bitfield, new_stop, random_code, set_bit, Call, Given, Plan, Range, Service,
 };
 use super::rng::Rng;
-use super::sheet::Tag;
+use super::sheet::{opening_tag, Tag};
 
 /// The line that a damage brings its refusal at.
 #[derive(Clone, Copy, Debug, PartialEq, Eq)]
@@ -136,6 +136,11 @@ fn record_unknown(rng: &mut Rng, plan: &mut Plan) -> Hit {
     Some((4, At::Tag(Tag::Record(at))))
 }
 
+/// The *Z or *T line of a service.
+fn opening(plan: &Plan, s: usize) -> At {
+    At::Tag(opening_tag(&plan.services[s], s))
+}
+
 /// The place of a service that fits.
 fn some_service(rng: &mut Rng, plan: &Plan, fits: impl Fn(&Service) -> bool) -> Option<usize> {
     let fitting: Vec<usize> = (0..plan.services.len()).filter(|s| fits(&plan.services[*s])).collect();
@@ -234,7 +239,7 @@ fn many_others(rng: &mut Rng, plan: &mut Plan) -> Hit {
 fn few_calls(rng: &mut Rng, plan: &mut Plan) -> Hit {
     let s = some_service(rng, plan, |_| true)?;
     plan.services[s].calls.truncate(rng.index(2));
-    Some((5, At::Tag(Tag::Z(s))))
+    Some((5, opening(plan, s)))
 }
 
 fn missing_time(rng: &mut Rng, plan: &mut Plan) -> Hit {
@@ -356,7 +361,7 @@ fn bare(rng: &mut Rng, plan: &mut Plan, kind: fn(&Range) -> bool) -> Hit {
             service.ranges.remove(i);
         }
     }
-    Some((5, At::Tag(Tag::Z(s))))
+    Some((5, opening(plan, s)))
 }
 
 /// Covers a leg twice by ranges of a kind.
@@ -370,7 +375,7 @@ fn double(rng: &mut Rng, plan: &mut Plan, kind: fn(&Range) -> bool) -> Hit {
     let given = service.ranges[i].given;
     let at = rng.index(service.ranges.len() + 1);
     service.ranges.insert(at, Range::new(given, from, to));
-    Some((5, At::Tag(Tag::Z(s))))
+    Some((5, opening(plan, s)))
 }
 
 fn is_category(range: &Range) -> bool {
@@ -416,5 +421,5 @@ fn torn(rng: &mut Rng, plan: &mut Plan) -> Hit {
         let at = rng.index(service.ranges.len() + 1);
         service.ranges.insert(at, Range::new(Given::Days(bitfield), from, to));
     }
-    Some((5, At::Tag(Tag::Z(s))))
+    Some((5, opening(plan, s)))
 }

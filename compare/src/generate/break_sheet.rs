@@ -17,7 +17,7 @@ pub const DAMAGES: &[(u32, SheetDamage)] = &[
     (5, end_before_start),
     (5, over_380),
     (11, other_kind),
-    (12, before_first_z),
+    (12, before_first_opening),
     (39, bad_names),
 ];
 
@@ -94,7 +94,8 @@ fn over_380(rng: &mut Rng, plan: &Plan, sheet: &mut Sheet) -> Hit {
 /// A line of FPLAN that is not skipped and of no kind.
 fn kindless(rng: &mut Rng) -> Vec<u8> {
     let start = rng.pick(&[
-        "*L ", "*Zx", "*GR ", "*AVE", "*z ", "*", "**", "* Z", " 1000011", "\t", "Z ", "+1", "\r1", "-", "\u{e4}",
+        "*L ", "*Zx", "*GR ", "*AVE", "*z ", "*TT", "*TT 00001", "*T\t", "*t ", "*ZT", "* T", "T ", "*", "**", "* Z",
+        " 1000011", "\t", "Z ", "+1", "\r1", "-", "\u{e4}",
     ]);
     let mut text = start.as_bytes().to_vec();
     if rng.coin() {
@@ -104,20 +105,20 @@ fn kindless(rng: &mut Rng) -> Vec<u8> {
     text
 }
 
-fn first_z(rows: &[Row]) -> Option<usize> {
-    rows.iter().position(|row| matches!(row.tag, Tag::Z(_)))
+fn first_opening(rows: &[Row]) -> Option<usize> {
+    rows.iter().position(|row| matches!(row.tag, Tag::Z(_) | Tag::T(_)))
 }
 
 fn other_kind(rng: &mut Rng, _: &Plan, sheet: &mut Sheet) -> Hit {
     let rows = &mut sheet.files[4];
-    let first = first_z(rows)?;
-    // The services before must be whole: put the line behind a *Z, or behind a line of the same service.
+    let first = first_opening(rows)?;
+    // The services before must be whole: put the line behind an opening line, or behind a line of the same service.
     let at = rng.between(first as u32 + 1, rows.len() as u32) as usize;
     rows.insert(at, Row { tag: Tag::Free, text: kindless(rng) });
     Some((5, At::Line(at as u32 + 1)))
 }
 
-fn before_first_z(rng: &mut Rng, _: &Plan, sheet: &mut Sheet) -> Hit {
+fn before_first_opening(rng: &mut Rng, _: &Plan, sheet: &mut Sheet) -> Hit {
     let rows = &mut sheet.files[4];
     let stray: Vec<Vec<u8>> = rows
         .iter()
@@ -129,7 +130,7 @@ fn before_first_z(rng: &mut Rng, _: &Plan, sheet: &mut Sheet) -> Hit {
         1 => rng.pick(&["*G", "*A VE", "1", "*G BAT"]).as_bytes().to_vec(),
         _ => kindless(rng),
     };
-    let at = rng.index(first_z(rows).unwrap_or(rows.len()) + 1);
+    let at = rng.index(first_opening(rows).unwrap_or(rows.len()) + 1);
     rows.insert(at, Row { tag: Tag::Free, text });
     Some((5, At::Line(at as u32 + 1)))
 }

@@ -261,7 +261,7 @@ pub fn mutated(rng: &mut Rng, size: Size) -> Case {
 fn telling_byte(rng: &mut Rng) -> u8 {
     match rng.below(3) {
         0 => rng.below(256) as u8,
-        _ => rng.pick(b"0123456789 \n\r%*#-XZGAVE.\t$<>d"),
+        _ => rng.pick(b"0123456789 \n\r%*#-XZTGAVE.\t$<>d"),
     }
 }
 
@@ -282,16 +282,24 @@ fn mutate_bytes(rng: &mut Rng, file: &mut Vec<u8>) {
 fn mutate_lines(rng: &mut Rng, file: &mut Vec<u8>) {
     let mut pieces: Vec<Vec<u8>> = file.split(|byte| *byte == b'\n').map(<[u8]>::to_vec).collect();
     let (i, j) = (rng.index(pieces.len()), rng.index(pieces.len()));
-    match rng.below(5) {
+    match rng.below(6) {
         0 => {
             pieces.remove(i);
         }
         1 => pieces.insert(j, pieces[i].clone()),
         2 => pieces.swap(i, j),
         3 => pieces[i].extend(b"  \r"),
+        4 => pieces.iter_mut().for_each(|piece| other_opening(rng, piece)),
         _ => pieces[i] = pieces[j].clone(),
     }
     *file = pieces.join(&b'\n');
+}
+
+/// Now and then a *Z line becomes a *T line, or a *T line a *Z line, with the columns that it has.
+fn other_opening(rng: &mut Rng, line: &mut [u8]) {
+    if let ([b'*', letter @ (b'Z' | b'T'), b' ', ..], true) = (line, rng.coin()) {
+        *letter = if *letter == b'Z' { b'T' } else { b'Z' };
+    }
 }
 
 /// The cases of a long run: turn by turn valid, damaged (each refusal in turn), several damages, mutated.

@@ -18,10 +18,18 @@ pub struct Plan {
 pub struct Service {
     pub number: u32,
     pub administration: [u8; 6],
-    /// `None` is written as blanks.
-    pub repeats: Option<(u32, u32)>,
+    pub runs: Runs,
     pub calls: Vec<Call>,
     pub ranges: Vec<Range>,
+}
+
+/// What the opening line says of the runs.
+#[derive(Clone, Copy, Debug, PartialEq, Eq)]
+pub enum Runs {
+    /// *Z with repeats and offset; `None` is written as blanks.
+    Repeats(Option<(u32, u32)>),
+    /// *T with running time in minutes and density in seconds.
+    Frequency(u32, u32),
 }
 
 #[derive(Clone, Copy, Debug)]
@@ -216,7 +224,7 @@ fn random_service(rng: &mut Rng, plan: &mut Plan, size: Size) -> Service {
     let mut ranges = random_categories(rng, calls.len() - 1, size);
     ranges.extend(random_operation(rng, plan, calls.len() - 1, size));
     ranges.extend(random_others(rng, plan, calls.len(), size));
-    Service { number: rng.below(100_000), administration, repeats: random_repeats(rng), calls, ranges }
+    Service { number: rng.below(100_000), administration, runs: random_runs(rng), calls, ranges }
 }
 
 fn random_administration(rng: &mut Rng) -> [u8; 6] {
@@ -231,6 +239,35 @@ fn random_change(rng: &mut Rng, rare: u32) -> Change {
     let number = Some(rng.pick(&[any, any, 0, 99_999])).filter(|_| rng.once_in(rare));
     let administration = Some(random_administration(rng)).filter(|_| rng.once_in(rare));
     Change { number, administration }
+}
+
+fn random_runs(rng: &mut Rng) -> Runs {
+    if rng.coin() {
+        return Runs::Repeats(random_repeats(rng));
+    }
+    let (running_time, density) = random_frequency(rng);
+    Runs::Frequency(running_time, density)
+}
+
+/// Running time and density, both at and near the ends of what they may be; and such that the last run starts just at the end of the
+/// running time, or as much before it as can be.
+pub fn random_frequency(rng: &mut Rng) -> (u32, u32) {
+    let any = (rng.below(10_000), rng.between(1, 9_999));
+    let runs = rng.between(1, 9);
+    match rng.below(8) {
+        0 => (rng.pick(&[0, 1, 9_998, 9_999]), rng.pick(&[1, 2, 9_998, 9_999])),
+        1 => (rng.pick(&[0, 0, 1, 9_999]), any.1),
+        2 => (any.0, rng.pick(&[1, 59, 60, 61, 120, 450, 9_999])),
+        // runs times density is sixty times the running time, or a second more
+        3 | 4 => {
+            let density = rng.pick(&[60, 90, 450, 720, 900, 1_080]);
+            let running_time = runs * density / 60;
+            (running_time, if rng.coin() { density } else { density + 1 })
+        }
+        5 => (rng.between(1, 600), rng.between(1, 1_200)),
+        6 => (rng.between(1_000, 9_999), rng.between(1_000, 9_999)),
+        _ => any,
+    }
 }
 
 fn random_repeats(rng: &mut Rng) -> Option<(u32, u32)> {

@@ -3,8 +3,8 @@
 use super::plan::date_of;
 use super::rng::Rng;
 use crate::layout::{
-    BIT_FIELDS_AT, BIT_FIELD_WORDS, FIRST_DAY_AT, HEADER_WORDS, MOST_ROW_WORDS, PERIOD_DAYS_AT, ROW_WORDS, SERVICES_AT,
-    STOPS_AT, STOP_WORDS,
+    BIT_FIELDS_AT, BIT_FIELD_WORDS, FIRST_DAY_AT, FIRST_SERVICE_AT, HEADER_WORDS, KIND_AT, KIND_T, MOST_ROW_WORDS,
+    OFFSET_AT, PERIOD_DAYS_AT, REPEATS_AT, ROW_WORDS, SERVICES_AT, SERVICE_WORDS, SIZE_AT, STOPS_AT, STOP_WORDS,
 };
 
 #[derive(Clone, Copy, Debug, PartialEq, Eq)]
@@ -67,15 +67,47 @@ fn class(rng: &mut Rng) -> u32 {
     rng.pick(&[0, 1, 1, 2, 2, 2, 3, 3, 13, 14, u32::MAX, 0, 1])
 }
 
+/// The head of a service, where the words have one so far.
+pub fn head_of(words: &[u32], service: u32) -> Option<&[u32]> {
+    let mut at = word(words, FIRST_SERVICE_AT) as usize;
+    for _ in 0..service {
+        let size = *words.get(at.checked_add(SIZE_AT)?)? as usize;
+        if size < SERVICE_WORDS {
+            return None;
+        }
+        at = at.checked_add(size)?;
+    }
+    words.get(at..)?.get(..SERVICE_WORDS)
+}
+
+/// The last run that a head's words say, counted from 0.
+pub fn last_run(head: &[u32]) -> u64 {
+    let [repeats, offset] = [REPEATS_AT, OFFSET_AT].map(|at| u64::from(head[at]));
+    match head[KIND_AT] {
+        KIND_T => 60 * repeats / offset.max(1),
+        _ => repeats,
+    }
+}
+
+/// A run at, below or above the last one, or so far above that its product with the offset or density is small again modulo 2^32.
+fn near_last_run(rng: &mut Rng, head: &[u32]) -> u32 {
+    let (last, offset) = (last_run(head), u64::from(head[OFFSET_AT]).max(1));
+    let wrapped = (1 << 32) / offset + u64::from(rng.below(3));
+    let any = u64::from(rng.below(last.clamp(1, 1 << 30) as u32));
+    let run = rng.pick(&[last, last, last + 1, last + 1, last.saturating_sub(1), any, any, any, wrapped, 60 * last]);
+    u32::try_from(run).unwrap_or(u32::MAX)
+}
+
 fn walk(rng: &mut Rng, words: &[u32]) -> Question {
     let services = word(words, SERVICES_AT);
     let service = match rng.below(10) {
         0 => rng.pick(&[services, u32::MAX]),
         _ => rng.below(services.clamp(1, 1_000)),
     };
-    let repeat = match rng.below(5) {
-        0 => rng.pick(&[1, 24, 999, 1_000, u32::MAX]),
-        1 => rng.below(3),
+    let repeat = match (rng.below(6), head_of(words, service)) {
+        (0, _) => rng.pick(&[1, 24, 999, 1_000, u32::MAX]),
+        (1, _) => rng.below(3),
+        (2..=4, Some(head)) => near_last_run(rng, head),
         _ => 0,
     };
     let room = match rng.below(5) {

@@ -2,7 +2,7 @@
 
 use super::ends::{from_text, hours_minutes, to_text};
 use super::names::{list, written};
-use super::plan::{date_of, Given, Plan, Range, Service};
+use super::plan::{date_of, Given, Plan, Range, Runs, Service};
 use super::rng::Rng;
 use crate::columns::bit_digits;
 
@@ -16,6 +16,7 @@ pub enum Tag {
     Stop(usize),
     Record(usize),
     Z(usize),
+    T(usize),
     Call(usize, usize),
     G(usize, usize),
     Ve(usize, usize),
@@ -171,7 +172,7 @@ fn interchange(rng: &mut Rng, plan: &Plan) -> Vec<Row> {
 fn services(rng: &mut Rng, plan: &Plan) -> Vec<Row> {
     let mut rows = Vec::new();
     for (s, service) in plan.services.iter().enumerate() {
-        rows.push(Row { tag: Tag::Z(s), text: z_text(rng, service) });
+        rows.push(Row { tag: opening_tag(service, s), text: opening_text(rng, service) });
         rows.extend(service_rows(rng, service, s));
     }
     rows
@@ -207,12 +208,26 @@ fn ended(rng: &mut Rng, mut line: Blanks) -> Vec<u8> {
     line.0
 }
 
-fn z_text(rng: &mut Rng, service: &Service) -> Vec<u8> {
-    let mut line = Blanks(b"*Z".to_vec());
-    line.put(4, format!("{:05}", service.number).as_bytes()).put(10, &service.administration);
-    if let Some((repeats, offset)) = service.repeats {
-        line.put(23, format!("{:03} {:03}", repeats, offset).as_bytes());
+/// The tag of a service's opening line.
+pub fn opening_tag(service: &Service, s: usize) -> Tag {
+    match service.runs {
+        Runs::Repeats(_) => Tag::Z(s),
+        Runs::Frequency(..) => Tag::T(s),
     }
+}
+
+fn opening_text(rng: &mut Rng, service: &Service) -> Vec<u8> {
+    let mut line = Blanks(Vec::new());
+    line.put(4, format!("{:05}", service.number).as_bytes()).put(10, &service.administration);
+    match service.runs {
+        Runs::Repeats(None) => line.put(1, b"*Z"),
+        Runs::Repeats(Some((repeats, offset))) => {
+            line.put(1, b"*Z").put(23, format!("{:03} {:03}", repeats, offset).as_bytes())
+        }
+        Runs::Frequency(running_time, density) => {
+            line.put(1, b"*T").put(17, format!("{:04} {:04}", running_time, density).as_bytes())
+        }
+    };
     ended(rng, line)
 }
 

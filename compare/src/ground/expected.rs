@@ -8,7 +8,7 @@ use crate::reader::fields::{
     LineKind, RangeEnd, Time,
 };
 use crate::reader::forms::{
-    form_a, form_bitfield, form_date, form_g, form_interchange, form_schedule, form_stop, form_z,
+    form_a, form_bitfield, form_date, form_g, form_interchange, form_schedule, form_stop, form_t, form_z,
 };
 use crate::reader::lines::{lines, skipped};
 
@@ -149,11 +149,12 @@ fn flat_kind(kind: LineKind) -> u32 {
         LineKind::G => 2,
         LineKind::A => 3,
         LineKind::Schedule => 4,
+        LineKind::T => 5,
     }
 }
 
 fn form(line: &[u8], kind: u32) -> Option<usize> {
-    let forms = [form_date, form_bitfield, form_stop, form_interchange, form_z, form_g, form_a, form_schedule];
+    let forms = [form_date, form_bitfield, form_stop, form_interchange, form_z, form_g, form_a, form_schedule, form_t];
     forms[kind as usize](line)
 }
 

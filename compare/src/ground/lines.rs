@@ -7,7 +7,7 @@ use crate::generate::sheet::Tag;
 use crate::generate::{valid, Rng, Size};
 
 /// The fields of each line kind that are read after its form: what is asked, columns.
-const READ: [&[(What, u32, u32)]; 8] = [
+const READ: [&[(What, u32, u32)]; 9] = [
     &[(What::Date, 0, 0)],
     &[(What::Number, 1, 6), (What::Bits, 0, 0)],
     &[(What::Number, 1, 7), (What::Column, 13, 0)],
@@ -22,6 +22,7 @@ const READ: [&[(What, u32, u32)]; 8] = [
         (What::Number, 23, 28),
     ],
     &[(What::Number, 1, 7), (What::Time, 30, 35), (What::Time, 37, 42)],
+    &[(What::Number, 4, 8), (What::Number, 17, 20), (What::Number, 22, 25)],
 ];
 
 /// Lines of each kind that meet each byte value in each column.
@@ -38,13 +39,14 @@ fn line_kind(tag: Tag) -> Option<usize> {
         Tag::G(..) => Some(5),
         Tag::Ve(..) | Tag::Other(..) => Some(6),
         Tag::Call(..) => Some(7),
+        Tag::T(_) => Some(8),
         Tag::Skipped | Tag::Free => None,
     }
 }
 
 /// At least so many lines of each kind, from deliveries that break no rule.
-fn valid_lines(rng: &mut Rng, each: usize) -> [Vec<Vec<u8>>; 8] {
-    let mut found: [Vec<Vec<u8>>; 8] = Default::default();
+fn valid_lines(rng: &mut Rng, each: usize) -> [Vec<Vec<u8>>; 9] {
+    let mut found: [Vec<Vec<u8>>; 9] = Default::default();
     while found.iter().any(|lines| lines.len() < each) {
         if let Some((_, sheet)) = valid(rng, Size::Small).plan {
             for row in sheet.files.into_iter().flatten() {
@@ -91,7 +93,7 @@ fn ask_all_bytes(tally: &mut Tally, line: &[u8], kind: usize) {
 fn telling_byte(rng: &mut Rng) -> u8 {
     match rng.below(3) {
         0 => rng.below(256) as u8,
-        _ => rng.pick(b"00123456789      %*#-XZGAVE.F\t\r\n"),
+        _ => rng.pick(b"00123456789      %*#-XZTGAVE.F\t\r\n"),
     }
 }
 
@@ -144,7 +146,7 @@ fn ask_random(tally: &mut Tally, rng: &mut Rng) {
     let length = rng.index(112);
     let few = rng.between(1, 4);
     let line: Vec<u8> = (0..length).map(|_| if rng.once_in(few) { telling_byte(rng) } else { b' ' }).collect();
-    ask_line(tally, &line, rng.index(8));
+    ask_line(tally, &line, rng.index(READ.len()));
 }
 
 pub fn ask(tally: &mut Tally, rng: &mut Rng, rounds: u32) {

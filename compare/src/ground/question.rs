@@ -55,7 +55,7 @@ pub const WHATS: [(What, &str, &[&str]); 24] = [
     (What::Time, "time", &["absent", "stated", "barred", "broken"]),
     (What::RangeEnd, "range-end", &["outer", "index", "stop", "broken"]),
     (What::Detail, "detail", &["plain", "nth", "timed", "broken"]),
-    (What::Kind, "kind", &["other", "*Z", "*G", "*A", "call"]),
+    (What::Kind, "kind", &["other", "*Z", "*G", "*A", "call", "*T"]),
     (What::Form, "form", &["fits", "broken"]),
     (What::Day, "day", &["none", "day"]),
     (What::Date, "date", &["none", "day"]),
@@ -72,8 +72,8 @@ pub const WHATS: [(What, &str, &[&str]); 24] = [
     (What::Without, "without", &["empty", "some"]),
 ];
 
-/// The eight kinds of lines that have a form.
-pub const LINE_KINDS: [&str; 8] = ["date", "bitfield", "stop", "interchange", "*Z", "*G", "*A", "call"];
+/// The kinds of lines that have a form.
+pub const LINE_KINDS: [&str; 9] = ["date", "bitfield", "stop", "interchange", "*Z", "*G", "*A", "call", "*T"];
 
 /// Twelve words of a bit field, or in front: a number; or a case of an enum and its value; or stop, next and number.
 pub type Answer = [u32; 12];

@@ -19,7 +19,7 @@ pub struct Draw {
 }
 
 /// The columns of each line kind in which every byte value must be met: the named ones and two more.
-const FORM_COLUMNS: [usize; 8] = [12, 105, 64, 16, 61, 61, 61, 61];
+const FORM_COLUMNS: [usize; 9] = [12, 105, 64, 16, 61, 61, 61, 61, 61];
 
 /// A question of one sort: a name, how often each kind of answer came, and the bytes met in each of its columns.
 struct Sort {
@@ -225,6 +225,6 @@ fn sort_of(question: &Question) -> usize {
         What::Form => what + 3 + question.numbers[0] as usize,
         _ if what < What::Every as usize => what,
         _ if what < What::Form as usize => what + 3,
-        _ => what + 10,
+        _ => what + 3 + LINE_KINDS.len() - 1,
     }
 }

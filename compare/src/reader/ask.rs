@@ -3,12 +3,13 @@
 use super::bits::{runs_on, BitWords};
 use super::calendar::{day_number, LAST_DAY, MOST_DAYS};
 use super::names::{chosen, names, wanted};
+use super::runs::Runs;
 use super::service::stretches;
 use crate::layout::{
     ARRIVAL, BIT_FIELDS_AT, BIT_FIELD_WORDS, CALLS_AT, CALL_WORDS, CATEGORIES_AT, CATEGORY_WORDS, DAYS_AT, DAYS_WORDS,
     DEPARTURE, EXTRAS_AT, EXTRA_WORDS, FIRST_DAY_AT, FIRST_SERVICE_AT, HEADER_WORDS, INTERCHANGES_AT,
-    INTERCHANGE_WORDS, MOST_CALLS, NO_ALIGHTING, NO_BOARDING, OFFSET_AT, PERIOD_DAYS_AT, REPEATS_AT, ROW_WORDS,
-    SERVICES_AT, SERVICE_WORDS, SIZE_AT, STOPS_AT, STOP_WORDS, USED_AT,
+    INTERCHANGE_WORDS, KIND_AT, MOST_CALLS, NO_ALIGHTING, NO_BOARDING, OFFSET_AT, PERIOD_DAYS_AT, REPEATS_AT,
+    ROW_WORDS, SERVICES_AT, SERVICE_WORDS, SIZE_AT, STOPS_AT, STOP_WORDS, USED_AT,
 };
 
 /// The answer of a day question.
@@ -61,8 +62,7 @@ struct Call {
 
 #[derive(Clone, Debug)]
 struct Service {
-    repeats: u32,
-    offset: u32,
+    runs: Runs,
     calls: Vec<Call>,
     categories: Vec<Over>,
     days: Vec<Over>,
@@ -128,12 +128,12 @@ fn service(words: &[u32]) -> Option<Service> {
         return None;
     }
     let [c, g, v, a] = [CALLS_AT, CATEGORIES_AT, DAYS_AT, EXTRAS_AT].map(|at| words[at] as usize);
-    let (repeats, offset) = (words[REPEATS_AT], words[OFFSET_AT]);
-    // "c outside 2 to 200, g, v, a over 50, 50, 100"; "repeats or offset over 999"
-    if !(2..=MOST_CALLS).contains(&c) || g > 50 || v > 50 || a > 100 || repeats > 999 || offset > 999 {
+    let runs = Runs::of_words(words[KIND_AT], [words[REPEATS_AT], words[OFFSET_AT]])?;
+    // "c outside 2 to 200, g, v, a over 50, 50, 100"
+    if !(2..=MOST_CALLS).contains(&c) || g > 50 || v > 50 || a > 100 {
         return None;
     }
-    // "a count differs from 11 + 4c + 3g + 3v + 4a", where No. 5 says 7c
+    // "a count differs from 11 + 4c + 3g + 3v + 4a", where No. 5 says 7c and No. 8 twelve
     let count = SERVICE_WORDS + CALL_WORDS * c + CATEGORY_WORDS * g + DAYS_WORDS * v + EXTRA_WORDS * a;
     if words[SIZE_AT] as usize != count || count > words.len() {
         return None;
@@ -142,8 +142,7 @@ fn service(words: &[u32]) -> Option<Service> {
     let (categories, rest) = rest.split_at(CATEGORY_WORDS * g);
     let (days, others) = rest.split_at(DAYS_WORDS * v);
     let service = Service {
-        repeats,
-        offset,
+        runs,
         calls: calls.chunks_exact(CALL_WORDS).map(call).collect(),
         categories: categories.chunks_exact(CATEGORY_WORDS).map(over).collect(),
         days: days.chunks_exact(DAYS_WORDS).map(over).collect(),
@@ -320,10 +319,8 @@ fn walked_rows(words: &[u32], service: u32, repeat: u32, d: u32, m: u32, y: u32)
     let day = table.day_of(d, m, y)?;
     // "24 service index not below V"
     let service = table.services.get(service as usize).ok_or(24_u32)?;
-    // "25 repeat number over repeats (0 is the run itself)"
-    if repeat > service.repeats {
-        return Err(25);
-    }
+    // "25 repeat number over repeats (0 is the run itself)"; No. 8: "25 follows the rule above"
+    let late = service.runs.late(repeat).ok_or(25_u32)?;
     let operated = table.operated(service, day)?;
     // "No leg operated: "not running", no rows. 35 two stretches."
     let first = match operated.iter().position(|runs| *runs) {
@@ -334,7 +331,6 @@ fn walked_rows(words: &[u32], service: u32, repeat: u32, d: u32, m: u32, y: u32)
         return Err(35);
     }
     let last = first + operated[first..].iter().take_while(|runs| **runs).count();
-    let late = repeat * service.offset;
     let mut before = 0;
     (first..=last).map(|i| row(&table, service, (first, i, last), late, &mut before)).collect()
 }

@@ -41,6 +41,7 @@ pub enum Date {
 #[derive(Clone, Copy, Debug, PartialEq, Eq)]
 pub enum LineKind {
     Z,
+    T,
     G,
     A,
     Schedule,
@@ -179,11 +180,12 @@ pub fn packed(line: &[u8], a: usize, b: usize) -> u32 {
     columns(line, a, b).into_iter().fold(0, |word, byte| word << 8 | u32::from(byte))
 }
 
-/// "Which kind a line is follows from its first bytes: "*Z ", "*G ", "*A " or a digit."
-/// Open point: columns past the end read as blank here too.
+/// "Which kind a line is follows from its first bytes: "*Z ", "*G ", "*A " or a digit", and document 02, No. 8: "services
+/// opened by *T". Open point: columns past the end read as blank here too.
 pub fn kind(line: &[u8]) -> LineKind {
     match (column(line, 1), column(line, 2), column(line, 3)) {
         (b'*', b'Z', b' ') => LineKind::Z,
+        (b'*', b'T', b' ') => LineKind::T,
         (b'*', b'G', b' ') => LineKind::G,
         (b'*', b'A', b' ') => LineKind::A,
         (b'0'..=b'9', _, _) => LineKind::Schedule,
@@ -206,6 +208,16 @@ pub fn repeats_and_offset(line: &[u8]) -> Option<(u32, u32)> {
         (repeats, 0) if repeats > 0 => None,
         fitting => Some(fitting),
     }
+}
+
+/// *T "running time in minutes 17-20, density in seconds 22-25. Both are digits" (document 02, No. 8).
+pub fn running_time(line: &[u8]) -> Option<u32> {
+    digits(line, 17, 20)
+}
+
+/// "density is at least 1"
+pub fn density(line: &[u8]) -> Option<u32> {
+    digits(line, 22, 25).filter(|seconds| *seconds >= 1)
 }
 
 /// "digits or blank"; blank is `Some(0)`. "A blank bit field means 000000, daily."

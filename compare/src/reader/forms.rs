@@ -2,8 +2,8 @@
 //! column from 1 where the leftmost field or unnamed column that breaks it starts (document 02, No. 6).
 
 use super::fields::{
-    all_blank, column, count, date, detail, digits, digits_or_blank, hex_words, no_blank, range_end,
-    repeats_and_offset, time, Date, Detail, RangeEnd, Time,
+    all_blank, column, count, date, density, detail, digits, digits_or_blank, hex_words, no_blank, range_end,
+    repeats_and_offset, running_time, time, Date, Detail, RangeEnd, Time,
 };
 
 /// A field counts at the column where it starts.
@@ -79,6 +79,22 @@ pub fn form_z(line: &[u8]) -> Option<usize> {
         // No. 6: "for repeats and offset that do not fit each other, 27"
         field(27, repeats_and_offset(line).is_some()),
         unnamed(line, 30, 58),
+        percent(line),
+    ])
+}
+
+/// *T (document 02, No. 8): number and administration as in a *Z line (5.3.3), "running time in minutes 17-20, density in
+/// seconds 22-25"; nothing names 9, 16, 21 and 26-58.
+pub fn form_t(line: &[u8]) -> Option<usize> {
+    leftmost(&[
+        field(4, digits(line, 4, 8).is_some()),
+        unnamed(line, 9, 9),
+        field(10, no_blank(line, 10, 15)),
+        unnamed(line, 16, 16),
+        field(17, running_time(line).is_some()),
+        unnamed(line, 21, 21),
+        field(22, density(line).is_some()),
+        unnamed(line, 26, 58),
         percent(line),
     ])
 }

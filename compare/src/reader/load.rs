@@ -6,12 +6,15 @@ use std::collections::{HashMap, HashSet};
 use super::bits::{frame_ok, BitWords};
 use super::calendar::period;
 use super::fields::{
-    all_blank, count, date, detail, digits, digits_or_blank, hex_words, kind, means_days, packed, range_end,
-    repeats_and_offset, time, Date, Detail, LineKind, RangeEnd,
+    all_blank, count, date, density, detail, digits, digits_or_blank, hex_words, kind, means_days, packed, range_end,
+    repeats_and_offset, running_time, time, Date, Detail, LineKind, RangeEnd,
 };
-use super::forms::{form_a, form_bitfield, form_date, form_g, form_interchange, form_schedule, form_stop, form_z};
+use super::forms::{
+    form_a, form_bitfield, form_date, form_g, form_interchange, form_schedule, form_stop, form_t, form_z,
+};
 use super::lines::{lines, skipped, Line};
 use super::names::names;
+use super::runs::Runs;
 use super::service::{checked, Call, Draft, End, Given, Range, Service};
 use super::table;
 
@@ -283,17 +286,17 @@ fn read_services(file: &[u8], delivery: &mut Delivery) -> Result<(), Offence> {
 }
 
 impl Fplan {
-    /// One line: within it 12, 11, 4, 13, 9, 10. A *Z line first closes the service before it.
+    /// One line: within it 12, 11, 4, 13, 9, 10. A *Z or *T line first closes the service before it.
     fn take(&mut self, line: &Line) -> Result<(), Offence> {
         let kind = kind(line.text);
-        if kind == LineKind::Z {
+        if let LineKind::Z | LineKind::T = kind {
             self.close()?;
-            self.open = Some(read_z(line)?);
+            self.open = Some(if kind == LineKind::Z { read_z(line)? } else { read_t(line)? });
             return Ok(());
         }
         let mut draft = match self.open.take() {
             Some(draft) => draft,
-            // 12: "not *Z, and no *Z yet"
+            // 12 "now reads "neither *Z nor *T, and neither yet"" (document 02, No. 8)
             None => return refuse(12, 5, line.no),
         };
         match kind {
@@ -301,7 +304,7 @@ impl Fplan {
             LineKind::G => draft.ranges.push(read_g(line, &draft.ranges)?),
             LineKind::A => draft.ranges.push(self.read_a(line, &draft.ranges)?),
             // 11: "other line kind"
-            LineKind::Z | LineKind::Other => return refuse(11, 5, line.no),
+            LineKind::Z | LineKind::T | LineKind::Other => return refuse(11, 5, line.no),
         }
         self.open = Some(draft);
         Ok(())
@@ -365,15 +368,27 @@ fn administration(line: &[u8], a: usize) -> [u32; 2] {
 fn read_z(line: &Line) -> Result<Draft, Offence> {
     must_hold(form_z(line.text), 5, line)?;
     let (repeats, offset) = repeats_and_offset(line.text).unwrap_or((0, 0));
-    Ok(Draft {
+    Ok(opened(line, Runs::Repeated { repeats, offset }))
+}
+
+fn read_t(line: &Line) -> Result<Draft, Offence> {
+    must_hold(form_t(line.text), 5, line)?;
+    match (running_time(line.text), density(line.text)) {
+        (Some(running_time), Some(density)) => Ok(opened(line, Runs::Frequent { running_time, density })),
+        _ => unreachable!("its form holds"),
+    }
+}
+
+/// A service with nothing but its opening line; number and administration stand in the same columns of both kinds.
+fn opened(line: &Line, runs: Runs) -> Draft {
+    Draft {
         line: line.no,
         number: digits(line.text, 4, 8).unwrap_or(0),
         administration: administration(line.text, 10),
-        repeats,
-        offset,
+        runs,
         calls: Vec::new(),
         ranges: Vec::new(),
-    })
+    }
 }
 
 fn read_g(line: &Line, before: &[Range]) -> Result<Range, Offence> {

@@ -4,6 +4,7 @@ use std::collections::HashMap;
 
 use super::bits::{runs_on, BitWords};
 use super::fields::{Detail, RangeEnd, Time};
+use super::runs::Runs;
 
 /// A schedule line. Number and administration are `None` where they are blank.
 #[derive(Clone, Copy, Debug)]
@@ -40,14 +41,13 @@ pub struct Range {
     pub to: End,
 }
 
-/// A *Z line with the lines that follow it, each list by line.
+/// A *Z or *T line with the lines that follow it, each list by line.
 #[derive(Clone, Debug)]
 pub struct Draft {
     pub line: u32,
     pub number: u32,
     pub administration: [u32; 2],
-    pub repeats: u32,
-    pub offset: u32,
+    pub runs: Runs,
     pub calls: Vec<Call>,
     pub ranges: Vec<Range>,
 }
@@ -206,7 +206,8 @@ fn torn(legs: usize, ranges: &[Placed], n: u32, bitfields: &HashMap<u32, BitWord
     })
 }
 
-/// "For a service 14, 15, 16 (each by line), 17, 18, 19." The error is the number and its line. The bit fields are
+/// "For a service 14, 15, 16 (each by line), 17, 18, 19." The error is the number and its line; "the *Z line of 14 and 17 to 19
+/// .. may be a *T's" (document 02, No. 8). The bit fields are
 /// those of the same delivery.
 pub fn checked(draft: Draft, n: u32, bitfields: &HashMap<u32, BitWords>) -> Result<Service, (u32, u32)> {
     // 14: "under two calls"

@@ -43,7 +43,7 @@ pub fn words(delivery: &Delivery) -> Vec<u32> {
 /// "Service: its word count, number, administration ..., repeats, offset, calls c, *G g, *A VE v, other a, *Z line:
 /// 11 words. Then calls of 4 ..., *G of 3 ..., *A VE of 3 ..., other of 4"; document 02, No. 5: "Each call grows from 4 to 7 words:
 /// number and the two administration words follow the flags. A blank field repeats the call before; the first call's blanks take
-/// the *Z values."
+/// the *Z values." No. 8: "A service record gains a twelfth word, its kind", and the *Z values "may be a *T's".
 fn service_words(service: &Service) -> Vec<u32> {
     let draft = &service.draft;
     let (mut number, mut administration) = (draft.number, draft.administration);
@@ -62,18 +62,20 @@ fn service_words(service: &Service) -> Vec<u32> {
             Given::Other { code, bitfield } => others.extend_from_slice(&[code, bitfield, from, to]),
         }
     }
+    let [repeats, offset] = draft.runs.words();
     let head: [u32; SERVICE_WORDS] = [
         (SERVICE_WORDS + calls.len() + categories.len() + days.len() + others.len()) as u32,
         draft.number,
         draft.administration[0],
         draft.administration[1],
-        draft.repeats,
-        draft.offset,
+        repeats,
+        offset,
         draft.calls.len() as u32,
         (categories.len() / CATEGORY_WORDS) as u32,
         (days.len() / DAYS_WORDS) as u32,
         (others.len() / EXTRA_WORDS) as u32,
         draft.line,
+        draft.runs.kind(),
     ];
     let mut words = head.to_vec();
     for section in [calls, categories, days, others] {

@@ -1,6 +1,6 @@
 //! What a plan means, as a table and as walks: a second way to the same words.
 
-use crate::generate::plan::{Given, Plan, Range, Service};
+use crate::generate::plan::{Given, Plan, Range, Runs, Service};
 use crate::generate::sheet::{Sheet, Tag};
 use crate::layout::{
     ARRIVAL, CALL_WORDS, CATEGORY_WORDS, DAYS_WORDS, DEPARTURE, EXTRA_WORDS, FIRST_SERVICE_AT, NO_ALIGHTING,
@@ -52,7 +52,7 @@ fn expected_service(service: &Service, s: usize, sheet: &Sheet) -> Vec<u32> {
     for (no, row) in (1..).zip(&sheet.files[4]) {
         let range = |i: usize| &service.ranges[i];
         match row.tag {
-            Tag::Z(t) if t == s => line = no,
+            Tag::Z(t) | Tag::T(t) if t == s => line = no,
             Tag::Call(t, i) if t == s => calls.push(call_words(service, i, &row.text)),
             Tag::G(t, i) if t == s => g.extend(range_words(range(i))),
             Tag::Ve(t, i) if t == s => v.extend(range_words(range(i))),
@@ -60,19 +60,23 @@ fn expected_service(service: &Service, s: usize, sheet: &Sheet) -> Vec<u32> {
             _ => {}
         }
     }
-    let (repeats, offset) = service.repeats.unwrap_or((0, 0));
+    let (kind, repeats, offset) = match service.runs {
+        Runs::Repeats(None) => (0, 0, 0),
+        Runs::Repeats(Some((repeats, offset))) => (0, repeats, offset),
+        Runs::Frequency(running_time, density) => (1, running_time, density),
+    };
     let (front, back) = service.administration.split_at(3);
     let counts = [calls.len(), g.len() / CATEGORY_WORDS, v.len() / DAYS_WORDS, a.len() / EXTRA_WORDS].map(|n| n as u32);
     let mut words = vec![0, service.number, packed(front), packed(back), repeats, offset];
     words.extend(counts);
-    words.push(line);
+    words.extend([line, kind]);
     words.extend(calls.concat());
     words.extend([g, v, a].concat());
     words[SIZE_AT] = words.len() as u32;
     words
 }
 
-/// The number and the administration that hold at a call: those of the last call up to it that states them, else the *Z line's.
+/// The number and the administration that hold at a call: those of the last call up to it that states them, else the opening line's.
 pub fn holding(service: &Service, i: usize) -> [u32; 3] {
     let up_to = || service.calls[..=i].iter().rev();
     let number = up_to().find_map(|call| call.change.number).unwrap_or(service.number);
@@ -101,6 +105,28 @@ fn range_words(range: &Range) -> Vec<u32> {
     words
 }
 
+/// The last run of a service, from 0; of a *T by counting the seconds at which runs start.
+pub fn last_run(service: &Service) -> u32 {
+    match service.runs {
+        Runs::Repeats(repeats) => repeats.map_or(0, |(repeats, _)| repeats),
+        Runs::Frequency(running_time, density) => {
+            let starts = (density..=60 * running_time).step_by(density as usize);
+            starts.count() as u32
+        }
+    }
+}
+
+/// How late a run of a service is.
+fn late(service: &Service, run: u32) -> u32 {
+    match service.runs {
+        Runs::Repeats(repeats) => run * repeats.map_or(0, |(_, offset)| offset),
+        Runs::Frequency(_, density) => {
+            let seconds = run * density;
+            seconds / 60 + u32::from(seconds % 60 > 0)
+        }
+    }
+}
+
 /// The rows of a walk by the plan, with 0 for the flags; none if it is not running.
 pub fn expected_walk(plan: &Plan, s: usize, repeat: u32, day: u32) -> Vec<u32> {
     let service = &plan.services[s];
@@ -119,7 +145,7 @@ pub fn expected_walk(plan: &Plan, s: usize, repeat: u32, day: u32) -> Vec<u32> {
         return Vec::new();
     }
     let (first, last) = (operated[0], operated[operated.len() - 1] + 1);
-    let late = repeat * service.repeats.map_or(0, |(_, offset)| offset);
+    let late = late(service, repeat);
     (first..=last).flat_map(|i| expected_row(plan, service, i, late, i == first, i == last)).collect()
 }
 

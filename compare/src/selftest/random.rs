@@ -2,7 +2,7 @@
 
 use std::collections::BTreeMap;
 
-use super::expected::{expected_table, expected_walk};
+use super::expected::{expected_table, expected_walk, last_run};
 use crate::differ::{rng_of, senseless};
 use crate::generate::bend_table::{BENDS, NO_TABLES, POKES};
 use crate::generate::plan::{self, date_of};
@@ -142,13 +142,19 @@ fn lengths() {
     });
 }
 
-/// Every day with every repeat; where there are many repeats, every day with the run itself, and each repeat on a day.
-fn days_and_repeats(rng: &mut Rng, days: u32, repeats: u32) -> Vec<(u32, u32)> {
-    if repeats <= 5 {
-        return (0..days).flat_map(|day| (0..=repeats).map(move |repeat| (day, repeat))).collect();
+/// Every day with every run; where there are many runs, every day with the first, and each other run on a day; where there are
+/// thousands, some of them and the last ones.
+fn days_and_runs(rng: &mut Rng, days: u32, last: u32) -> Vec<(u32, u32)> {
+    if last <= 5 {
+        return (0..days).flat_map(|day| (0..=last).map(move |run| (day, run))).collect();
     }
-    let runs = (0..days).map(|day| (day, 0));
-    runs.chain((1..=repeats).map(|repeat| (rng.below(days), repeat))).collect()
+    let mut asked: Vec<(u32, u32)> = (0..days).map(|day| (day, 0)).collect();
+    let step = 1 + last / 1_000;
+    asked.extend(
+        (1..=last).step_by(step as usize).map(|run| (rng.below(days), run + rng.below(step.min(last + 1 - run)))),
+    );
+    asked.extend([(rng.below(days), last - 1), (rng.below(days), last)]);
+    asked
 }
 
 /// A walk on the table of a delivery without damage is refused for no service, repeat and date of its own.
@@ -160,8 +166,12 @@ fn walks() {
         let (_, table) = run(&case);
         let (plan, _) = case.plan.as_ref().unwrap();
         for (s, service) in plan.services.iter().enumerate() {
-            let repeats = service.repeats.map_or(0, |(repeats, _)| repeats);
-            for (day, repeat) in days_and_repeats(rng, plan.days, repeats) {
+            let last = last_run(service);
+            let (d, m, y) = date_of(plan.first_day);
+            for over in [last + 1, last + 60, u32::MAX] {
+                assert_eq!(walk(&table, s as u32, over, d, m, y, &mut []), Walked::Refused { number: 25, needed: 0 });
+            }
+            for (day, repeat) in days_and_runs(rng, plan.days, last) {
                 let (d, m, y) = date_of(plan.first_day + day);
                 let expected = expected_walk(plan, s, repeat, day);
                 let mut rows = vec![LENT; expected.len() + 3];

@@ -119,16 +119,16 @@ fn check_example([number, of, line, column]: [u32; 4], lines: &[&str]) {
     if number == 1 {
         let mut files = trial_week();
         files[of as usize - 1].resize(16_777_217, b' ');
-        assert_eq!(answer(&files, 78), [number, of, line, 0, column]);
+        assert_eq!(answer(&files, 79), [number, of, line, 0, column]);
         return;
     }
     if number == 20 {
-        assert_eq!(answer(&trial_week(), 77), [number, of, line, 78, column]);
+        assert_eq!(answer(&trial_week(), 78), [number, of, line, 79, column]);
         return;
     }
     if number == 51 {
-        assert_eq!(helped(&trial_week(), 78, 83), [number, of, line, 84, column]);
-        assert_eq!(helped(&trial_week(), 78, 84)[0], 0);
+        assert_eq!(helped(&trial_week(), 79, 83), [number, of, line, 84, column]);
+        assert_eq!(helped(&trial_week(), 79, 84)[0], 0);
         return;
     }
     let cut = lines.iter().position(|line| *line == "mended").unwrap();
@@ -141,7 +141,7 @@ fn check_example([number, of, line, column]: [u32; 4], lines: &[&str]) {
 
 #[test]
 fn the_trial_week() {
-    assert_eq!(answer(&trial_week(), 78), [0, 0, 0, 78, 0]);
+    assert_eq!(answer(&trial_week(), 79), [0, 0, 0, 79, 0]);
 }
 
 #[test]

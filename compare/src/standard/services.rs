@@ -1,4 +1,4 @@
-//! 5.3.1 service 1554 and 5.3.14 service 114.
+//! 5.3.1 service 1554 and 5.3.14 service 114. (5.3.3 opens service 1554 by *T: `frequency`.)
 
 use super::{Checked, Paper};
 use crate::boundary::Boundary;
@@ -17,7 +17,7 @@ fn hex(runs: impl FnMut(u32) -> bool) -> String {
 }
 
 /// 5.3.1, its times with five digits.
-fn fplan_1554() -> Vec<String> {
+pub fn fplan_1554() -> Vec<String> {
     let (d, e) = ("8010085", "8010097");
     vec![
         z("01554", "80____", "", ""),
@@ -39,21 +39,29 @@ fn fplan_1554() -> Vec<String> {
     ]
 }
 
-/// 5.3.1: "%" in column 55 beside four-digit times is not taken; else the ranges end where the standard says.
-pub fn service_1554(boundary: &dyn Boundary) -> Vec<Checked> {
+/// The words of service 1554's table.
+pub const WORDS_1554: usize = HEADER_WORDS
+    + BIT_FIELD_WORDS
+    + 8 * STOP_WORDS
+    + INTERCHANGE_WORDS
+    + SERVICE_WORDS
+    + 9 * CALL_WORDS
+    + CATEGORY_WORDS
+    + DAYS_WORDS
+    + 4 * EXTRA_WORDS;
+
+/// The stops of service 1554, and its bit field, daily.
+pub(super) fn paper_1554() -> Paper {
     let stops = ["8010085", "8010205", "8010366", "8010101", "8010097", "8000115", "8000105", "8000152"];
     let names: Vec<String> = stops.iter().map(|stop| format!("{}     Stop {}", stop, stop)).collect();
-    let paper = Paper::new().with(2, &[bitfield("046149", &hex(|_| true))]).with(3, &names);
+    Paper::new().with(2, &[bitfield("046149", &hex(|_| true))]).with(3, &names)
+}
+
+/// 5.3.1: "%" in column 55 beside four-digit times is not taken; else the ranges end where the standard says.
+pub fn service_1554(boundary: &dyn Boundary) -> Vec<Checked> {
+    let paper = paper_1554();
     let old: Vec<String> = fplan_1554().iter().map(|line| line.replace("    %", "%")).collect();
-    let words = HEADER_WORDS
-        + BIT_FIELD_WORDS
-        + 8 * STOP_WORDS
-        + INTERCHANGE_WORDS
-        + SERVICE_WORDS
-        + 9 * CALL_WORDS
-        + CATEGORY_WORDS
-        + DAYS_WORDS
-        + 4 * EXTRA_WORDS;
+    let words = WORDS_1554;
     let (accepted, table) = paper.clone().with(5, &fplan_1554()).accepted(boundary, "5.3.1 service 1554", words);
     let ends: Vec<u32> =
         table[words - 4 * EXTRA_WORDS..words].chunks(EXTRA_WORDS).flat_map(|other| [other[2], other[3]]).collect();

@@ -1,18 +1,20 @@
 -- The course along a stretch, on a day, of a service and of an index, for `search course`. Assumes nothing.
 use mathlib.Core.Path.{_≡_, refl, sym, ap, _∙_}
 use mathlib.Core.List.{List, map}
-use mathlib.Core.Bool.{Bool, true, false}
+use mathlib.Core.Bool.{Bool, true, false, not}
 use Prim.Native.Nat.{ℕ, _+_, _-_, _*_, _^_, _≤_, _<_}
 use native.Mathlib.Omega.{arith}
 use lib.ListN.{length, getD, take, drop}
 use lib.Seq.{drop-drop}
-use borrow.Author.Tests.{ne-eqb, le-leb, le-ltb, lt-ltb}
+use borrow.Author.Tests.{ne-eqb, le-leb, not-true, not-false}
 use Rattle.base.specs.Lists.{upto, below}
 use Rattle.base.proofs.Laws.{tests}
 use Rattle.timetable.specs.Layout.{mostPeriodDays, serviceHead, callSize}
 use Rattle.timetable.specs.Delivery.{Delivery}
 use Rattle.timetable.specs.Legs.{operated, stretches, legCount, operatedLegs}
-use Rattle.timetable.specs.Table.{calls#, rowsIn, callAt, serviceAt, tableOf, recordSound}
+use Rattle.timetable.specs.Runs.{hasRun}
+use Rattle.timetable.specs.declared.Opening.{Opening}
+use Rattle.timetable.specs.Table.{calls#, rowsIn, callAt, openingAt, serviceAt, tableOf, recordSound}
 use Rattle.timetable.specs.Questions.{legRefusal, firstRefusal, callsRefusal}
 use Rattle.timetable.proofs.Rows.{length-rows, rows-take, rows-drop}
 use Rattle.table.specs.JustTable.{JustTable}
@@ -50,8 +52,8 @@ module _ (d : Delivery) (s : List ℕ) (a n number : ℕ) (b : a + n < getD s 6 
 -- ---- on a day; a, b and c are where the first stretch begins and ends, and where another begins
 
 module _ (s : List ℕ) (e : recordSound s ≡ true) where
-  pub repeats-word : 4 < length s
-  repeats-word = omega (arith, record-says s e .0 .head)
+  pub head-words : serviceHead ≤ length s
+  head-words = omega (arith, record-says s e .0 .head)
 
   pub calls-word : 6 < length s
   calls-word = omega (arith, record-says s e .0 .head)
@@ -92,21 +94,21 @@ module _ (d : Delivery) (s : List ℕ) (k a : ℕ) (p : a ≡ 0 + gap true (map 
       unfolding dayCourse
       day-one g x f = f ∙ sym (rw (legs, one-runs runs (getD s 6 0 - 1) a p h b q c r g, legs-are runs (getD s 6 0 - 1) a p h b q, start-is runs (getD s 6 0 - 1) a p))
 
--- ---- of a service; `number` is what its legs are refused for
+-- ---- of a service with opening line o; t says whether it has the run, `number` is what its legs are refused for
 
-module _ (d : Delivery) (s : List ℕ) (r k : ℕ) where
-  repeats-are : serviceAt s .opening .repeats ≡ getD s 4 0
+module _ (d : Delivery) (s : List ℕ) (r k : ℕ) (o : Opening) (a : o ≡ openingAt s) (t : Bool) (b : t ≡ hasRun o r) where
+  has-run : t ≡ hasRun (serviceAt s .opening) r
   unfolding serviceAt
-  repeats-are = refl
+  has-run = b ∙ ap (λ (p : Opening). hasRun p r) a
 
-  pub over : getD s 4 0 < r → Refused 25 ≡ serviceCourse d (serviceAt s) r k
+  pub no-run : not t ≡ true → Refused 25 ≡ serviceCourse d (serviceAt s) r k
   unfolding serviceCourse
-  over h = rw (repeats-are, lt-ltb (getD s 4 0) r h)
+  no-run h = rw (sym has-run ∙ not-true t h)
 
-  module _ (h : r ≤ getD s 4 0) (number : ℕ) (f : noted number ≡ firstRefusal (legRefusal d (serviceAt s)) (below (getD s 6 0 - 1))) where
+  module _ (h : not t ≡ false) (number : ℕ) (f : noted number ≡ firstRefusal (legRefusal d (serviceAt s)) (below (getD s 6 0 - 1))) where
     service-by : serviceCourse d (serviceAt s) r k ≡ courseBy (noted number) (dayCourse d (serviceAt s) k)
     unfolding serviceCourse
-    service-by = rw (repeats-are, le-ltb (getD s 4 0) r h, legs-count s, sym f)
+    service-by = rw (sym has-run ∙ not-false t h, legs-count s, sym f)
 
     pub legs-no : (number ≡ 0 → ⊥) → Refused number ≡ serviceCourse d (serviceAt s) r k
     legs-no z = sym (service-by ∙ rw (ne-eqb number 0 z))
@@ -135,6 +137,6 @@ module _ (w : List ℕ) (h : JustTable w) where
 pub index-sound : (w : List ℕ) → JustTable w → (i : ℕ) → i < getD w 6 0 → (s : List ℕ) → s ≡ drop (servicePlace w i) w → recordSound s ≡ true
 index-sound w h i b s q = rw q (service-sound w h i b)
 
-pub ruleset course = (tests, stretch-no, stretch-yes, repeats-word, calls-word, legs-fit, day-idle, day-order, day-within, day-two, day-one, over, legs-no, legs-yes)
+pub ruleset course = (tests, stretch-no, stretch-yes, head-words, calls-word, legs-fit, day-idle, day-order, day-within, day-two, day-one, no-run, legs-no, legs-yes)
 
 pub ruleset index = (tests, count-word, day-low, index-no, index-yes, index-sound)

@@ -1,17 +1,18 @@
 -- What a course says of its service, and that a walk is the rows along it. Assumes nothing.
 use mathlib.Core.Path.{_≡_, refl, sym, ap, _∙_}
 use mathlib.Core.List.{List, [], _∷_}
-use mathlib.Core.Bool.{Bool, true, false, cond}
+use mathlib.Core.Bool.{Bool, true, false, cond, not}
 use mathlib.Core.Option.{Option, none, some}
-use Prim.Native.Nat.{ℕ, _+_, _*_, _≤_, _<_}
+use Prim.Native.Nat.{ℕ, _+_, _≤_}
 use native.Mathlib.Omega.{arith}
 use lib.ListN.{length, drop, getElem?, length-drop}
-use lib.Dec.{ltb, leb, eqb}
+use lib.Dec.{leb, eqb}
 use Rattle.base.specs.Lists.{below}
-use Rattle.base.proofs.Laws.{apart, by-ltb}
+use Rattle.base.proofs.Laws.{apart}
 use Rattle.base.proofs.Lists.{length-map-upto}
 use Rattle.timetable.specs.Delivery.{Service, Delivery}
 use Rattle.timetable.specs.Legs.{operated, stretches, legCount, operatedLegs}
+use Rattle.timetable.specs.Runs.{hasRun, lateness}
 use Rattle.timetable.specs.Questions.{legRefusal, firstRefusal, idleLegs, leadingLegs, stretchOf, stretchCalls, callsRefusal, stretchJourney, onDay, serviceJourney, journeyBy}
 use Rattle.course.specs.Course.{courseBy, stretchFrom, stretchCourse, legsCourse, dayCourse, serviceCourse, courseOf, indexedCourse, rowsAlong}
 use Rattle.course.specs.declared.Course.{Course}
@@ -36,15 +37,15 @@ module _ (d : Delivery) (s : Service) (delay : ℕ) where
       (by-option (callsRefusal d s (stretchOf bs .start) (stretchOf bs .legs) 0 0 (stretchCalls s (stretchOf bs))) (Along (stretchOf bs .start) (stretchOf bs .legs)))
       ∙ by-stretches (eqb (stretches false bs) 0) (leb 2 (stretches false bs)) (stretchCourse d s (stretchOf bs .start) (stretchOf bs .legs))
 
-pub course-journey : (d : Delivery) (s : Service) (r k : ℕ) → serviceJourney d s r k ≡ rowsAlong d s (r * s .opening .offset) (serviceCourse d s r k)
+pub course-journey : (d : Delivery) (s : Service) (r k : ℕ) → serviceJourney d s r k ≡ rowsAlong d s (lateness (s .opening) r) (serviceCourse d s r k)
 unfolding serviceCourse dayCourse
 course-journey d s r k =
-    go (ltb (s .opening .repeats) r)
+    go (not (hasRun (s .opening) r))
   where
-    inner : journeyBy (firstRefusal (legRefusal d s) (below (legCount s))) (onDay d s (r * s .opening .offset) (operatedLegs (d .fields) s k)) ≡ rowsAlong d s (r * s .opening .offset) (courseBy (firstRefusal (legRefusal d s) (below (legCount s))) (legsCourse d s (operatedLegs (d .fields) s k)))
-    inner = ap (journeyBy (firstRefusal (legRefusal d s) (below (legCount s)))) (legs-journey d s (r * s .opening .offset) (operatedLegs (d .fields) s k)) ∙ by-option d s (r * s .opening .offset) (firstRefusal (legRefusal d s) (below (legCount s))) (legsCourse d s (operatedLegs (d .fields) s k))
+    inner : journeyBy (firstRefusal (legRefusal d s) (below (legCount s))) (onDay d s (lateness (s .opening) r) (operatedLegs (d .fields) s k)) ≡ rowsAlong d s (lateness (s .opening) r) (courseBy (firstRefusal (legRefusal d s) (below (legCount s))) (legsCourse d s (operatedLegs (d .fields) s k)))
+    inner = ap (journeyBy (firstRefusal (legRefusal d s) (below (legCount s)))) (legs-journey d s (lateness (s .opening) r) (operatedLegs (d .fields) s k)) ∙ by-option d s (lateness (s .opening) r) (firstRefusal (legRefusal d s) (below (legCount s))) (legsCourse d s (operatedLegs (d .fields) s k))
 
-    go : (t : Bool) → cond t (rowsAlong d s (r * s .opening .offset) (Refused 25)) (journeyBy (firstRefusal (legRefusal d s) (below (legCount s))) (onDay d s (r * s .opening .offset) (operatedLegs (d .fields) s k))) ≡ rowsAlong d s (r * s .opening .offset) (cond t (Refused 25) (courseBy (firstRefusal (legRefusal d s) (below (legCount s))) (legsCourse d s (operatedLegs (d .fields) s k))))
+    go : (t : Bool) → cond t (rowsAlong d s (lateness (s .opening) r) (Refused 25)) (journeyBy (firstRefusal (legRefusal d s) (below (legCount s))) (onDay d s (lateness (s .opening) r) (operatedLegs (d .fields) s k))) ≡ rowsAlong d s (lateness (s .opening) r) (cond t (Refused 25) (courseBy (firstRefusal (legRefusal d s) (below (legCount s))) (legsCourse d s (operatedLegs (d .fields) s k))))
     go true = refl
     go false = inner
 
@@ -94,10 +95,11 @@ module _ (a n : ℕ) where
         let q : stretchOf bs .legs ≡ n = ap legsOf x in
         omega (arith, stretch-within bs)
 
-    pub along-within : (r k : ℕ) → serviceCourse d s r k ≡ Along a n → (r ≤ s .opening .repeats) × (a + n ≤ legCount s)
+    pub along-within : (r k : ℕ) → serviceCourse d s r k ≡ Along a n → (hasRun (s .opening) r ≡ true) × (a + n ≤ legCount s)
     unfolding serviceCourse dayCourse
     along-within r k e =
-        by-ltb (λ t. cond t (Refused 25) (courseBy (firstRefusal (legRefusal d s) (below (legCount s))) (legsCourse d s (operatedLegs (d .fields) s k))) ≡ Along a n → (r ≤ s .opening .repeats) × (a + n ≤ legCount s)) (s .opening .repeats) r
-        (λ h f. apart (cc))
-        (λ h f. (h, let g = legs-within (operatedLegs (d .fields) s k) (by-none (firstRefusal (legRefusal d s) (below (legCount s))) (legsCourse d s (operatedLegs (d .fields) s k)) f) in omega (arith, g, length-map-upto (operated (d .fields) (s .days) k) (legCount s) 0)))
-        e
+        go (hasRun (s .opening) r) refl e
+      where
+        go : (t : Bool) → hasRun (s .opening) r ≡ t → cond (not t) (Refused 25) (courseBy (firstRefusal (legRefusal d s) (below (legCount s))) (legsCourse d s (operatedLegs (d .fields) s k))) ≡ Along a n → (hasRun (s .opening) r ≡ true) × (a + n ≤ legCount s)
+        go false q f = apart (cc)
+        go true q f = (q, let g = legs-within (operatedLegs (d .fields) s k) (by-none (firstRefusal (legRefusal d s) (below (legCount s))) (legsCourse d s (operatedLegs (d .fields) s k)) f) in omega (arith, g, length-map-upto (operated (d .fields) (s .days) k) (legCount s) 0))

@@ -1,14 +1,15 @@
 -- The course of a run: a walk without its rows, by the definitions of the crate timetable; the law `course-journey` (proofs/Rows) says that a walk is
 -- the rows along it. Assumes nothing.
-use Prim.Native.Nat.{ℕ, _*_}
+use Prim.Native.Nat.{ℕ}
 use mathlib.Core.List.{List}
-use mathlib.Core.Bool.{Bool, false, cond}
+use mathlib.Core.Bool.{Bool, false, cond, not}
 use mathlib.Core.Option.{Option, none, some}
 use lib.ListN.{getElem?}
-use lib.Dec.{ltb, leb, eqb}
+use lib.Dec.{leb, eqb}
 use Rattle.base.specs.Lists.{below}
 use Rattle.timetable.specs.Delivery.{Service, Delivery}
 use Rattle.timetable.specs.Legs.{stretches, legCount, operatedLegs}
+use Rattle.timetable.specs.Runs.{hasRun}
 use Rattle.timetable.specs.Questions.{legRefusal, firstRefusal, Stretch, stretchOf, stretchCalls, callsRefusal}
 use Rattle.timetable.specs.Questions.{rowsOf, Journey, refused, idle, rows}
 use Rattle.course.specs.declared.Course.{Course}
@@ -38,7 +39,7 @@ dayCourse d s k = legsCourse d s (operatedLegs (d .fields) s k)
 -- of repeat r: 25, then 34 and 31 leg by leg
 unfoldable pub serviceCourse : Delivery → Service → ℕ → ℕ → Course
 serviceCourse d s r k =
-    cond (ltb (s .opening .repeats) r) (Refused 25) (courseBy (firstRefusal (legRefusal d s) (below (legCount s))) (dayCourse d s k))
+    cond (not (hasRun (s .opening) r)) (Refused 25) (courseBy (firstRefusal (legRefusal d s) (below (legCount s))) (dayCourse d s k))
 
 abbrev pub indexedCourse : Delivery → Option Service → ℕ → ℕ → Course
 indexedCourse d none r k = Refused 24

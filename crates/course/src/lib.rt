@@ -1,7 +1,6 @@
 // The course of a run on a day: the stretch of calls that it runs along. Every refusal of a walk but 29 is told here, on a whole table
 // (`table::used_words`); the rows are listed by the crate above.
 use timetable::CALLS_AT;
-use timetable::REPEATS_AT;
 use timetable::SERVICES_AT;
 ghost use mathlib.Core.Path.{_≡_};
 ghost use mathlib.Core.Bool.{true};
@@ -29,13 +28,13 @@ pub fn course_of(w: &[u32], service: u32, repeat: u32, k: u32) -> Course
     service_course(w, lookups::service_words(w, service), repeat, k)
 }
 
-// Of the service at the front of `s`: 25 repeat number over repeats, 34 and 31 of its legs.
+// Of the service at the front of `s`: 25 no such run, 34 and 31 of its legs.
 fn service_course(w: &[u32], s: &[u32], repeat: u32, k: u32) -> Course
     requires { ⌜ JustTable (now w) × (k < mostPeriodDays) ⌝ }
     requires { ⌜ recordSound (now s) ≡ true ⌝ }
     ensures { λ r. ⌜ r ≡ serviceCourse (tableOf (now (w .entry))) (serviceAt (now (s .entry))) repeat k ⌝ }
 {
-    if s[REPEATS_AT] < repeat {
+    if !runs::has_run(table::opening_at(s), repeat) {
         return Course::Refused(25);
     }
     let number = legs::legs_refusal(w, s, s[CALLS_AT] - 1);

@@ -12,6 +12,7 @@ use Rattle.timetable.specs.Checks.{timesFirst, endsFirst, serviceChecks, servic
 use Rattle.timetable.specs.Legs.{fieldRuns, stretches}
 use Rattle.timetable.specs.Files.{held-in, periodFirst, bitFieldsFirst, nameLength, stopsFirst, interchangesFirst}
 use Rattle.timetable.specs.Load.{delivered, lengthOffence, contentOffence, offence, onto, helperNeeded, loaded, written}
+use Rattle.timetable.specs.Runs.{hasRun, lateness, openingSound}
 use Rattle.timetable.specs.Table.{serviceWords, tableWords}
 use Rattle.timetable.specs.Offences.{_<|>_, first}
 use Rattle.timetable.specs.Plan.{toldIn, opens, tolds, saidOn}
@@ -19,9 +20,9 @@ use Rattle.timetable.specs.Ranges.{places, lastPlace, fromPlace, toPlace, legsO
 use Rattle.timetable.specs.Service.{headLines, blocks, holding, calledOn, serviceOf}
 use Rattle.timetable.specs.Table.{rowsIn, serviceAt, servicesIn, tableOf, recordSound, recordsSound, headSound, isTable}
 use Rattle.timetable.specs.Questions.{dayAsked, interchangeAtStop, interchangeAsked, firstRefusal, idleLegs, leadingLegs, callsRefusal, rowsOf, journey, walkOf}
-use Rattle.examples.specs.Trial.{routeR, weekAlong, trial, fridayRows, changingR, changing}
+use Rattle.examples.specs.Trial.{routeR, weekAlong, trial, fridayRows, changingR, changing, planned, dial}
 use Rattle.examples.proofs.Naming.{naming}
 
 unfoldable pub computing : Unit {0}
-unfolding every some-of countIf find gathered upto bytes hexFrom hexWords bitsIn bit framed yearsBefore monthsBefore exists dayOf dateIn periodOf padTo columns count numberFrom hashDigits hash timeIn rangeEndIn detailIn strayFrom unnamed rowForm formFrom kindOf startWith pieces noCR numbered linesFrom skipped toLF cutAt saidOn timesFirst endsFirst fieldRuns stretches serviceChecks serviceFirst servicesFirst planFirst held-in periodFirst bitFieldsFirst nameLength stopsFirst interchangesFirst delivered lengthOffence contentOffence offence serviceWords tableWords onto helperNeeded loaded written _<|>_ first toldIn opens tolds dayAsked interchangeAtStop interchangeAsked firstRefusal idleLegs leadingLegs callsRefusal rowsOf journey walkOf places lastPlace fromPlace toPlace legsOf headLines blocks holding calledOn serviceOf rowsIn serviceAt servicesIn tableOf recordSound recordsSound headSound isTable routeR weekAlong trial fridayRows changingR changing naming
+unfolding every some-of countIf find gathered upto bytes hexFrom hexWords bitsIn bit framed yearsBefore monthsBefore exists dayOf dateIn periodOf padTo columns count numberFrom hashDigits hash timeIn rangeEndIn detailIn strayFrom unnamed rowForm formFrom kindOf startWith pieces noCR numbered linesFrom skipped toLF cutAt saidOn timesFirst endsFirst fieldRuns stretches serviceChecks serviceFirst servicesFirst planFirst held-in periodFirst bitFieldsFirst nameLength stopsFirst interchangesFirst delivered lengthOffence contentOffence offence serviceWords tableWords onto helperNeeded loaded written _<|>_ first toldIn opens tolds dayAsked interchangeAtStop interchangeAsked firstRefusal idleLegs leadingLegs callsRefusal rowsOf journey walkOf places lastPlace fromPlace toPlace legsOf headLines blocks holding calledOn serviceOf rowsIn serviceAt servicesIn tableOf recordSound recordsSound headSound isTable routeR weekAlong trial fridayRows changingR changing planned dial hasRun lateness openingSound naming
 computing = tt

@@ -3,3 +3,4 @@ pub mod Computing
 pub mod Rows
 pub mod Trial
 pub mod Names
+pub mod Dial

@@ -96,3 +96,19 @@ changingRows =
     ∷ 1000033 ∷ 510 ∷ 515 ∷ 3 ∷ 43 ∷ 4345665 ∷ 5529439 ∷ 4342100 ∷ 2 ∷ 3
     ∷ 1000022 ∷ 535 ∷ 0 ∷ 1 ∷ 43 ∷ 4345665 ∷ 5529439 ∷ 0 ∷ 2 ∷ 3
     ∷ []
+
+-- ---- document 02, No. 8: the trial week with another FPLAN
+
+unfoldable pub planned : List ℕ → Files
+planned fplan = record { eckdaten = trial .eckdaten; bitfeld = trial .bitfeld; bahnhof = trial .bahnhof; umsteigb = trial .umsteigb; fplan = fplan }
+
+-- R, its first line this one
+abbrev pub openedBy : String → Files
+openedBy text = planned (line text ++ categoryOverAll ++ daysOverAll ++ routeR)
+
+-- 5.3.3's example, "%" in column 59 (its administration is printed with seven bytes there, of which six are taken)
+abbrev pub dialLine : String
+dialLine = "*T 01554 80____ 0240 0450                                 %"
+
+unfoldable pub dial : Files
+dial = openedBy dialLine

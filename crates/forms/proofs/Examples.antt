@@ -12,11 +12,11 @@ use Rattle.fields.proofs.Cases.{Case, _⇒_, Says}
 use Rattle.forms.specs.declared.Form.{Form}
 use Rattle.forms.specs.declared.Form.the-variants.{Fits, Broken}
 use Rattle.forms.specs.declared.Kind.{Kind}
-use Rattle.forms.specs.declared.Kind.the-variants.{Opening, Category, Attribute, Schedule, Other}
+use Rattle.forms.specs.declared.Kind.the-variants.{Opening, Frequency, Category, Attribute, Schedule, Other}
 use Rattle.forms.specs.Kinds.{kindOf}
 use Rattle.forms.specs.Form.{strayFrom, unnamed, rowForm, formFrom, formOf}
 use Rattle.forms.proofs.Laws.{row-holds}
-use Rattle.forms.specs.Columns.{dateColumns, bitFieldColumns, stopColumns, interchangeColumns, serviceColumns, categoryColumns, attributeColumns, callColumns}
+use Rattle.forms.specs.Columns.{dateColumns, bitFieldColumns, stopColumns, interchangeColumns, serviceColumns, frequencyColumns, categoryColumns, attributeColumns, callColumns}
 
 abbrev pub kinds : List (Case Kind)
 kinds =
@@ -25,8 +25,11 @@ kinds =
     ∷ "*G BAT" ⇒ Category
     ∷ "*A VE" ⇒ Attribute
     ∷ "1000011" ⇒ Schedule
+    ∷ "*T 01554 80____" ⇒ Frequency
+    ∷ "*T" ⇒ Frequency
     ∷ "*Zx" ⇒ Other
-    ∷ "*T 1" ⇒ Other
+    ∷ "*TT" ⇒ Other
+    ∷ "*E 1" ⇒ Other
     ∷ " 1000011" ⇒ Other
     ∷ "" ⇒ Other
     ∷ []
@@ -92,6 +95,25 @@ services =
     ∷ "*Z 00042 FERRY_" ⇒ Broken 59
     ∷ []
 
+-- 001, 5.3.3's example (its administration has seven bytes: the last is taken away), and 5.3.17's, whose density is negative
+abbrev pub frequencies : List (Case Form)
+frequencies =
+    "*T 01554 80____ 0240 0450                                 %" ⇒ Fits
+    ∷ "*T 01554 80____ 0000 0001                                 % one run" ⇒ Fits
+    ∷ "*T 1554  80____ 0240 0450                                 %" ⇒ Broken 4
+    ∷ "*T 01554x80____ 0240 0450                                 %" ⇒ Broken 9
+    ∷ "*T 01554 80___  0240 0450                                 %" ⇒ Broken 10
+    ∷ "*T 01554 80_____0240 0450                                 %" ⇒ Broken 16
+    ∷ "*T 01554 80____  240 0450                                 %" ⇒ Broken 17
+    ∷ "*T 01554 80____ 0240x0450                                 %" ⇒ Broken 21
+    ∷ "*T 00001 VGS___ 0720 -0900 %" ⇒ Broken 22
+    ∷ "*T 01554 80____ 0240 0000                                 %" ⇒ Broken 22
+    ∷ "*T 01554 80____ 0240                                      %" ⇒ Broken 22
+    ∷ "*T 01554 80____ 0240 0450 010                             %" ⇒ Broken 27
+    ∷ "*T 01554 80____ 0240 0450" ⇒ Broken 59
+    ∷ "*T" ⇒ Broken 4
+    ∷ []
+
 abbrev pub categories : List (Case Form)
 categories =
     "*G BAT                                                    %" ⇒ Fits
@@ -136,11 +158,12 @@ pub worked :
     × Says (formOf stopColumns) stops
     × Says (formOf interchangeColumns) interchanges
     × Says (formOf serviceColumns) services
+    × Says (formOf frequencyColumns) frequencies
     × Says (formOf categoryColumns) categories
     × Says (formOf attributeColumns) attributes
     × Says (formOf callColumns) calls
 unfolding bytes every kindOf strayFrom unnamed rowForm formFrom C.padTo C.columns C.count C.numberFrom F.hashDigits F.hash F.timeIn F.rangeEndIn F.detailIn
-worked = (refl, refl, refl, refl, refl, refl, refl, refl, refl)
+worked = (refl, refl, refl, refl, refl, refl, refl, refl, refl, refl)
 
 -- a use of `row-holds`: the number of a stop's line is digits
 pub stop-number : (line : List ℕ) → formOf stopColumns line ≡ Fits → C.digits (C.columns 1 7 line) ≡ true

@@ -1,16 +1,21 @@
--- Laws of forms. For callers: `row-holds` (what the row at a place asks holds of a line that has the form), `fits-form`. Assumes nothing.
+-- Laws of forms. For callers: `row-holds` (what the row at a place asks holds of a line that has the form), `fits-form`, `from-one-says`. Assumes nothing.
 use mathlib.Core.Path.{_≡_, refl, ap, _∙_, sym}
 use mathlib.Core.List.{List, [], _∷_}
-use mathlib.Core.Bool.{Bool, true, false}
-use Prim.Native.Nat.{ℕ, zero, suc, _+_, _-_, _≤_, _<_}
+use mathlib.Core.Bool.{Bool, true, false, not}
+use Prim.Native.Nat.{ℕ, zero, suc, _+_, _-_, _*_, _≤_, _<_}
 use native.Mathlib.Omega.{arith}
 use lib.ListN.{length, getD, drop, drop-of-length-le}
-use borrow.Author.Tests.{eq-eqb, ne-eqb}
-use Rattle.base.proofs.Laws.{drop-next, tests}
+use lib.Dec.{eqb}
+use borrow.Author.Tests.{eq-eqb, ne-eqb, eqb-false, leb-true, not-true}
+use Rattle.base.specs.Lists.{every}
+use Rattle.base.proofs.Laws.{clash, drop-next, tests}
+use Rattle.base.proofs.Loops.{and-true}
 use Rattle.columns.specs.Columns as C
+use Rattle.columns.specs.Columns.{isDigit, digitValue, digits, numberFrom, number}
+use Rattle.columns.proofs.Laws.{number-grows}
 use Rattle.forms.specs.declared.Form.{Form}
 use Rattle.forms.specs.declared.Form.the-variants.{Fits, Broken}
-use Rattle.forms.specs.Form.{Row, column, free, before, strayFrom, unnamed, named, rowForm, formFrom, formOf, isFit, fits}
+use Rattle.forms.specs.Form.{Row, column, free, fromOne, before, strayFrom, unnamed, named, rowForm, formFrom, formOf, isFit, fits}
 use Rattle.forms.specs.Columns.{columnsOf}
 use Rattle.forms.specs.declared.LineKind.{LineKind}
 use Rattle.forms.specs.Rows.{ruleOf, fromOf, toOf, rowOf, ruleNumber, withRule, rowsOf}
@@ -126,6 +131,25 @@ fits-form rows line e = go (formOf rows line) e
     go : (f : Form) → isFit f ≡ true → f ≡ Fits
     go Fits e = refl
     go (Broken c) e = cc
+
+-- ---- digits that are not all "0" say at least 1
+
+some-digit : (n : ℕ) (p : List ℕ) → digits p ≡ true → every (λ (b : ℕ). eqb b 48) p ≡ false → 1 ≤ numberFrom n p
+unfolding every numberFrom
+some-digit n [] d z = clash (sym z)
+some-digit n (b ∷ p) d z = go (eqb b 48) refl (some-digit (n * 10 + digitValue b) p (and-true (isDigit b) (digits p) d .1))
+  where
+    go : (t : Bool) → eqb b 48 ≡ t → (every (λ (b : ℕ). eqb b 48) p ≡ false → 1 ≤ numberFrom (n * 10 + digitValue b) p) → 1 ≤ numberFrom (n * 10 + digitValue b) p
+    go true q more = more (rw q at z)
+    go false q more =
+        let c = and-true (isDigit b) (digits p) d .0 in
+        let v : digitValue b ≡ b - 48 = rw c refl in
+        let l = leb-true 48 b (and-true _ _ c .0) in
+        let x = eqb-false b 48 q in
+        omega (arith, x, number-grows (n * 10 + digitValue b) p)
+
+pub from-one-says : (line p : List ℕ) → fromOne line p ≡ true → 1 ≤ number p
+from-one-says line p e = let (d, z) = and-true (digits p) (not (every (λ (b : ℕ). eqb b 48) p)) e in some-digit 0 p d (not-true _ z)
 
 -- ---- the form of a kind of line, for `line_form`
 

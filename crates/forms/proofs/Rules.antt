@@ -21,7 +21,7 @@ use Rattle.fields.specs.declared.Detail.{Detail}
 use Rattle.forms.specs.declared.Kind.{Kind}
 use Rattle.forms.specs.declared.Kind.the-variants.{Schedule, Other}
 use Rattle.forms.specs.Kinds.{starred, kindOf}
-use Rattle.forms.specs.Form.{date, isTime, time, isEnd, rangeEnd, isStop, isDetail, detailOf, offsetOf}
+use Rattle.forms.specs.Form.{date, isTime, time, isEnd, rangeEnd, isStop, isDetail, detailOf, offsetOf, fromOne}
 
 -- ---- one field
 
@@ -133,7 +133,17 @@ module _ (line p : List ℕ) (c : ℕ) (t : Bool) (et : t ≡ every (isOf (Byte 
       pub offset-some : (y : Bool) → z ≡ false → y ≡ every (isOf (Byte 48)) p → not y ≡ offsetOf c line p
       offset-some y g d = rw (none, h, digs, k, no-repeats, g, d)
 
-pub ruleset rules = (tests, or-blank, or-other, first-filled, date-part, time-rule, end-rule, detail-unread, detail-read, offset-blank, offset-bad, offset-any, offset-some)
+module _ (line p : List ℕ) (t : Bool) (et : t ≡ every (isOf Digit) p) where
+  are-digits : C.digits p ≡ t
+  are-digits = sym et
+
+  pub from-one-bad : t ≡ false → false ≡ fromOne line p
+  from-one-bad h = rw (are-digits, h)
+
+  pub from-one : (y : Bool) → t ≡ true → y ≡ every (isOf (Byte 48)) p → not y ≡ fromOne line p
+  from-one y h d = rw (are-digits, h, d)
+
+pub ruleset rules = (tests, from-one-bad, from-one, or-blank, or-other, first-filled, date-part, time-rule, end-rule, detail-unread, detail-read, offset-blank, offset-bad, offset-any, offset-some)
 
 pub ruleset dates = (tests, date-day, date-dot, date-month, date-second-dot, date-year)
 

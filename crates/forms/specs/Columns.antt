@@ -1,9 +1,9 @@
--- The paper's table of columns, row by row. Columns 1 to 3 of *Z, *G and *A say the kind, which was looked at before.
+-- The paper's table of columns, row by row. Columns 1 to 3 of *Z, *T, *G and *A say the kind, which was looked at before.
 -- Assumes nothing.
 use mathlib.Core.List.{List, [], _∷_}
 use Rattle.forms.specs.declared.LineKind.{LineKind}
-use Rattle.forms.specs.declared.LineKind.the-variants.{Date, BitField, Stop, Interchange, Opening, Category, Attribute, Schedule}
-use Rattle.forms.specs.Form.{Row, columns, column, fromColumn, free, digits, hexDigits, nonBlank, byte, orBlank, notAllBlank, firstNotBlank, count, date, time, rangeEnd, detailOf, offsetOf}
+use Rattle.forms.specs.declared.LineKind.the-variants.{Date, BitField, Stop, Interchange, Opening, Frequency, Category, Attribute, Schedule}
+use Rattle.forms.specs.Form.{Row, columns, column, fromColumn, free, digits, hexDigits, nonBlank, byte, orBlank, notAllBlank, firstNotBlank, count, date, time, rangeEnd, detailOf, offsetOf, fromOne}
 
 -- "1 ECKDATEN, lines 1, 2: 1-10 DD.MM.YYYY, rest free"
 abbrev pub dateColumns : List Row
@@ -46,6 +46,19 @@ serviceColumns =
     ∷ columns 10 15 nonBlank
     ∷ columns 23 25 (orBlank digits)
     ∷ columns 27 29 (offsetOf 23)
+    ∷ column 59 (byte 37)
+    ∷ fromColumn 60 free
+    ∷ []
+
+-- document 02, No. 8: "*T (section 5.3.3): running time in minutes 17-20, density in seconds 22-25. Both are digits; density is at least 1."; 001, 5.3.3:
+-- 4-8 service number, 10-15 "Administration (6 digits); There must not be any blanks", as *Z has them
+abbrev pub frequencyColumns : List Row
+frequencyColumns =
+    columns 1 3 free
+    ∷ columns 4 8 digits
+    ∷ columns 10 15 nonBlank
+    ∷ columns 17 20 digits
+    ∷ columns 22 25 fromOne
     ∷ column 59 (byte 37)
     ∷ fromColumn 60 free
     ∷ []
@@ -98,6 +111,7 @@ columnsOf BitField = bitFieldColumns
 columnsOf Stop = stopColumns
 columnsOf Interchange = interchangeColumns
 columnsOf Opening = serviceColumns
+columnsOf Frequency = frequencyColumns
 columnsOf Category = categoryColumns
 columnsOf Attribute = attributeColumns
 columnsOf Schedule = callColumns

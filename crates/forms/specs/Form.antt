@@ -97,6 +97,10 @@ offsetOf c line p =
     cond (C.blank (C.columns c (c + 2) line)) (C.blank p)
     (C.digits p && (byte 48 line (C.columns c (c + 2) line) || not (byte 48 line p)))
 
+-- digits that say at least 1: not all of them are "0" (byte 48)
+abbrev pub fromOne : Rule
+fromOne line p = C.digits p && not (byte 48 line p)
+
 -- ---- the form that a list of rules says
 
 -- columns `from` to `to`, and what is asked of them

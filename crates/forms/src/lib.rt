@@ -11,7 +11,7 @@ ghost use lib.ListN.{getD};
 ghost use Rattle.base.specs.Lists.{every};
 ghost use Rattle.columns.specs.Columns as C;
 ghost use Rattle.columns.specs.Columns.{isOf, isBlank, blank};
-ghost use Rattle.forms.specs.Form.{date, isTime, isEnd, isStop, isDetail, detailOf, offsetOf, unnamed, rowForm, formOf};
+ghost use Rattle.forms.specs.Form.{date, isTime, isEnd, isStop, isDetail, detailOf, offsetOf, fromOne, unnamed, rowForm, formOf};
 ghost use Rattle.forms.specs.Rows.{ruleOf, toOf, rowOf, rowsOf};
 ghost use Rattle.forms.specs.Columns.{bitFieldColumns, stopColumns, interchangeColumns, columnsOf};
 ghost use Rattle.forms.specs.declared.Form.the-variants.{Fits};
@@ -21,6 +21,7 @@ ghost use Rattle.forms.specs.Kinds.{starred, kindOf};
 // Which kind a line of FPLAN is.
 pub enum Kind {
     Opening,
+    Frequency,
     Category,
     Attribute,
     Schedule,
@@ -34,6 +35,7 @@ pub enum LineKind {
     Stop,
     Interchange,
     Opening,
+    Frequency,
     Category,
     Attribute,
     Schedule,
@@ -93,8 +95,11 @@ const OFFSET_OF: u64 = 13;
 // with the byte
 const BYTE_OR_BLANK: u64 = 14;
 
+// at least 1
+const DIGITS_FROM_ONE: u64 = 15;
+
 // with the byte
-const BYTE: u64 = 15;
+const BYTE: u64 = 16;
 
 const DATE_LINE: [u64; 2] = [1 * FROM + 10 * TO + DATE, 11 * FROM + END + FREE];
 
@@ -120,6 +125,16 @@ const SERVICE: [u64; 7] = [
     10 * FROM + 15 * TO + NON_BLANK,
     23 * FROM + 25 * TO + DIGITS_OR_BLANK,
     27 * FROM + 29 * TO + OFFSET_OF + 23 * WITH,
+    59 * FROM + 59 * TO + BYTE + b'%' as u64 * WITH,
+    60 * FROM + END + FREE,
+];
+
+const FREQUENCY: [u64; 7] = [
+    1 * FROM + 3 * TO + FREE,
+    4 * FROM + 8 * TO + DIGITS,
+    10 * FROM + 15 * TO + NON_BLANK,
+    17 * FROM + 20 * TO + DIGITS,
+    22 * FROM + 25 * TO + DIGITS_FROM_ONE,
     59 * FROM + 59 * TO + BYTE + b'%' as u64 * WITH,
     60 * FROM + END + FREE,
 ];
@@ -181,6 +196,7 @@ fn starred_kind(b: u8, c: u8) -> Kind
     }
     match b {
         b'Z' => Kind::Opening,
+        b'T' => Kind::Frequency,
         b'G' => Kind::Category,
         b'A' => Kind::Attribute,
         _ => Kind::Other,
@@ -209,6 +225,7 @@ fn tabled_form(kind: LineKind, line: &[u8]) -> Form
         LineKind::Stop => form_of(line, &STOP),
         LineKind::Interchange => form_of(line, &INTERCHANGE),
         LineKind::Opening => form_of(line, &SERVICE),
+        LineKind::Frequency => form_of(line, &FREQUENCY),
         LineKind::Category => form_of(line, &CATEGORY),
         LineKind::Attribute => form_of(line, &ATTRIBUTE),
         LineKind::Schedule => form_of(line, &CALL),
@@ -228,6 +245,7 @@ fn usual_form(kind: LineKind, line: &[u8]) -> bool
         LineKind::Stop => usual_stop(line),
         LineKind::Interchange => usual_interchange(line),
         LineKind::Opening => false,
+        LineKind::Frequency => false,
         LineKind::Category => false,
         LineKind::Attribute => false,
         LineKind::Schedule => false,
@@ -422,6 +440,7 @@ fn fits_rule(line: &[u8], a: usize, b: usize, k: u64, m: u32) -> bool
         DETAIL_OF => fits_detail(line, a, b, m),
         OFFSET_OF => fits_offset(line, a, b, m),
         BYTE_OR_BLANK => blank_or(line, a, b, Class::Byte(m as u8)),
+        DIGITS_FROM_ONE => fits_from_one(line, a, b),
         // BYTE
         _ => columns::every_in(line, a, b, Class::Byte(m as u8)),
     }
@@ -491,6 +510,16 @@ pub fn fits_offset(line: &[u8], a: usize, b: usize, c: u32) -> bool
         if columns::every_in(line, from, to, Class::Byte(b'0')) {
             return true;
         }
+        return !columns::every_in(line, a, b, Class::Byte(b'0'));
+    }
+    false
+}
+
+// Whether the columns are digits that say at least 1.
+fn fits_from_one(line: &[u8], a: usize, b: usize) -> bool
+    ensures { λ r. ⌜ r ≡ fromOne (now (line .entry)) (C.columns a b (now (line .entry))) ⌝ }
+{
+    if columns::every_in(line, a, b, Class::Digit) {
         return !columns::every_in(line, a, b, Class::Byte(b'0'));
     }
     false

@@ -16,7 +16,7 @@ use Rattle.calendar.specs.declared.Date.the-variants.{Day, NoSuchDate}
 use Rattle.calendar.specs.declared.Period.{Period}
 use Rattle.calendar.specs.declared.Period.the-variants.{Days, NoPeriod}
 use Rattle.forms.specs.declared.Kind.{Kind}
-use Rattle.forms.specs.declared.Kind.the-variants.{Opening, Category, Attribute, Schedule, Other}
+use Rattle.forms.specs.declared.Kind.the-variants.{Opening, Frequency, Category, Attribute, Schedule, Other}
 use Rattle.forms.specs.declared.Form.{Form}
 use Rattle.forms.specs.declared.Form.the-variants.{Fits, Broken}
 use Rattle.forms.specs.declared.LineKind.{LineKind}
@@ -66,6 +66,7 @@ flatKind Opening = 1
 flatKind Category = 2
 flatKind Attribute = 3
 flatKind Schedule = 4
+flatKind Frequency = 5
 flatKind Other = 0
 
 -- 0, or the broken column
@@ -79,7 +80,7 @@ flatForm (Broken c) = c
 abbrev pub classOf : ℕ → ℕ → Class
 classOf k m = cond (eqb k 0) Digit (cond (eqb k 1) Hex (cond (eqb k 2) Filled (Byte m)))
 
--- line kind k, in the order of the paper's table
+-- line kind k, in the order of the paper's table; 8 is *T
 abbrev pub lineKind : ℕ → LineKind
 lineKind k =
     cond (eqb k 0) K.Date
@@ -89,4 +90,5 @@ lineKind k =
     (cond (eqb k 4) K.Opening
     (cond (eqb k 5) K.Category
     (cond (eqb k 6) K.Attribute
-    K.Schedule))))))
+    (cond (eqb k 8) K.Frequency
+    K.Schedule)))))))

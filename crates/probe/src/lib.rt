@@ -139,7 +139,7 @@ pub extern "C" fn probe_kind(line: &[u8]) -> u32
     flat_kind(forms::kind_of(line))
 }
 
-// The form of line kind k: 0 a date, 1 a bit field, 2 a stop, 3 an interchange record, 4 *Z, 5 *G, 6 *A, else a call.
+// The form of line kind k: 0 a date, 1 a bit field, 2 a stop, 3 an interchange record, 4 *Z, 5 *G, 6 *A, 8 *T, else a call.
 #[no_mangle]
 pub extern "C" fn probe_form(line: &[u8], k: u32) -> usize
     ensures { λ r. ⌜ r ≡ flatForm (formOf (columnsOf (lineKind k)) (now (line .entry))) ⌝ }
@@ -339,6 +339,7 @@ fn flat_kind(k: Kind) -> u32
         Kind::Category => 2,
         Kind::Attribute => 3,
         Kind::Schedule => 4,
+        Kind::Frequency => 5,
         Kind::Other => 0,
     }
 }
@@ -392,6 +393,7 @@ fn kind_by(k: u32) -> LineKind
         4 => LineKind::Opening,
         5 => LineKind::Category,
         6 => LineKind::Attribute,
+        8 => LineKind::Frequency,
         _ => LineKind::Schedule,
     }
 }

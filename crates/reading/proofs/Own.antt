@@ -14,10 +14,10 @@ use Rattle.timetable.specs.Files.{hasField, hasStop}
 use Rattle.timetable.specs.Legs.{fieldKnown}
 use Rattle.timetable.specs.Checks.{most}
 use Rattle.timetable.specs.declared.CallLine.{CallLine}
-use Rattle.timetable.specs.declared.Opening.{Opening}
 use Rattle.timetable.specs.declared.Part.{Part}
 use Rattle.timetable.specs.declared.Part.the-variants.{Category, Days, Extra}
 use Rattle.timetable.specs.declared.RangeLine.{RangeLine}
+use Rattle.timetable.specs.declared.Opening.{Opening}
 use Rattle.timetable.specs.declared.Told.{Told}
 use Rattle.timetable.specs.declared.Told.the-variants.{Skip, Other, Broken, Opens, Ranges, Calls}
 use Rattle.timetable.specs.declared.Verdict.{Verdict}
@@ -102,13 +102,13 @@ module _ (fields : List BitField) (stops : List StopRecord) (k : Counts) (line :
   pub after-call : (c : CallLine) → x ≡ Calls c → v ≡ verdictBy (callAfter stops k line (c .stop)) → v ≡ verdictBy (offenceAfter fields stops k line x)
   after-call c e o = rw e o
 
+pub after-opens : (fields : List BitField) (stops : List StopRecord) (k : Counts) (line : ℕ) (x : Told) (o : Opening) → x ≡ Opens o → Fine ≡ verdictBy (offenceAfter fields stops k line x)
+after-opens fields stops k line x o e = rw e refl
+
 pub after-broken : (fields : List BitField) (stops : List StopRecord) (k : Counts) (line : ℕ) (x : Told) (c : ℕ) → x ≡ Broken c → Offends (record { number = 4; line = line; column = c }) ≡ verdictBy (offenceAfter fields stops k line x)
 after-broken fields stops k line x c e = rw e refl
 
 pub after-skip : (fields : List BitField) (stops : List StopRecord) (k : Counts) (line : ℕ) (x : Told) → x ≡ Skip → Fine ≡ verdictBy (offenceAfter fields stops k line x)
 after-skip fields stops k line x e = rw e refl
-
-pub after-opens : (fields : List BitField) (stops : List StopRecord) (k : Counts) (line : ℕ) (x : Told) (o : Opening) → x ≡ Opens o → Fine ≡ verdictBy (offenceAfter fields stops k line x)
-after-opens fields stops k line x o e = rw e refl
 
 pub ruleset told = (tests, after-skip, after-opens, after-other, after-range, after-call, after-broken)

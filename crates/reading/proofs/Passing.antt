@@ -15,13 +15,13 @@ use Rattle.lines.specs.Lines.{Line, skipped, cutAt, linesAt}
 use Rattle.lines.specs.declared.Cut.{Cut}
 use Rattle.lines.proofs.Laws.{walk, Cutting, cutting}
 use Rattle.forms.specs.Form.{formOf}
-use Rattle.forms.specs.Columns.{serviceColumns}
+use Rattle.forms.specs.Columns.{serviceColumns, frequencyColumns}
 use Rattle.forms.specs.Kinds.{kindOf}
 use Rattle.forms.specs.declared.Form.{Form}
 use Rattle.forms.specs.declared.Form.the-variants.{Fits, Broken as BrokenForm}
 use Rattle.forms.specs.declared.Kind.{Kind}
-use Rattle.forms.specs.declared.Kind.the-variants.{Opening as OpeningKind, Category as CategoryKind, Attribute, Schedule, Other as OtherKind}
-use Rattle.timetable.specs.Plan.{openingIn, formed, toldBy, toldIn, isOpening, opens, tolds, asCall, asRange, asOpening, rangesOf, ofPart, partLines}
+use Rattle.forms.specs.declared.Kind.the-variants.{Opening as OpeningKind, Frequency, Category as CategoryKind, Attribute, Schedule, Other as OtherKind}
+use Rattle.timetable.specs.Plan.{openingIn, frequencyIn, formed, toldBy, toldIn, isOpening, opens, tolds, asCall, asRange, asOpening, rangesOf, ofPart, partLines}
 use Rattle.timetable.specs.Service.{headLines, blocks, firstLine, firstOpening, openingOf, callsOf, serviceOf}
 use Rattle.timetable.specs.declared.CallLine.{CallLine}
 use Rattle.timetable.specs.declared.Opening.{Opening}
@@ -86,12 +86,13 @@ pub record Reads (f : List ℕ) (at n : ℕ) (opening : Opening) (ls : List Line
   pub number : m ≤ e + 1
 
 -- a line that opens a service says no call and no range
+no-more : (f : Form) (o : Opening) → (asCall (formed f (Opens o)) ≡ []) × (asRange (formed f (Opens o)) ≡ [])
+no-more Fits o = (refl, refl)
+no-more (BrokenForm c) o = (refl, refl)
+
 says-no-more : (k : Kind) (text : List ℕ) → isOpening k ≡ true → (asCall (toldBy k text) ≡ []) × (asRange (toldBy k text) ≡ [])
-says-no-more OpeningKind text e = go (formOf serviceColumns text)
-  where
-    go : (f : Form) → (asCall (formed f (Opens (openingIn text))) ≡ []) × (asRange (formed f (Opens (openingIn text))) ≡ [])
-    go Fits = (refl, refl)
-    go (BrokenForm c) = (refl, refl)
+says-no-more OpeningKind text e = no-more (formOf serviceColumns text) (openingIn text)
+says-no-more Frequency text e = no-more (formOf frequencyColumns text) (frequencyIn text)
 says-no-more CategoryKind text e = clash e
 says-no-more Attribute text e = clash e
 says-no-more Schedule text e = clash e
@@ -110,7 +111,7 @@ draft-opening l calls ranges o c r = let s : (asCall (toldIn (l .text)) ≡ []) 
 
 -- ---- the needs of `opening_of`, for `search opening`
 
-pub no-opening : (t : Told) → OneOf (0 ∷ 1 ∷ 2 ∷ 4 ∷ 5 ∷ []) (tagOf the-type t) → record { number = 0; high = 0; low = 0; repeats = 0; offset = 0 } ≡ firstOpening (asOpening t)
+pub no-opening : (t : Told) → OneOf (0 ∷ 1 ∷ 2 ∷ 4 ∷ 5 ∷ []) (tagOf the-type t) → record { number = 0; high = 0; low = 0; repeats = 0; offset = 0; kind = 0 } ≡ firstOpening (asOpening t)
 no-opening Skip e = refl
 no-opening Other e = refl
 no-opening (Broken c) e = refl

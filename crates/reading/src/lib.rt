@@ -189,6 +189,7 @@ fn opening_of(said: Told) -> Opening
             low: 0,
             repeats: 0,
             offset: 0,
+            kind: 0,
         };
     };
     opening

@@ -70,7 +70,7 @@ head-tells : (s : Service) (t : List ℕ) → Tells s (serviceWords s ++ t)
 unfolding serviceWords
 head-tells s t = record { calls = refl; categories = refl; days = refl }
 
--- as many words as a service may take: 11 + 1400 + 150 + 150 + 400
+-- as many words as a service may take: 12 + 1400 + 150 + 150 + 400
 abbrev mostWords : ℕ
 mostWords = recordSize mostCalls mostCategories mostDays mostExtras
 

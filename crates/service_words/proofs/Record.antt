@@ -162,15 +162,15 @@ module _ (o : Opening) (line : ℕ) (cs : List Call) (rs : List RangeLine) where
 -- the needs of `service_into`
 pub ruleset services = (tests, room-body, room-head, body-fits, service-sizes, service-written)
 
--- ---- the eleven words of the head
+-- ---- the words of the head
 
 pub head-written : (t t₁ t₂ t₃ : List ℕ) (q : ℕ) (z : Sizes) (o : Opening) (line : ℕ) → q + serviceHead ≤ length t
     → t₁ ≡ write t q (z .words ∷ o .number ∷ o .high ∷ o .low ∷ []) → t₂ ≡ write t₁ (q + 4) (o .repeats ∷ o .offset ∷ z .calls ∷ z .categories ∷ [])
-    → t₃ ≡ write t₂ (q + 8) (z .«day_ranges» ∷ z .extras ∷ line ∷ []) → t₃ ≡ write t q (headBy z o line)
+    → t₃ ≡ write t₂ (q + 8) (z .«day_ranges» ∷ z .extras ∷ line ∷ o .kind ∷ []) → t₃ ≡ write t q (headBy z o line)
 head-written t t₁ t₂ t₃ q z o line h e₁ e₂ e₃ =
     let A : List ℕ = z .words ∷ o .number ∷ o .high ∷ o .low ∷ [] in
     let B : List ℕ = o .repeats ∷ o .offset ∷ z .calls ∷ z .categories ∷ [] in
-    let C : List ℕ = z .«day_ranges» ∷ z .extras ∷ line ∷ [] in
+    let C : List ℕ = z .«day_ranges» ∷ z .extras ∷ line ∷ o .kind ∷ [] in
     let two : t₂ ≡ write t q (A ++ B) = e₂ ∙ rw e₁ (write-write t q A B (omega arith)) in
     e₃ ∙ rw two (write-write t q (A ++ B) C (omega arith))
 

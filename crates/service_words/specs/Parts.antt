@@ -85,4 +85,4 @@ sizesOf s = record { calls = length (s .calls); categories = length (s .categori
 
 abbrev pub headBy : Sizes → Opening → ℕ → List ℕ
 headBy z o line =
-    z .words ∷ o .number ∷ o .high ∷ o .low ∷ o .repeats ∷ o .offset ∷ z .calls ∷ z .categories ∷ z .«day_ranges» ∷ z .extras ∷ line ∷ []
+    z .words ∷ o .number ∷ o .high ∷ o .low ∷ o .repeats ∷ o .offset ∷ z .calls ∷ z .categories ∷ z .«day_ranges» ∷ z .extras ∷ line ∷ o .kind ∷ []

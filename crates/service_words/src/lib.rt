@@ -40,7 +40,7 @@ struct RangeEnds {
     pub extras: usize,
 }
 
-// Writes the words of a service: what its *Z line says, that line's number, its calls and its ranges.
+// Writes the words of a service: what its opening line says, that line's number, its calls and its ranges.
 pub fn service_into(
     opening: Opening,
     line: u32,
@@ -61,7 +61,7 @@ pub fn service_into(
     sizes
 }
 
-// Writes the eleven words at the front of a service.
+// Writes the words at the front of a service.
 fn head_into(table: &mut [u32], at: usize, sizes: Sizes, opening: Opening, line: u32)
     requires { ⌜ at + serviceHead ≤ length (now table) ⌝ }
     ensures { λ _. ⌜ now (table .exit) ≡ write (now (table .entry)) at (headBy sizes opening line) ⌝ }
@@ -82,12 +82,13 @@ fn head_into(table: &mut [u32], at: usize, sizes: Sizes, opening: Opening, line:
         sizes.calls,
         sizes.categories,
     );
-    words::put3(
+    words::put4(
         table,
         at + timetable::DAYS_AT,
         sizes.day_ranges,
         sizes.extras,
         line,
+        opening.kind,
     );
 }
 

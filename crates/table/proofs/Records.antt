@@ -11,8 +11,10 @@ use lib.Dec.{leb, eqb}
 use borrow.Author.Tests.{le-leb, lt-leb, eq-eqb, ne-eqb, not-true, not-false}
 use Rattle.base.specs.Lists.{every}
 use Rattle.base.proofs.Laws.{tests, by-eqb}
-use Rattle.timetable.specs.Layout.{callSize}
-use Rattle.timetable.specs.Table.{word, rowsIn, callAt, legsAt, categoryPlace, dayPlace, extraPlace, serviceAt, used, callSound, legsSound, serviceSound, countsSound, sizesSound, recordSound, recordsSound, isTable}
+use Rattle.timetable.specs.Layout.{serviceHead, callSize}
+use Rattle.timetable.specs.Runs.{openingSound}
+use Rattle.timetable.specs.Table.{word, rowsIn, openingAt, callAt, legsAt, categoryPlace, dayPlace, extraPlace, serviceAt, used, callSound, legsSound, serviceSound, countsSound, sizesSound, recordSound, recordsSound, isTable}
+use Rattle.timetable.specs.declared.Opening.{Opening}
 use Rattle.table.specs.JustTable.{recordEnd, headerSound}
 use Rattle.table.proofs.Says.{Sizes, sizes-say, record-says, service-parts, HeadOf, head-says, table-says}
 
@@ -26,31 +28,31 @@ module _ (w : List ℕ) (said y : ℕ) (a : said ≡ getD w 0 0) (b : y ≡ reco
   length-end d = rw (← a, ← b, eq-eqb said y d)
 
 -- its sizes; x says whether its counts are in their bounds, y whether its length is right
-module _ (w : List ℕ) (h : 11 ≤ length w) (x : Bool) (e : x ≡ countsSound (getD w 6 0) (getD w 7 0) (getD w 8 0) (getD w 9 0)) where
+module _ (w : List ℕ) (h : serviceHead ≤ length w) (x : Bool) (e : x ≡ countsSound (getD w 6 0) (getD w 7 0) (getD w 8 0) (getD w 9 0)) where
   pub sizes-counts : not x ≡ true → false ≡ sizesSound w
-  sizes-counts n = rw (le-leb 11 (length w) h, sym e ∙ not-true x n)
+  sizes-counts n = rw (le-leb serviceHead (length w) h, sym e ∙ not-true x n)
 
   pub sizes-length : not x ≡ false → (y : Bool) → y ≡ (eqb (word w 0) (recordEnd w) && leb (word w 0) (length w)) → y ≡ sizesSound w
-  sizes-length n y f = f ∙ rw (le-leb 11 (length w) h, sym e ∙ not-false x n)
+  sizes-length n y f = f ∙ rw (le-leb serviceHead (length w) h, sym e ∙ not-false x n)
 
 pub ruleset sizes = (tests, length-differs, length-end, sizes-counts, sizes-length)
 
--- ---- what a record holds: x, y, z say whether its calls, its *G from g on and its *A VE from v on are sound
+-- ---- what a record holds: t says whether its opening line o is sound, x, y, z say whether its calls, its *G from g on and its *A VE from v on are sound
 
-pub parts-repeats : (w : List ℕ) → 999 < getD w 4 0 → false ≡ serviceSound (serviceAt w)
-parts-repeats w h = sym (service-parts w ∙ rw (lt-leb (getD w 4 0) 999 h))
+module _ (w : List ℕ) (o : Opening) (a : o ≡ openingAt w) (t : Bool) (b : t ≡ openingSound o) where
+  opening-is : t ≡ openingSound (openingAt w)
+  opening-is = b ∙ ap openingSound a
 
-module _ (w : List ℕ) (a : getD w 4 0 ≤ 999) where
-  pub parts-offset : 999 < getD w 5 0 → false ≡ serviceSound (serviceAt w)
-  parts-offset h = sym (service-parts w ∙ rw (le-leb (getD w 4 0) 999 a, lt-leb (getD w 5 0) 999 h))
+  pub parts-opening : not t ≡ true → false ≡ serviceSound (serviceAt w)
+  parts-opening h = sym (service-parts w ∙ rw (sym opening-is ∙ not-true t h))
 
-  module _ (b : getD w 5 0 ≤ 999) (x : Bool) (e : x ≡ every callSound (rowsIn callAt callSize (getD w 6 0) (drop 11 w))) where
+  module _ (h : not t ≡ false) (x : Bool) (e : x ≡ every callSound (rowsIn callAt callSize (getD w 6 0) (drop serviceHead w))) where
     pub parts-calls : not x ≡ true → false ≡ serviceSound (serviceAt w)
-    parts-calls n = sym (service-parts w ∙ rw (le-leb (getD w 4 0) 999 a, le-leb (getD w 5 0) 999 b, sym e ∙ not-true x n))
+    parts-calls n = sym (service-parts w ∙ rw (sym opening-is ∙ not-false t h, sym e ∙ not-true x n))
 
     module _ (n : not x ≡ false) (g : ℕ) (i : g ≡ categoryPlace w) (y : Bool) (f : y ≡ every (legsSound false (getD w 6 0)) (rowsIn (legsAt 1) 3 (getD w 7 0) (drop g w))) where
       after-calls : serviceSound (serviceAt w) ≡ (y && (every (legsSound false (getD w 6 0)) (rowsIn (legsAt 1) 3 (getD w 8 0) (drop (dayPlace w) w)) && every (legsSound true (getD w 6 0)) (rowsIn (legsAt 2) 4 (getD w 9 0) (drop (extraPlace w) w))))
-      after-calls = service-parts w ∙ rw (le-leb (getD w 4 0) 999 a, le-leb (getD w 5 0) 999 b, sym e ∙ not-false x n, f, i)
+      after-calls = service-parts w ∙ rw (sym opening-is ∙ not-false t h, sym e ∙ not-false x n, f, i)
 
       pub parts-categories : not y ≡ true → false ≡ serviceSound (serviceAt w)
       parts-categories m = sym (after-calls ∙ rw (not-true y m))
@@ -65,7 +67,7 @@ module _ (w : List ℕ) (a : getD w 4 0 ≤ 999) where
         pub parts-extras : not z ≡ false → (p : ℕ) → p ≡ extraPlace w → (r : Bool) → r ≡ every (legsSound true (getD w 6 0)) (rowsIn (legsAt 2) 4 (getD w 9 0) (drop p w)) → r ≡ serviceSound (serviceAt w)
         parts-extras o p l r q = sym (after-categories ∙ rw (not-false z o, q, l))
 
-pub ruleset parts = (tests, parts-repeats, parts-offset, parts-calls, parts-categories, parts-days, parts-extras)
+pub ruleset parts = (tests, parts-opening, parts-calls, parts-categories, parts-days, parts-extras)
 
 -- ---- one record; x says whether its sizes are sound
 

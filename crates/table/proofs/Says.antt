@@ -1,5 +1,5 @@
 -- What the table's tests say, as facts: `table-says` of the header, `record-says` of a record at the front of the words (its counts, where it ends,
--- its repeats and offset, its calls), `call-sound` of the i-th of its calls, `call-says` of one. Assumes nothing.
+-- its opening line, its calls), `call-sound` of the i-th of its calls, `call-says` of one. Assumes nothing.
 use mathlib.Core.Path.{_≡_, _∙_, sym}
 use mathlib.Core.List.{List}
 use mathlib.Core.Bool.{true, false, _&&_}
@@ -12,9 +12,10 @@ use borrow.Author.Tests.{leb-true, eqb-true}
 use Rattle.base.specs.Lists.{every}
 use Rattle.base.proofs.Loops.{and-true}
 use Rattle.calendar.specs.Calendar.{lastDay}
-use Rattle.timetable.specs.Layout.{callSize, firstService}
+use Rattle.timetable.specs.Layout.{serviceHead, callSize, firstService}
 use Rattle.timetable.specs.Delivery.{CategoryRange, DayRange, ExtraRange}
-use Rattle.timetable.specs.Table.{word, rowsIn, callAt, legsAt, categoryAt, dayAt, extraAt, calls#, categories#, days#, extras#, categoryPlace, dayPlace, extraPlace, serviceAt, used, callSound, legsSound, serviceSound, countsSound, sizesSound, recordSound, recordsSound, headSound, isTable}
+use Rattle.timetable.specs.Runs.{openingSound}
+use Rattle.timetable.specs.Table.{word, rowsIn, openingAt, callAt, legsAt, categoryAt, dayAt, extraAt, calls#, categories#, days#, extras#, categoryPlace, dayPlace, extraPlace, serviceAt, used, callSound, legsSound, serviceSound, countsSound, sizesSound, recordSound, recordsSound, headSound, isTable}
 use Rattle.timetable.specs.declared.Call.{Call}
 use Rattle.timetable.proofs.Rows.{length-rows, rows-as, every-row}
 use Rattle.table.specs.JustTable.{recordEnd}
@@ -22,7 +23,7 @@ use Rattle.table.specs.JustTable.{recordEnd}
 -- ---- a record at the front of the words
 
 pub record Sizes (w : List ℕ) : Type 0 where
-  pub head : 11 ≤ length w
+  pub head : serviceHead ≤ length w
   pub calls-low : 2 ≤ calls# w
   pub calls-high : calls# w ≤ 200
   pub days-high : days# w ≤ 50
@@ -31,7 +32,7 @@ pub record Sizes (w : List ℕ) : Type 0 where
 
 pub sizes-say : (w : List ℕ) → sizesSound w ≡ true → Sizes w
 sizes-say w e =
-    let (h, e1) = and-true (leb 11 (length w)) _ e in
+    let (h, e1) = and-true (leb serviceHead (length w)) _ e in
     let (counts, e2) = and-true (countsSound (calls# w) (categories# w) (days# w) (extras# w)) _ e1 in
     let (said, room) = and-true (eqb (word w 0) (recordEnd w)) _ e2 in
     let (c2, r1) = and-true (leb 2 (calls# w)) _ counts in
@@ -39,7 +40,7 @@ sizes-say w e =
     let r3 = and-true (leb (categories# w) 50) _ r2 .1 in
     let v = and-true (leb (days# w) 50) _ r3 .0 in
     record {
-      head = leb-true 11 (length w) h;
+      head = leb-true serviceHead (length w) h;
       calls-low = leb-true 2 (calls# w) c2;
       calls-high = leb-true (calls# w) 200 c200;
       days-high = leb-true (days# w) 50 v;
@@ -48,23 +49,21 @@ sizes-say w e =
     }
 
 -- what it holds, read by its sections
-pub service-parts : (w : List ℕ) → serviceSound (serviceAt w) ≡ (leb (word w 4) 999 && (leb (word w 5) 999 && (every callSound (rowsIn callAt callSize (calls# w) (drop 11 w)) && (every (legsSound false (calls# w)) (rowsIn (legsAt 1) 3 (categories# w) (drop (categoryPlace w) w)) && (every (legsSound false (calls# w)) (rowsIn (legsAt 1) 3 (days# w) (drop (dayPlace w) w)) && every (legsSound true (calls# w)) (rowsIn (legsAt 2) 4 (extras# w) (drop (extraPlace w) w)))))))
+pub service-parts : (w : List ℕ) → serviceSound (serviceAt w) ≡ (openingSound (openingAt w) && (every callSound (rowsIn callAt callSize (calls# w) (drop serviceHead w)) && (every (legsSound false (calls# w)) (rowsIn (legsAt 1) 3 (categories# w) (drop (categoryPlace w) w)) && (every (legsSound false (calls# w)) (rowsIn (legsAt 1) 3 (days# w) (drop (dayPlace w) w)) && every (legsSound true (calls# w)) (rowsIn (legsAt 2) 4 (extras# w) (drop (extraPlace w) w))))))
 unfolding serviceAt
 service-parts w =
     let c = calls# w in
-    rw (length-rows callAt callSize c (drop 11 w), rows-as (legsSound false c) (λ (r : CategoryRange). r .legs) categoryAt 3 (categories# w) (drop (categoryPlace w) w), rows-as (legsSound false c) (λ (r : DayRange). r .legs) dayAt 3 (days# w) (drop (dayPlace w) w), rows-as (legsSound true c) (λ (r : ExtraRange). r .legs) extraAt 4 (extras# w) (drop (extraPlace w) w))
+    rw (length-rows callAt callSize c (drop serviceHead w), rows-as (legsSound false c) (λ (r : CategoryRange). r .legs) categoryAt 3 (categories# w) (drop (categoryPlace w) w), rows-as (legsSound false c) (λ (r : DayRange). r .legs) dayAt 3 (days# w) (drop (dayPlace w) w), rows-as (legsSound true c) (λ (r : ExtraRange). r .legs) extraAt 4 (extras# w) (drop (extraPlace w) w))
 
 pub record Bounds (w : List ℕ) : Type 0 where
-  pub repeats : word w 4 ≤ 999
-  pub offset : word w 5 ≤ 999
-  pub calls : every callSound (rowsIn callAt callSize (calls# w) (drop 11 w)) ≡ true
+  pub opening : openingSound (openingAt w) ≡ true
+  pub calls : every callSound (rowsIn callAt callSize (calls# w) (drop serviceHead w)) ≡ true
 
 pub service-says : (w : List ℕ) → serviceSound (serviceAt w) ≡ true → Bounds w
 service-says w e =
-    let (r, e1) = and-true (leb (word w 4) 999) _ (sym (service-parts w) ∙ e) in
-    let (o, e2) = and-true (leb (word w 5) 999) _ e1 in
-    let cs = and-true (every callSound (rowsIn callAt callSize (calls# w) (drop 11 w))) _ e2 .0 in
-    record { repeats = leb-true (word w 4) 999 r; offset = leb-true (word w 5) 999 o; calls = cs }
+    let (o, e2) = and-true (openingSound (openingAt w)) _ (sym (service-parts w) ∙ e) in
+    let cs = and-true (every callSound (rowsIn callAt callSize (calls# w) (drop serviceHead w))) _ e2 .0 in
+    record { opening = o; calls = cs }
 
 pub record-says : (w : List ℕ) → recordSound w ≡ true → Sizes w × Bounds w
 unfolding recordSound
@@ -74,11 +73,11 @@ record-says w e =
 
 -- the i-th of its calls: it is within the words, and sound
 module _ (w : List ℕ) (e : recordSound w ≡ true) (i : ℕ) where
-  pub call-inside : i < calls# w → 11 + callSize * i + callSize ≤ length w
+  pub call-inside : i < calls# w → serviceHead + callSize * i + callSize ≤ length w
   call-inside h = omega (arith, record-says w e .0 .inside)
 
-  pub call-sound : i < calls# w → callSound (callAt (drop (11 + callSize * i) w)) ≡ true
-  call-sound h = rw (drop-drop (callSize * i) 11 w) at (every-row callSound callAt callSize (calls# w) i (drop 11 w) (record-says w e .1 .calls) h)
+  pub call-sound : i < calls# w → callSound (callAt (drop (serviceHead + callSize * i) w)) ≡ true
+  call-sound h = rw (drop-drop (callSize * i) serviceHead w) at (every-row callSound callAt callSize (calls# w) i (drop serviceHead w) (record-says w e .1 .calls) h)
 
 -- what a sound call says
 pub call-says : (c : Call) → callSound c ≡ true → (c .arrival ≤ 59999) × (c .departure ≤ 59999) × (c .flags ≤ 15)

@@ -15,16 +15,20 @@ use timetable::EXTRAS_AT;
 use timetable::FIRST_DAY_AT;
 use timetable::FIRST_SERVICE_AT;
 use timetable::HEADER_WORDS;
+use timetable::HIGH_AT;
 use timetable::INTERCHANGE_WORDS;
 use timetable::INTERCHANGES_AT;
+use timetable::KIND_AT;
 use timetable::LATEST_TIME;
+use timetable::LOW_AT;
 use timetable::MOST_CALLS;
 use timetable::MOST_CATEGORIES;
 use timetable::MOST_DAYS;
 use timetable::MOST_EXTRAS;
 use timetable::MOST_PERIOD_DAYS;
-use timetable::MOST_REPEATS;
+use timetable::NUMBER_AT;
 use timetable::OFFSET_AT;
+use timetable::Opening;
 use timetable::PERIOD_DAYS_AT;
 use timetable::REPEATS_AT;
 use timetable::SERVICE_WORDS;
@@ -40,7 +44,7 @@ ghost use lib.ListN.{length, drop};
 ghost use lib.Dec.{leb, eqb};
 ghost use Rattle.base.specs.Lists.{every};
 ghost use Rattle.timetable.specs.Layout.{headerSize, serviceHead, callSize, recordSize, firstService};
-ghost use Rattle.timetable.specs.Table.{recordWords, rowsIn, legsAt, callAt, serviceAt, categoryPlace, dayPlace, extraPlace, used, callSound, legsSound, serviceSound, countsSound, sizesSound, recordSound, recordsSound, headSound, isTable};
+ghost use Rattle.timetable.specs.Table.{recordWords, rowsIn, legsAt, callAt, openingAt, serviceAt, categoryPlace, dayPlace, extraPlace, used, callSound, legsSound, serviceSound, countsSound, sizesSound, recordSound, recordsSound, headSound, isTable};
 ghost use Rattle.table.specs.JustTable.{recordEnd, headerSound};
 
 // The day after 31.12.2199.
@@ -245,10 +249,7 @@ fn service_sound(w: &[u32]) -> bool
     requires { ⌜ recordEnd (now w) ≤ length (now w) ⌝ }
     ensures { λ r. ⌜ r ≡ serviceSound (serviceAt (now (w .entry))) ⌝ }
 {
-    if MOST_REPEATS < w[REPEATS_AT] {
-        return false;
-    }
-    if MOST_REPEATS < w[OFFSET_AT] {
+    if !runs::opening_sound(opening_at(w)) {
         return false;
     }
     let c = w[CALLS_AT];
@@ -288,6 +289,21 @@ fn extra_place(w: &[u32]) -> usize
     ensures { λ r. ⌜ r ≡ extraPlace (now (w .entry)) ⌝ }
 {
     day_place(w) + DAYS_WORDS * size(w[DAYS_AT])
+}
+
+// What its opening line says.
+pub fn opening_at(w: &[u32]) -> Opening
+    requires { ⌜ serviceHead ≤ length (now w) ⌝ }
+    ensures { λ r. ⌜ r ≡ openingAt (now (w .entry)) ⌝ }
+{
+    Opening {
+        number: w[NUMBER_AT],
+        high: w[HIGH_AT],
+        low: w[LOW_AT],
+        repeats: w[REPEATS_AT],
+        offset: w[OFFSET_AT],
+        kind: w[KIND_AT],
+    }
 }
 
 // The call at a place.

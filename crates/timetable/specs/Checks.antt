@@ -106,9 +106,9 @@ abbrev pub torn : List BitField → ℕ → Service → Bool
 torn fields n s = some-of (λ (d : ℕ). leb 2 (stretches false (operatedLegs fields s d))) (below n)
 
 -- ---- "For a service 14, 15, 16 (each by line), 17, 18, 19."
--- "14 under two calls". 14 and 17 to 19 stand at the *Z line, 15 at the call's, 16 at the range's.
+-- "14 under two calls". 14 and 17 to 19 stand at the *Z line (document 02, No. 8: it "may be a *T's"), 15 at the call's, 16 at the range's.
 
--- 17, 18 and 19 of a service whose *Z line has that number
+-- 17, 18 and 19 of a service whose opening line has that number
 abbrev pub legsFirst : List BitField → ℕ → ℕ → Service → Option Offence
 legsFirst fields n line s =
     given (not (eachOnce (λ (r : CategoryRange). r .legs) (legCount s) (s .categories))) 17 line
@@ -122,7 +122,7 @@ serviceChecks fields n ls =
     <|> endsFirst (callsOf ls) (saidOn asRange ls)
     <|> legsFirst fields n (firstLine ls .no) (serviceOf ls)
 
--- "12 not *Z, and no *Z yet"
+-- document 02, No. 8: "12 now reads "neither *Z nor *T, and neither yet"". It replaces document 01's "12 not *Z, and no *Z yet".
 abbrev pub headFirst : List Line → Option Offence
 headFirst ls = first (λ before l. given (not (skipped (l .text))) 12 (l .no)) [] (headLines ls)
 

@@ -59,7 +59,7 @@ pub record ExtraRange : Type 0 where
   pub field : ℕ
   pub legs : Legs
 
--- a service: its *Z line's number and content, its calls, and its ranges, each kind in line order
+-- a service: its opening line's number and content, its calls, and its ranges, each kind in line order
 pub record Service : Type 0 where
   pub line : ℕ
   pub opening : Opening

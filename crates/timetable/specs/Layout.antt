@@ -20,9 +20,9 @@ stopSize = 3
 abbrev pub interchangeSize : ℕ
 interchangeSize = 3
 
--- "Service: .. 11 words."
+-- "Service: .. 11 words."; document 02, No. 8: "A service record gains a twelfth word, its kind"
 abbrev pub serviceHead : ℕ
-serviceHead = 11
+serviceHead = 12
 
 -- document 02, No. 5: "Each call grows from 4 to 7 words". It replaces document 01's "calls of 4".
 abbrev pub callSize : ℕ
@@ -52,13 +52,21 @@ abbrev pub helperLine : ℕ
 helperLine = 4
 
 -- the words of a service with c calls, g *G, v *A VE and a other *A: "11 + 4c + 3g + 3v + 4a"; by document 02's No. 5, "the counts in 21 and 29
--- follow": 11 + 7c + 3g + 3v + 4a
+-- follow": 11 + 7c + 3g + 3v + 4a; by its No. 8 a twelfth word: 12 + 7c + 3g + 3v + 4a
 abbrev pub recordSize : ℕ → ℕ → ℕ → ℕ → ℕ
 recordSize c g v a = serviceHead + callSize * c + categorySize * g + daySize * v + extraSize * a
 
 -- the place of the first service: "8 + 13B + 3S + 3U"
 abbrev pub firstService : ℕ → ℕ → ℕ → ℕ
 firstService b s u = headerSize + bitFieldSize * b + stopSize * s + interchangeSize * u
+
+-- ---- kinds of services. No. 8: "its kind (0 for *Z, 1 for *T, ..)"
+
+abbrev pub kindZ : ℕ
+kindZ = 0
+
+abbrev pub kindT : ℕ
+kindT = 1
 
 -- ---- limits
 
@@ -87,6 +95,10 @@ mostExtras = 100
 abbrev pub mostRepeats : ℕ
 mostRepeats = 999
 
+-- No. 8: "21 allows 9,999 there": the limit of a *T's running time and density
+abbrev pub mostRunning : ℕ
+mostRunning = 9999
+
 -- "a time over 59,999"
 abbrev pub latestTime : ℕ
 latestTime = 59999
@@ -95,6 +107,6 @@ latestTime = 59999
 abbrev pub allFlags : ℕ
 allFlags = 15
 
--- how late a repeat may be, for contracts of inner functions only: `mostRepeats` times `mostRepeats`
+-- how late a run may be, for contracts of inner functions only: `mostRepeats` times `mostRepeats` (a *T's runs are less late)
 abbrev pub mostDelay : ℕ
 mostDelay = 998001

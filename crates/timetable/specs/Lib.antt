@@ -7,6 +7,7 @@ pub mod Ranges
 pub mod Service
 pub mod Legs
 pub mod Checks
+pub mod Runs
 pub mod Table
 pub mod Load
 pub mod Questions

@@ -12,10 +12,11 @@ use Rattle.fields.specs.declared.Time.the-variants.{Absent, Stated, NoTime}
 use Rattle.forms.specs.Form.{formOf}
 use Rattle.forms.specs.declared.Form.{Form}
 use Rattle.forms.specs.declared.Form.the-variants.{Fits, Broken as BrokenForm}
-use Rattle.forms.specs.Columns.{serviceColumns, categoryColumns, attributeColumns, callColumns}
+use Rattle.forms.specs.Columns.{serviceColumns, frequencyColumns, categoryColumns, attributeColumns, callColumns}
 use Rattle.forms.specs.Kinds.{kindOf}
 use Rattle.forms.specs.declared.Kind.{Kind}
-use Rattle.forms.specs.declared.Kind.the-variants.{Opening as OpeningKind, Category as CategoryKind, Attribute, Schedule, Other as OtherKind}
+use Rattle.forms.specs.declared.Kind.the-variants.{Opening as OpeningKind, Frequency, Category as CategoryKind, Attribute, Schedule, Other as OtherKind}
+use Rattle.timetable.specs.Layout.{kindZ, kindT}
 use Rattle.timetable.specs.declared.Opening.{Opening}
 use Rattle.timetable.specs.declared.CallLine.{CallLine}
 use Rattle.timetable.specs.declared.Part.{Part}
@@ -39,6 +40,19 @@ openingIn text = record {
   low = threeBytes 13 text;
   repeats = number (columns 23 25 text);
   offset = number (columns 27 29 text);
+  kind = kindZ;
+}
+
+-- document 02, No. 8: "*T (section 5.3.3): running time in minutes 17-20, density in seconds 22-25"; "for kind 1 the repeats word holds the running time and
+-- the offset word the density"
+abbrev pub frequencyIn : List ℕ → Opening
+frequencyIn text = record {
+  number = number (columns 4 8 text);
+  high = threeBytes 10 text;
+  low = threeBytes 13 text;
+  repeats = number (columns 17 20 text);
+  offset = number (columns 22 25 text);
+  kind = kindT;
 }
 
 -- "*G: 4-6 category .., 8-14 from, 16-22 to, 24-29 from-detail, 31-36 to-detail"
@@ -106,6 +120,7 @@ formed (BrokenForm c) t = Broken c
 
 abbrev pub toldBy : Kind → List ℕ → Told
 toldBy OpeningKind text = formed (formOf serviceColumns text) (Opens (openingIn text))
+toldBy Frequency text = formed (formOf frequencyColumns text) (Opens (frequencyIn text))
 toldBy CategoryKind text = formed (formOf categoryColumns text) (Ranges (categoryIn text))
 toldBy Attribute text = formed (formOf attributeColumns text) (Ranges (attributeIn text))
 toldBy Schedule text = formed (formOf callColumns text) (Calls (callIn text))
@@ -118,6 +133,7 @@ toldIn text = cond (skipped text) Skip (toldBy (kindOf text) text)
 -- whether a line opens a service, whatever its form
 abbrev pub isOpening : Kind → Bool
 isOpening OpeningKind = true
+isOpening Frequency = true
 isOpening CategoryKind = false
 isOpening Attribute = false
 isOpening Schedule = false

@@ -16,6 +16,7 @@ use Rattle.timetable.specs.Ranges.{hasArrival, hasDeparture}
 use Rattle.timetable.specs.Layout.{rowSize}
 use Rattle.timetable.specs.Legs.{fieldKnown, covers, covering, fieldRuns, stretches, legCount, operatedLegs}
 use Rattle.timetable.specs.Load.{onto}
+use Rattle.timetable.specs.Runs.{hasRun, lateness}
 use Rattle.timetable.specs.Table.{tableOf, isTable}
 use Rattle.timetable.specs.declared.Call.{Call}
 use Rattle.timetable.specs.declared.DayAnswer.{DayAnswer}
@@ -156,8 +157,8 @@ rowFlags n i f = cond (eqb i 0) 0 (f % 2 + f / 4 % 2 * 4) + cond (eqb i n) 0 (f 
 
 -- "Rows of 7: stop, arrival, departure (each plus repeat times offset), flags, category of the leaving leg, the stop's two interchange times.
 -- First row: arrival 0 .. Last: departure 0, .. category 0." Document 02, No. 5: "Rows grow to 10 in the same way": number and the two administration
--- words follow the flags; no row clears them. The i-th row of a stretch that begins at call a and has n legs; `delay` is repeat times offset. "The
--- date is that of the start; minutes may pass 1,440."
+-- words follow the flags; no row clears them. The i-th row of a stretch that begins at call a and has n legs; `delay` is how late the run
+-- is (`lateness`, "repeat times offset"). "The date is that of the start; minutes may pass 1,440."
 abbrev pub rowOf : Delivery → Service → ℕ → ℕ → ℕ → ℕ → Call → List ℕ
 rowOf d s a n delay i c =
     c .stop
@@ -195,11 +196,11 @@ abbrev pub onDay : Delivery → Service → ℕ → List Bool → Journey
 onDay d s delay bs =
     cond (eqb (stretches false bs) 0) idle (cond (leb 2 (stretches false bs)) (refused 35) (stretchJourney d s delay (stretchOf bs)))
 
--- "25 repeat number over repeats (0 is the run itself)"
+-- "25 repeat number over repeats (0 is the run itself)"; document 02, No. 8: "25 follows the rule above": a run that the service has not
 abbrev pub serviceJourney : Delivery → Service → ℕ → ℕ → Journey
 serviceJourney d s r k =
-    cond (ltb (s .opening .repeats) r) (refused 25)
-    (journeyBy (firstRefusal (legRefusal d s) (below (legCount s))) (onDay d s (r * s .opening .offset) (operatedLegs (d .fields) s k)))
+    cond (not (hasRun (s .opening) r)) (refused 25)
+    (journeyBy (firstRefusal (legRefusal d s) (below (legCount s))) (onDay d s (lateness (s .opening) r) (operatedLegs (d .fields) s k)))
 
 -- "24 service index not below V"
 abbrev pub indexed : Delivery → Option Service → ℕ → ℕ → Journey

@@ -21,28 +21,28 @@ unfoldable pub headLines : List Line → List Line
 headLines [] = []
 headLines (l ∷ ls) = cond (opens l) [] (l ∷ headLines ls)
 
--- the lines of each service: from a *Z line to the next
+-- the lines of each service: from a *Z line, or (document 02, No. 8) a *T line, to the next of either
 unfoldable pub blocks : List Line → List (List Line)
 blocks [] = []
 blocks (l ∷ ls) = cond (opens l) ((l ∷ headLines ls) ∷ blocks ls) (blocks ls)
 
--- a service's *Z line (a service always has one)
+-- the line that opens a service (a service always has one)
 abbrev pub firstLine : List Line → Line
 firstLine [] = record { no = 0; start = 0; text = [] }
 firstLine (l ∷ ls) = l
 
 -- what it says (where its form is broken the delivery is refused: 4)
 abbrev pub firstOpening : List Opening → Opening
-firstOpening [] = record { number = 0; high = 0; low = 0; repeats = 0; offset = 0 }
+firstOpening [] = record { number = 0; high = 0; low = 0; repeats = 0; offset = 0; kind = 0 }
 firstOpening (o ∷ os) = o
 
 abbrev pub openingOf : List Line → Opening
 openingOf ls = firstOpening (asOpening (toldIn (firstLine ls .text)))
 
 -- ---- document 02, No. 5: "Conductors announce the number that holds from a call on." "A blank field repeats the call before; the first call's
--- blanks take the *Z values."
+-- blanks take the *Z values." No. 8: "the *Z values of No. 5, may be a *T's".
 
--- the *Z values, and what holds at a call
+-- the opening line's values, and what holds at a call
 abbrev pub opened : Opening → Announced
 opened o = record { number = o .number; high = o .high; low = o .low }
 

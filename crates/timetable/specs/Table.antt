@@ -8,9 +8,10 @@ use lib.Dec.{ltb, leb, eqb}
 use Rattle.base.specs.Lists.{every, gathered}
 use Rattle.calendar.specs.Calendar.{lastDay}
 use Rattle.timetable.specs.Layout.{headerSize, bitFieldSize, stopSize, interchangeSize, serviceHead, callSize, categorySize, daySize, extraSize, recordSize, firstService}
-use Rattle.timetable.specs.Layout.{mostPeriodDays, mostCalls, mostCategories, mostDays, mostExtras, mostRepeats, latestTime, allFlags}
+use Rattle.timetable.specs.Layout.{mostPeriodDays, mostCalls, mostCategories, mostDays, mostExtras, latestTime, allFlags}
 use Rattle.timetable.specs.Delivery.{Period, BitField, StopRecord, Interchange, Legs, CategoryRange, DayRange, ExtraRange, Service, Delivery}
 use Rattle.timetable.specs.Ranges.{inOrder}
+use Rattle.timetable.specs.Runs.{openingSound}
 use Rattle.timetable.specs.declared.Call.{Call}
 use Rattle.timetable.specs.declared.Opening.{Opening}
 
@@ -43,11 +44,12 @@ extraWords r = r .code ∷ r .field ∷ r .legs .from ∷ r .legs .to ∷ []
 abbrev pub serviceSize : Service → ℕ
 serviceSize s = recordSize (length (s .calls)) (length (s .categories)) (length (s .days)) (length (s .extras))
 
--- "Service: its word count, number, administration .., repeats, offset, calls c, *G g, *A VE v, other a, *Z line: 11 words"
+-- "Service: its word count, number, administration .., repeats, offset, calls c, *G g, *A VE v, other a, *Z line: 11 words"; document 02, No. 8: "a
+-- twelfth word, its kind"
 abbrev pub headWords : Service → List ℕ
 headWords s =
     serviceSize s ∷ s .opening .number ∷ s .opening .high ∷ s .opening .low ∷ s .opening .repeats ∷ s .opening .offset
-    ∷ length (s .calls) ∷ length (s .categories) ∷ length (s .days) ∷ length (s .extras) ∷ s .line ∷ []
+    ∷ length (s .calls) ∷ length (s .categories) ∷ length (s .days) ∷ length (s .extras) ∷ s .line ∷ s .opening .kind ∷ []
 
 unfoldable pub serviceWords : Service → List ℕ
 serviceWords s =
@@ -137,10 +139,14 @@ dayPlace w = categoryPlace w + categorySize * categories# w
 abbrev pub extraPlace : List ℕ → ℕ
 extraPlace w = dayPlace w + daySize * days# w
 
+-- what its opening line says
+abbrev pub openingAt : List ℕ → Opening
+openingAt w = record { number = word w 1; high = word w 2; low = word w 3; repeats = word w 4; offset = word w 5; kind = word w 11 }
+
 unfoldable pub serviceAt : List ℕ → Service
 serviceAt w = record {
   line = word w 10;
-  opening = record { number = word w 1; high = word w 2; low = word w 3; repeats = word w 4; offset = word w 5 };
+  opening = openingAt w;
   calls = rowsIn callAt callSize (calls# w) (drop serviceHead w);
   categories = rowsIn categoryAt categorySize (categories# w) (drop (categoryPlace w) w);
   days = rowsIn dayAt daySize (days# w) (drop (dayPlace w) w);
@@ -200,21 +206,21 @@ callSound c = leb (c .arrival) latestTime && (leb (c .departure) latestTime && l
 abbrev pub legsSound : Bool → ℕ → Legs → Bool
 legsSound loose c g = inOrder loose (g .from) (g .to) && ltb (g .to) c
 
--- "repeats or offset over 999", and each call and range
+-- its opening line, and each call and range
 abbrev pub serviceSound : Service → Bool
 serviceSound s =
-    leb (s .opening .repeats) mostRepeats && (leb (s .opening .offset) mostRepeats
+    openingSound (s .opening)
     && (every callSound (s .calls)
     && (every (λ (r : CategoryRange). legsSound false (length (s .calls)) (r .legs)) (s .categories)
     && (every (λ (r : DayRange). legsSound false (length (s .calls)) (r .legs)) (s .days)
-    && every (λ (r : ExtraRange). legsSound true (length (s .calls)) (r .legs)) (s .extras)))))
+    && every (λ (r : ExtraRange). legsSound true (length (s .calls)) (r .legs)) (s .extras))))
 
 -- "c outside 2 to 200, g, v, a over 50, 50, 100"
 abbrev pub countsSound : ℕ → ℕ → ℕ → ℕ → Bool
 countsSound c g v a = leb 2 c && (leb c mostCalls && (leb g mostCategories && (leb v mostDays && leb a mostExtras)))
 
--- the record at the front of the words: 11 words, counts in their bounds, "a count differs from 11 + 4c + 3g + 3v + 4a" (with document 02's No. 5,
--- from 11 + 7c + 3g + 3v + 4a), and not past the words' end
+-- the record at the front of the words: its head, counts in their bounds, "a count differs from 11 + 4c + 3g + 3v + 4a" (with document 02's No. 5 and
+-- No. 8, from 12 + 7c + 3g + 3v + 4a), and not past the words' end
 abbrev pub sizesSound : List ℕ → Bool
 sizesSound w =
     leb serviceHead (length w) && (countsSound (calls# w) (categories# w) (days# w) (extras# w)

@@ -5,7 +5,7 @@ use mathlib.Core.List.{List, [], _∷_}
 abbrev pub trialWords : List ℕ
 trialWords =
     -- "Header: words used, first day, n, bit fields B, stops S, interchange records U, services V, place of first service."
-    78 ∷ 45990 ∷ 7 ∷ 1 ∷ 3 ∷ 1 ∷ 1 ∷ 33
+    79 ∷ 45990 ∷ 7 ∷ 1 ∷ 3 ∷ 1 ∷ 1 ∷ 33
     -- "per bit field 13 (number, 12 words)": FE600000 in hex, and zeros
     ∷ 1 ∷ 4267704320 ∷ 0 ∷ 0 ∷ 0 ∷ 0 ∷ 0 ∷ 0 ∷ 0 ∷ 0 ∷ 0 ∷ 0 ∷ 0
     -- "stop 3 (number, byte offset of column 13 in BAHNHOF from 0, name length without trailing blanks)": lines of 19 bytes with their LF
@@ -15,8 +15,8 @@ trialWords =
     -- "interchange 3 (number, two times)"
     ∷ 9999999 ∷ 2 ∷ 3
     -- "Service: its word count, number, administration (two words of three bytes, first byte highest), repeats, offset, calls c, *G g, *A VE v, other a,
-    -- *Z line": FER is 46 45 52 and RY_ 52 59 5F in hex
-    ∷ 45 ∷ 42 ∷ 4605266 ∷ 5396831 ∷ 0 ∷ 0 ∷ 4 ∷ 1 ∷ 1 ∷ 0 ∷ 1
+    -- *Z line", and No. 8's "twelfth word, its kind": FER is 46 45 52 and RY_ 52 59 5F in hex
+    ∷ 46 ∷ 42 ∷ 4605266 ∷ 5396831 ∷ 0 ∷ 0 ∷ 4 ∷ 1 ∷ 1 ∷ 0 ∷ 1 ∷ 0
     -- "calls of 4 (stop, arrival, departure, flags: 1 arrival, 2 departure, ..; absent time 0)": 00800 is 480; document 02, No. 5: "number and the two
     -- administration words follow the flags", all blank in the text, so they are the *Z values
     ∷ 1000011 ∷ 0 ∷ 480 ∷ 2 ∷ 42 ∷ 4605266 ∷ 5396831

@@ -7,18 +7,20 @@ ghost use mathlib.Core.List.{[], _∷_};
 ghost use mathlib.Core.Option.{some};
 ghost use Rattle.timetable.specs.Offences.{offenceAt, verdictBy};
 ghost use Rattle.timetable.specs.Layout.{headerSize, bitFieldSize, stopSize, interchangeSize, serviceHead, callSize, categorySize, daySize, extraSize, rowSize, helperHead, helperLine};
-ghost use Rattle.timetable.specs.Layout.{mostFileBytes, mostPeriodDays, mostCalls, mostCategories, mostDays, mostExtras, mostRepeats, latestTime, allFlags};
+ghost use Rattle.timetable.specs.Layout.{mostFileBytes, mostPeriodDays, mostCalls, mostCategories, mostDays, mostExtras, mostRepeats, mostRunning, latestTime, allFlags, kindZ, kindT};
 ghost use Rattle.timetable.specs.Ranges.{inOrder};
 
 // ---- what a line of FPLAN says
 
-// A *Z line: number, administration (two words of three bytes), repeats and offset.
+// A line that opens a service: number, administration (two words of three bytes), and its kind; of a *Z its repeats and offset in minutes, of a *T its
+// running time in minutes and its density in seconds, in their places.
 pub struct Opening {
     pub number: u32,
     pub high: u32,
     pub low: u32,
     pub repeats: u32,
     pub offset: u32,
+    pub kind: u32,
 }
 
 // A schedule line: stop, times, and flags (1 arrival stated, 2 departure stated, 4 no alighting, 8 no boarding); a number, where it says one, and an
@@ -181,7 +183,7 @@ pub const STOP_WORDS: usize = 3;
 
 pub const INTERCHANGE_WORDS: usize = 3;
 
-pub const SERVICE_WORDS: usize = 11;
+pub const SERVICE_WORDS: usize = 12;
 
 pub const CALL_WORDS: usize = 7;
 
@@ -223,6 +225,12 @@ pub const FIRST_SERVICE_AT: usize = 7;
 
 pub const SIZE_AT: usize = 0;
 
+pub const NUMBER_AT: usize = 1;
+
+pub const HIGH_AT: usize = 2;
+
+pub const LOW_AT: usize = 3;
+
 pub const REPEATS_AT: usize = 4;
 
 pub const OFFSET_AT: usize = 5;
@@ -234,6 +242,14 @@ pub const CATEGORIES_AT: usize = 7;
 pub const DAYS_AT: usize = 8;
 
 pub const EXTRAS_AT: usize = 9;
+
+pub const KIND_AT: usize = 11;
+
+// ---- the kinds of services
+
+pub const KIND_Z: u32 = 0;
+
+pub const KIND_T: u32 = 1;
 
 // ---- limits (specs/Layout; `limits_tied` ties the two)
 
@@ -254,6 +270,9 @@ pub const MOST_EXTRAS: u32 = 100;
 
 // Repeats and offset have three digits.
 pub const MOST_REPEATS: u32 = 999;
+
+// The running time and density of a *T have four digits.
+pub const MOST_RUNNING: u32 = 9999;
 
 // 999 hours and 59 minutes.
 pub const LATEST_TIME: u32 = 59999;
@@ -298,9 +317,9 @@ pub fn sizes_tied() -> [usize; 12]
     ]
 }
 
-// The limits, in the same way.
-pub fn limits_tied() -> [usize; 9]
-    ensures { λ r. ⌜ r ≡ mostFileBytes ∷ mostPeriodDays ∷ mostCalls ∷ mostCategories ∷ mostDays ∷ mostExtras ∷ mostRepeats ∷ latestTime ∷ allFlags ∷ [] ⌝ }
+// The limits and the kinds, in the same way.
+pub fn limits_tied() -> [usize; 12]
+    ensures { λ r. ⌜ r ≡ mostFileBytes ∷ mostPeriodDays ∷ mostCalls ∷ mostCategories ∷ mostDays ∷ mostExtras ∷ mostRepeats ∷ mostRunning ∷ latestTime ∷ allFlags ∷ kindZ ∷ kindT ∷ [] ⌝ }
 {
     [
         MOST_FILE_BYTES,
@@ -310,7 +329,10 @@ pub fn limits_tied() -> [usize; 9]
         MOST_DAYS as usize,
         MOST_EXTRAS as usize,
         MOST_REPEATS as usize,
+        MOST_RUNNING as usize,
         LATEST_TIME as usize,
         ALL_FLAGS as usize,
+        KIND_Z as usize,
+        KIND_T as usize,
     ]
 }

@@ -7,6 +7,8 @@ use forms::LineKind;
 use timetable::CallLine;
 use timetable::End;
 use timetable::Ends;
+use timetable::KIND_T;
+use timetable::KIND_Z;
 use timetable::Opening;
 use timetable::Part;
 use timetable::RangeLine;
@@ -20,9 +22,9 @@ ghost use Rattle.base.specs.Lists.{every};
 ghost use Rattle.columns.specs.Columns.{columns, column, isBlank, blank, isOf};
 ghost use Rattle.fields.specs.Fields.{time, clock};
 ghost use Rattle.forms.specs.Form.{formOf, isTime};
-ghost use Rattle.forms.specs.Columns.{serviceColumns, categoryColumns, attributeColumns, callColumns};
+ghost use Rattle.forms.specs.Columns.{serviceColumns, frequencyColumns, categoryColumns, attributeColumns, callColumns};
 ghost use Rattle.forms.specs.Kinds.{kindOf};
-ghost use Rattle.timetable.specs.Plan.{twoBytes, threeBytes, openingIn, categoryIn, attributePart, attributeIn, minutesOf, flagsOf, callIn, formed, toldBy, toldIn, isOpening};
+ghost use Rattle.timetable.specs.Plan.{twoBytes, threeBytes, openingIn, frequencyIn, categoryIn, attributePart, attributeIn, minutesOf, flagsOf, callIn, formed, toldBy, toldIn, isOpening};
 ghost use Rattle.timetable.specs.Layout.{mostFileBytes};
 ghost use Rattle.timetable.specs.declared.Told.the-variants.{Opens, Ranges, Calls};
 ghost use Rattle.told.specs.Marked.{openingFits, repeatsFit, blankToEnd, endsFit, detailsFit, detailFits, fieldFits};
@@ -54,6 +56,7 @@ fn told_by(kind: Kind, text: &[u8]) -> Told
 {
     match kind {
         Kind::Opening => opening_told(text),
+        Kind::Frequency => frequency_told(text),
         Kind::Category => category_told(text),
         Kind::Attribute => attribute_told(text),
         Kind::Schedule => call_told(text),
@@ -66,6 +69,7 @@ fn is_opening(kind: Kind) -> bool
 {
     match kind {
         Kind::Opening => true,
+        Kind::Frequency => true,
         Kind::Category => false,
         Kind::Attribute => false,
         Kind::Schedule => false,
@@ -151,6 +155,31 @@ fn opening_in(text: &[u8]) -> Opening
         low: three_bytes(text, 13),
         repeats: columns::number_in(text, 23, 25),
         offset: columns::number_in(text, 27, 29),
+        kind: KIND_Z,
+    }
+}
+
+// ---- *T
+
+fn frequency_told(text: &[u8]) -> Told
+    ensures { λ r. ⌜ r ≡ formed (formOf frequencyColumns (now (text .entry))) (Opens (frequencyIn (now (text .entry)))) ⌝ }
+{
+    match forms::line_form(LineKind::Frequency, text) {
+        Form::Fits => Told::Opens(frequency_in(text)),
+        Form::Broken(column) => Told::Broken(column),
+    }
+}
+
+fn frequency_in(text: &[u8]) -> Opening
+    ensures { λ r. ⌜ r ≡ frequencyIn (now (text .entry)) ⌝ }
+{
+    Opening {
+        number: columns::number_in(text, 4, 8),
+        high: three_bytes(text, 10),
+        low: three_bytes(text, 13),
+        repeats: columns::number_in(text, 17, 20),
+        offset: columns::number_in(text, 22, 25),
+        kind: KIND_T,
     }
 }
 

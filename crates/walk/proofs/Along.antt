@@ -3,15 +3,16 @@ use mathlib.Core.Path.{_≡_, refl, sym, ap, _∙_}
 use mathlib.Core.List.{List, [], _∷_}
 use mathlib.Core.Bool.{true}
 use Prim.Native.Nat.{ℕ, _+_, _*_, _/_, _^_, _≤_, _<_}
-use native.Mathlib.Nat.{mul-le-mul}
 use native.Mathlib.Omega.{arith}
 use lib.ListN.{length, getD, drop}
 use borrow.Author.Tests.{le-ltb, lt-ltb}
 use Rattle.base.proofs.Laws.{tests}
-use Rattle.timetable.specs.Layout.{serviceHead, callSize, rowSize, mostDelay, mostRepeats}
+use Rattle.timetable.specs.Layout.{serviceHead, callSize, rowSize}
 use Rattle.timetable.specs.Delivery.{Delivery}
 use Rattle.timetable.specs.Load.{onto}
-use Rattle.timetable.specs.Table.{callAt, serviceAt, recordSound}
+use Rattle.timetable.specs.Runs.{hasRun, lateness, openingSound}
+use Rattle.timetable.specs.Table.{callAt, openingAt, serviceAt, recordSound}
+use Rattle.timetable.specs.declared.Opening.{Opening}
 use Rattle.timetable.specs.Questions.{Journey, rows, rowsOf, walkedBy, rowsBy}
 use Rattle.timetable.specs.declared.Call.{Call}
 use Rattle.timetable.specs.declared.Walked.{Walked}
@@ -29,28 +30,22 @@ unfolding onto
 front-is t ws = write-front t ws
 
 module _ (s : List ℕ) where
-  repeats-are : serviceAt s .opening .repeats ≡ getD s 4 0
+  opening-is : serviceAt s .opening ≡ openingAt s
   unfolding serviceAt
-  repeats-are = refl
-
-  offset-are : serviceAt s .opening .offset ≡ getD s 5 0
-  unfolding serviceAt
-  offset-are = refl
+  opening-is = refl
 
   module _ (e : recordSound s ≡ true) where
-    pub offset-word : 5 < length s
-    offset-word = omega (arith, record-says s e .0 .head)
+    pub head-words : serviceHead ≤ length s
+    head-words = omega (arith, record-says s e .0 .head)
 
-    module _ (r : ℕ) (h : r ≤ serviceAt s .opening .repeats) where
-      pub delay-low : r * getD s 5 0 ≤ mostDelay
-      delay-low =
-          let a : r ≤ mostRepeats = omega (arith, record-says s e .1 .repeats, repeats-are) in
-          let m : r * getD s 5 0 ≤ mostRepeats * mostRepeats = mul-le-mul a (record-says s e .1 .offset) in
-          m
+    -- o is what its opening line says, as it was read
+    pub opening-sound : (o : Opening) → o ≡ openingAt s → openingSound o ≡ true
+    opening-sound o q = ap openingSound q ∙ record-says s e .1 .opening
 
-      pub delay-fits : r * getD s 5 0 < 2 ^ 32
-      delay-fits = omega (arith, delay-low)
+  pub run-read : (r : ℕ) → hasRun (openingAt s) r ≡ true → (o : Opening) → o ≡ openingAt s → hasRun o r ≡ true
+  run-read r h o q = ap (λ (p : Opening). hasRun p r) q ∙ h
 
+  module _ (e : recordSound s ≡ true) where
     -- no sum wraps
     module _ (a n : ℕ) (b : a + n < getD s 6 0) where
       pub rows-fit : n + 1 < 2 ^ 32
@@ -60,16 +55,16 @@ module _ (s : List ℕ) where
       needed-fits = omega (arith, record-says s e .0 .calls-high)
 
   module _ (d : Delivery) (r a n : ℕ) (b : a + n < getD s 6 0) where
-    stretch-rows : stretchWalk d (serviceAt s) r a n ≡ rows (rowsOf d (serviceAt s) a n (r * getD s 5 0) 0 (callsFrom s a (n + 1)))
+    stretch-rows : stretchWalk d (serviceAt s) r a n ≡ rows (rowsOf d (serviceAt s) a n (lateness (openingAt s) r) 0 (callsFrom s a (n + 1)))
     unfolding stretchWalk
-    stretch-rows = rw (offset-are, stretch-calls s a n b)
+    stretch-rows = rw (opening-is, stretch-calls s a n b)
 
-    length-from : (i : ℕ) (cs : List Call) → length (rowsOf d (serviceAt s) a n (r * getD s 5 0) i cs) ≡ rowSize * length cs
+    length-from : (i : ℕ) (cs : List Call) → length (rowsOf d (serviceAt s) a n (lateness (openingAt s) r) i cs) ≡ rowSize * length cs
     unfolding rowsOf
     length-from i [] = refl
     length-from i (c ∷ cs) = omega (arith, length-from (i + 1) cs)
 
-    length-listed : length (rowsOf d (serviceAt s) a n (r * getD s 5 0) 0 (callsFrom s a (n + 1))) ≡ rowSize * (n + 1)
+    length-listed : length (rowsOf d (serviceAt s) a n (lateness (openingAt s) r) 0 (callsFrom s a (n + 1))) ≡ rowSize * (n + 1)
     unfolding callsFrom
     length-listed = length-from 0 (callsFrom s a (n + 1)) ∙ ap (λ (m : ℕ). rowSize * m) (length-rows callAt callSize (n + 1) (drop (serviceHead + callSize * a) s))
 
@@ -89,7 +84,10 @@ module _ (s : List ℕ) where
           let m : rowSize * (n + 1) / rowSize ≡ n + 1 = omega arith in
           rw (stretch-rows, length-listed, le-ltb room (rowSize * (n + 1)) (omega arith), m)
 
-      pub stretch-written : (t u : List ℕ) → y ≤ length t → u ≡ write t 0 (rowsOf d (serviceAt s) a n (r * getD s 5 0) 0 (callsFrom s a (n + 1))) → u ≡ rowsBy (stretchWalk d (serviceAt s) r a n) t
-      stretch-written t u h f = rw (stretch-rows, length-listed, le-ltb (length t) (rowSize * (n + 1)) (omega arith)) (f ∙ front-is t (rowsOf d (serviceAt s) a n (r * getD s 5 0) 0 (callsFrom s a (n + 1))))
+      pub stretch-written : (t u : List ℕ) → y ≤ length t → (o : Opening) → o ≡ openingAt s → (late : ℕ) → late ≡ lateness o r
+          → u ≡ write t 0 (rowsOf d (serviceAt s) a n late 0 (callsFrom s a (n + 1))) → u ≡ rowsBy (stretchWalk d (serviceAt s) r a n) t
+      stretch-written t u h o p late l f =
+          let g : u ≡ write t 0 (rowsOf d (serviceAt s) a n (lateness (openingAt s) r) 0 (callsFrom s a (n + 1))) = rw (l, p) at f in
+          rw (stretch-rows, length-listed, le-ltb (length t) (rowSize * (n + 1)) (omega arith)) (g ∙ front-is t (rowsOf d (serviceAt s) a n (lateness (openingAt s) r) 0 (callsFrom s a (n + 1))))
 
-pub ruleset stretch = (tests, offset-word, delay-low, delay-fits, rows-fit, needed-fits, stretch-short, short-kept, stretch-room, stretch-listed, stretch-written)
+pub ruleset stretch = (tests, head-words, opening-sound, run-read, rows-fit, needed-fits, stretch-short, short-kept, stretch-room, stretch-listed, stretch-written)

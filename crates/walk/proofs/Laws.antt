@@ -8,7 +8,8 @@ use native.Mathlib.Omega.{arith}
 use lib.ListN.{getD, drop, getElem?}
 use Rattle.base.proofs.Laws.{tests, apart, by-leb}
 use Rattle.timetable.specs.Delivery.{Service, Delivery}
-use Rattle.timetable.specs.Table.{used, serviceAt, tableOf, recordSound}
+use Rattle.timetable.specs.Runs.{hasRun, lateness}
+use Rattle.timetable.specs.Table.{used, openingAt, serviceAt, tableOf, recordSound}
 use Rattle.timetable.specs.Questions.{Journey, refused, idle, datedJourney, journey, walkOf, walkedBy, rowsBy}
 use Rattle.timetable.specs.declared.Walked.{Walked}
 use Rattle.timetable.specs.declared.Walked.the-variants.{Refused, NotRunning}
@@ -47,12 +48,12 @@ module _ (d : Delivery) (i r k : ℕ) where
   barred-by : (o : Option Service) (number : ℕ) → getElem? (d .services) i ≡ o → indexedCourse d o r k ≡ Barred number → indexWalk d i r k ≡ refused number
   unfolding indexWalk
   barred-by none number q e = rw q (ap refused (ap numberOf e))
-  barred-by (some s) number q e = rw q (course-journey d s r k ∙ ap (rowsAlong d s (r * s .opening .offset)) e)
+  barred-by (some s) number q e = rw q (course-journey d s r k ∙ ap (rowsAlong d s (lateness (s .opening) r)) e)
 
   idle-by : (o : Option Service) → getElem? (d .services) i ≡ o → indexedCourse d o r k ≡ Idle → indexWalk d i r k ≡ idle
   unfolding indexWalk
   idle-by none q e = apart (cc)
-  idle-by (some s) q e = rw q (course-journey d s r k ∙ ap (rowsAlong d s (r * s .opening .offset)) e)
+  idle-by (some s) q e = rw q (course-journey d s r k ∙ ap (rowsAlong d s (lateness (s .opening) r)) e)
 
   module _ (c : Course) (e : c ≡ courseOf d i r k) where
     module _ (number : ℕ) (g : c ≡ Barred number) where
@@ -97,15 +98,16 @@ module _ (w : List ℕ) (h : JustTable w) (i r k a n : ℕ) (c : Course) (e : c 
     pub along-sound : recordSound s ≡ true
     along-sound = rw q (service-sound w h i along-index)
 
-    pub along-repeat : r ≤ serviceAt s .opening .repeats
-    along-repeat = along-within a n (tableOf w) (serviceAt s) r k course-is .0
+    pub along-run : hasRun (openingAt s) r ≡ true
+    unfolding serviceAt
+    along-run = along-within a n (tableOf w) (serviceAt s) r k course-is .0
 
     pub along-calls : a + n < getD s 6 0
     along-calls = omega (arith, along-within a n (tableOf w) (serviceAt s) r k course-is .1, legs-count s, record-says s along-sound .0 .calls-low)
 
     along-is : stretchWalk (tableOf w) (serviceAt s) r a n ≡ indexWalk (tableOf w) i r k
     unfolding indexWalk stretchWalk
-    along-is = sym (rw there (course-journey (tableOf w) (serviceAt s) r k ∙ ap (rowsAlong (tableOf w) (serviceAt s) (r * serviceAt s .opening .offset)) course-is))
+    along-is = sym (rw there (course-journey (tableOf w) (serviceAt s) r k ∙ ap (rowsAlong (tableOf w) (serviceAt s) (lateness (serviceAt s .opening) r)) course-is))
 
     pub along-answer : (room : ℕ) (x : Walked) → x ≡ walkedBy (stretchWalk (tableOf w) (serviceAt s) r a n) room → x ≡ walkedBy (indexWalk (tableOf w) i r k) room
     along-answer room x f = same-answer (stretchWalk (tableOf w) (serviceAt s) r a n) (indexWalk (tableOf w) i r k) along-is room x f
@@ -113,7 +115,7 @@ module _ (w : List ℕ) (h : JustTable w) (i r k a n : ℕ) (c : Course) (e : c 
     pub along-listed : (t u : List ℕ) → u ≡ rowsBy (stretchWalk (tableOf w) (serviceAt s) r a n) t → u ≡ rowsBy (indexWalk (tableOf w) i r k) t
     along-listed t u f = same-rows (stretchWalk (tableOf w) (serviceAt s) r a n) (indexWalk (tableOf w) i r k) along-is t u f
 
-pub ruleset index = (tests, barred-answer, barred-kept, idle-answer, idle-kept, along-index, along-sound, along-repeat, along-calls, along-answer, along-listed)
+pub ruleset index = (tests, barred-answer, barred-kept, idle-answer, idle-kept, along-index, along-sound, along-run, along-calls, along-answer, along-listed)
 
 -- ---- a date; x is the day that it is
 

@@ -1,14 +1,14 @@
 // The walk question on any words: the rows of a service's run on a date. A refusal leaves the rows as lent.
 use course::Course;
 use lookups::PeriodDay;
-use timetable::OFFSET_AT;
 use timetable::ROW_WORDS;
 use timetable::Walked;
 ghost use mathlib.Core.Path.{_≡_};
 ghost use mathlib.Core.Bool.{true};
-ghost use Prim.Native.Nat.{_+_, _≤_, _<_};
+ghost use Prim.Native.Nat.{_+_, _<_};
 ghost use lib.ListN.{length};
-ghost use Rattle.timetable.specs.Table.{calls#, periodDays, serviceAt, tableOf, recordSound};
+ghost use Rattle.timetable.specs.Runs.{hasRun};
+ghost use Rattle.timetable.specs.Table.{calls#, periodDays, openingAt, serviceAt, tableOf, recordSound};
 ghost use Rattle.timetable.specs.Questions.{walkedBy, rowsBy, walked, walkRows};
 ghost use Rattle.table.specs.JustTable.{JustTable};
 ghost use Rattle.walk.specs.Walk.{stretchWalk, indexWalk};
@@ -58,7 +58,7 @@ fn walk_on(w: &[u32], i: u32, repeat: u32, k: u32, rows: &mut [u32]) -> Walked
 fn list(w: &[u32], s: &[u32], start: u32, legs: u32, repeat: u32, rows: &mut [u32]) -> Walked
     requires { ⌜ JustTable (now w) ⌝ }
     requires { ⌜ recordSound (now s) ≡ true ⌝ }
-    requires { ⌜ (start + legs < calls# (now s)) × (repeat ≤ serviceAt (now s) .opening .repeats) ⌝ }
+    requires { ⌜ (start + legs < calls# (now s)) × (hasRun (openingAt (now s)) repeat ≡ true) ⌝ }
     ensures answer { λ r. ⌜ r ≡ walkedBy (stretchWalk (tableOf (now (w .entry))) (serviceAt (now (s .entry))) repeat start legs) (length (now (rows .entry))) ⌝ }
     ensures listed { λ _. ⌜ now (rows .exit) ≡ rowsBy (stretchWalk (tableOf (now (w .entry))) (serviceAt (now (s .entry))) repeat start legs) (now (rows .entry)) ⌝ }
 {
@@ -66,6 +66,7 @@ fn list(w: &[u32], s: &[u32], start: u32, legs: u32, repeat: u32, rows: &mut [u3
     if rows.len() < table::size(needed) {
         return Walked::Refused { number: 29, needed };
     }
-    rows::rows_into(w, s, start, legs, repeat * s[OFFSET_AT], rows);
+    let late = runs::lateness(table::opening_at(s), repeat);
+    rows::rows_into(w, s, start, legs, late, rows);
     Walked::Listed(legs + 1)
 }

@@ -12,6 +12,7 @@ use Rattle.base.proofs.Laws.{apart, by-ltb, by-leb, by-eqb}
 use Rattle.calendar.specs.Calendar.{dayOf}
 use Rattle.calendar.specs.declared.Date.{Date}
 use Rattle.calendar.specs.declared.Date.the-variants.{Day, NoSuchDate}
+use Rattle.timetable.specs.Runs.{hasRun, lateness}
 use Rattle.timetable.specs.Layout.{rowSize}
 use Rattle.timetable.specs.Delivery.{Period, CategoryRange, DayRange, Service, Delivery}
 use Rattle.timetable.specs.Files.{hasStop}
@@ -95,29 +96,31 @@ module _ (d : Delivery) (i : ℕ) (on : Dated) where
     n : ℕ
     n = leadingLegs (drop a bs)
 
-    stretch-meant : stretches false bs ≡ 1 → Meant d i on (stretchJourney d s (r * s .opening .offset) (stretchOf bs))
+    stretch-meant : stretches false bs ≡ 1 → Meant d i on (stretchJourney d s (lateness (s .opening) r) (stretchOf bs))
     unfolding a n bs
     stretch-meant e =
         let one = one-stretch bs e in
         let l = part-length d s r k a n one in
         after (callsRefusal d s a n 0 0 (stretchCalls s (stretchOf bs))) (by-call d s a n 0 0 (stretchCalls s (stretchOf bs)))
-        (a-stretch found day (one-unbroken d s r k a n one) (rows-size d s a n (r * s .opening .offset) 0 (stretchCalls s (stretchOf bs)) ∙ ap (λ (m : ℕ). rowSize * m) l))
+        (a-stretch found day (one-unbroken d s r k a n one) (rows-size d s a n (lateness (s .opening) r) 0 (stretchCalls s (stretchOf bs)) ∙ ap (λ (m : ℕ). rowSize * m) l))
 
-    day-meant : Meant d i on (onDay d s (r * s .opening .offset) (operatedLegs (d .fields) s k))
+    day-meant : Meant d i on (onDay d s (lateness (s .opening) r) (operatedLegs (d .fields) s k))
     unfolding bs
     day-meant =
         let t = stretches false bs in
-        by-eqb (λ b. Meant d i on (cond b idle (cond (leb 2 t) (refused 35) (stretchJourney d s (r * s .opening .offset) (stretchOf bs))))) t 0
+        by-eqb (λ b. Meant d i on (cond b idle (cond (leb 2 t) (refused 35) (stretchJourney d s (lateness (s .opening) r) (stretchOf bs))))) t 0
         (λ e. not-running found day (runs-nowhere d s k e))
-        (λ z. by-leb (λ b. Meant d i on (cond b (refused 35) (stretchJourney d s (r * s .opening .offset) (stretchOf bs)))) 2 t
+        (λ z. by-leb (λ b. Meant d i on (cond b (refused 35) (stretchJourney d s (lateness (s .opening) r) (stretchOf bs)))) 2 t
         (λ h. not-given 35 (omega arith, λ q. omega arith))
         (λ h. stretch-meant (omega (arith, z))))
 
     service-meant : Meant d i on (serviceJourney d s r k)
     service-meant =
-        by-ltb (λ b. Meant d i on (cond b (refused 25) (journeyBy (firstRefusal (legRefusal d s) (below (legCount s))) (onDay d s (r * s .opening .offset) (operatedLegs (d .fields) s k))))) (s .opening .repeats) r
-        (λ h. not-given 25 (omega arith, λ q. omega arith))
-        (λ h. after (firstRefusal (legRefusal d s) (below (legCount s))) (by-leg d s (below (legCount s))) day-meant)
+        go (not (hasRun (s .opening) r))
+      where
+        go : (t : Bool) → Meant d i on (cond t (refused 25) (journeyBy (firstRefusal (legRefusal d s) (below (legCount s))) (onDay d s (lateness (s .opening) r) (operatedLegs (d .fields) s k))))
+        go true = not-given 25 (omega arith, λ q. omega arith)
+        go false = after (firstRefusal (legRefusal d s) (below (legCount s))) (by-leg d s (below (legCount s))) day-meant
 
 any-journey : (d : Delivery) (i r day m y : ℕ) → Meant d i (dateOf d day m y) (journey d i r day m y)
 unfolding journey

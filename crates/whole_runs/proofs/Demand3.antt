@@ -1,7 +1,7 @@
 -- Demand 3, proved; specs/Promise.antt states it, clause by clause. Assumes nothing.
 use mathlib.Core.Path.{_≡_, refl, sym, ap, _∙_, subst}
 use mathlib.Core.List.{List, _++_}
-use mathlib.Core.Bool.{Bool, true, false, cond}
+use mathlib.Core.Bool.{Bool, true, false, cond, not}
 use mathlib.Core.Option.{Option, none, some}
 use Prim.Native.Nat.{ℕ, _+_, _-_, _*_, _/_, _<_, _≤_}
 use native.Mathlib.Omega.{arith}
@@ -14,6 +14,7 @@ use Rattle.calendar.specs.Calendar.{dayOf}
 use Rattle.calendar.specs.declared.Date.{Date}
 use Rattle.calendar.specs.declared.Date.the-variants.{Day}
 use Rattle.lines.specs.Lines.{linesOf}
+use Rattle.timetable.specs.Runs.{hasRun, lateness}
 use Rattle.timetable.specs.Delivery.{Files, Period, DayRange, Service, Delivery}
 use Rattle.timetable.specs.Service.{blocks}
 use Rattle.timetable.specs.Legs.{covers, operated, fieldRuns, stretches, legCount, operatedLegs}
@@ -27,6 +28,7 @@ use Rattle.timetable.specs.declared.Loaded.the-variants.{Accepted}
 use Rattle.timetable.specs.declared.Walked.{Walked}
 use Rattle.timetable.specs.declared.Walked.the-variants.{Listed, Refused}
 use Rattle.whole_runs.specs.Rows.{RunsNowhere}
+use Rattle.whole_runs.proofs.RunsBy.{runs-by}
 use Rattle.whole_runs.specs.Promise.{Outcome, not-running, runs, Demand3, Asked, OwnRun, Walk, short, Short}
 use Rattle.whole_runs.proofs.Lists.{all-elem, only-says}
 use Rattle.whole_runs.proofs.Clear.{Clear, clear}
@@ -50,7 +52,7 @@ goes-on P false (some o) j x p q h = apart (cc)
 goes-on P true o j x p q h = clash (sym p)
 
 module _ (d : Delivery) (s : Service) (h : Right d s) (known : Interchanges d) (r k : ℕ) where
-  day-outcome : k < d .period .days → Outcome d s r k (onDay d s (r * s .opening .offset) (operatedLegs (d .fields) s k))
+  day-outcome : k < d .period .days → Outcome d s r k (onDay d s (lateness (s .opening) r) (operatedLegs (d .fields) s k))
   day-outcome l = go (eqb (stretches false bs) 0) refl
     where
       bs : List Bool
@@ -62,22 +64,22 @@ module _ (d : Delivery) (s : Service) (h : Right d s) (known : Interchanges d) (
       n : ℕ
       n = leadingLegs (drop a bs)
 
-      go : (t : Bool) → eqb (stretches false bs) 0 ≡ t → Outcome d s r k (cond t idle (cond (leb 2 (stretches false bs)) (refused 35) (stretchJourney d s (r * s .opening .offset) (stretchOf bs))))
+      go : (t : Bool) → eqb (stretches false bs) 0 ≡ t → Outcome d s r k (cond t idle (cond (leb 2 (stretches false bs)) (refused 35) (stretchJourney d s (lateness (s .opening) r) (stretchOf bs))))
       go true q = not-running (runs-nowhere d s k (eqb-true (stretches false bs) 0 q))
       go false q =
           let w = h .whole k l in
           let b = leb-false 2 (stretches false bs) w in
           let z = eqb-false (stretches false bs) 0 q in
           let one = one-stretch bs (omega (arith, z)) in
-          goes-on (Outcome d s r k) (leb 2 (stretches false bs)) (callsRefusal d s a n 0 0 (stretchCalls s (stretchOf bs))) (rows (rowsOf d s a n (r * s .opening .offset) 0 (stretchCalls s (stretchOf bs)))) (refused 35)
+          goes-on (Outcome d s r k) (leb 2 (stretches false bs)) (callsRefusal d s a n 0 0 (stretchCalls s (stretchOf bs))) (rows (rowsOf d s a n (lateness (s .opening) r) 0 (stretchCalls s (stretchOf bs)))) (refused 35)
           w
           (stretch-resolved d s h a n (inside d s r k a n one))
           (runs (stretched d s r k a n one h known))
 
-  service-outcome : r ≤ s .opening .repeats → k < d .period .days → Outcome d s r k (serviceJourney d s r k)
+  service-outcome : hasRun (s .opening) r ≡ true → k < d .period .days → Outcome d s r k (serviceJourney d s r k)
   service-outcome l m =
-      goes-on (Outcome d s r k) (ltb (s .opening .repeats) r) (firstRefusal (legRefusal d s) (below (legCount s))) (onDay d s (r * s .opening .offset) (operatedLegs (d .fields) s k)) (refused 25)
-      (le-ltb (s .opening .repeats) r l) (legs-resolved d s h) (day-outcome m)
+      goes-on (Outcome d s r k) (not (hasRun (s .opening) r)) (firstRefusal (legRefusal d s) (below (legCount s))) (onDay d s (lateness (s .opening) r) (operatedLegs (d .fields) s k)) (refused 25)
+      (ap not l) (legs-resolved d s h) (day-outcome m)
 
 -- ---- what an outcome excludes
 
@@ -133,6 +135,7 @@ walk-demand f c w is holds i r d m y day s a =
         one-range = h .days;
         fields-known = h .fields;
         leg-days = leg-day (delivered f) s h k;
+        runs-by = runs-by (s .opening);
         announced = rows-announce (blocks (linesOf (f .fplan))) i s (from-text f c i s (a .service)) (delivered f);
       };
     }

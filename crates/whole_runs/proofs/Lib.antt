@@ -16,6 +16,7 @@ pub mod Resolved
 pub mod Rows
 pub mod Announced
 pub mod Any
+pub mod RunsBy
 pub mod Demand3
 pub mod Slack
 pub mod Numbers

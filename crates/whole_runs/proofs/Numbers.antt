@@ -18,9 +18,9 @@ use Rattle.forms.specs.Form.{formOf}
 use Rattle.forms.specs.Columns.{dateColumns, columnsOf}
 use Rattle.forms.specs.Kinds.{kindOf}
 use Rattle.forms.specs.declared.Kind.{Kind}
-use Rattle.forms.specs.declared.Kind.the-variants.{Opening as OpeningKind, Category as CategoryKind, Attribute as AttributeKind, Schedule as ScheduleKind, Other as OtherKind}
+use Rattle.forms.specs.declared.Kind.the-variants.{Opening as OpeningKind, Frequency as FrequencyKind, Category as CategoryKind, Attribute as AttributeKind, Schedule as ScheduleKind, Other as OtherKind}
 use Rattle.forms.specs.declared.LineKind.{LineKind}
-use Rattle.forms.specs.declared.LineKind.the-variants.{Date, BitField, Stop, Interchange, Opening, Category, Attribute, Schedule}
+use Rattle.forms.specs.declared.LineKind.the-variants.{Date, BitField, Stop, Interchange, Opening, Frequency, Category, Attribute, Schedule}
 use Rattle.forms.proofs.Leftmost.{broken-from-1}
 use Rattle.forms.specs.declared.Form.{Form}
 use Rattle.forms.specs.declared.Form.the-variants.{Fits, Broken}
@@ -33,7 +33,7 @@ use Rattle.timetable.specs.Files.{skip, held-in, heldBy, heldOffence, noDate, n
 use Rattle.timetable.specs.Files.{hasField, bitFieldOf, bitFieldOffence, bitFieldLineOffence, bitFieldsFirst, hasStop, nameField, stopOf, namedStopOffence, stopLineOffence, stopsFirst}
 use Rattle.timetable.specs.Files.{hasInterchange, interchangeOf, interchangeOffence, interchangeLineOffence, interchangesFirst}
 use Rattle.timetable.specs.Table.{tableWords, tableOf, isTable}
-use Rattle.timetable.specs.Plan.{openingIn, categoryIn, attributeIn, callIn, formed, toldBy, toldIn, asRange, partLines, saidOn}
+use Rattle.timetable.specs.Plan.{openingIn, frequencyIn, categoryIn, attributeIn, callIn, formed, toldBy, toldIn, asRange, partLines, saidOn}
 use Rattle.timetable.specs.Service.{headLines, blocks, firstLine, calledOn, callsOf, legsOn, serviceOf}
 use Rattle.timetable.specs.Legs.{fieldKnown, fieldRuns, legCount}
 use Rattle.timetable.specs.Checks.{most, toldOffence, isNone, eachOnce, torn, timesStated, timesRise, lastStated, timesFirst, endsFirst, legsFirst, serviceChecks, serviceFirst, servicesFirst, planFirst}
@@ -178,6 +178,7 @@ told-from-1 text c e = go (skipped text) (kindOf text) e
     go : (t : Bool) (k : Kind) → cond t Skip (toldBy k text) ≡ ToldBroken c → 1 ≤ c
     go true k e = apart (cc)
     go false OpeningKind e = by Opening (Opens (openingIn text)) (λ d z. apart (cc)) e
+    go false FrequencyKind e = by Frequency (Opens (frequencyIn text)) (λ d z. apart (cc)) e
     go false CategoryKind e = by Category (Ranges (categoryIn text)) (λ d z. apart (cc)) e
     go false AttributeKind e = by Attribute (Ranges (attributeIn text)) (λ d z. apart (cc)) e
     go false ScheduleKind e = by Schedule (Calls (callIn text)) (λ d z. apart (cc)) e

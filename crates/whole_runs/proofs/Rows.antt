@@ -13,6 +13,7 @@ use Rattle.base.specs.Lists.{All, every, find, upto, below}
 use Rattle.base.proofs.Laws.{by-leb}
 use Rattle.base.proofs.Lists.{length-map-upto}
 use Rattle.base.proofs.Loops.{and-true}
+use Rattle.timetable.specs.Runs.{lateness}
 use Rattle.timetable.specs.Layout.{rowSize, latestTime, allFlags}
 use Rattle.timetable.specs.Delivery.{Interchange, CategoryRange, Service, Delivery}
 use Rattle.timetable.specs.Ranges.{hasArrival}
@@ -169,7 +170,7 @@ module _ (d : Delivery) (s : Service) (r k a n : ℕ) (one : Only (operatedLegs 
   part-at q l = getD-take (n + 1) (drop a (s .calls)) q noCall (omega arith) ∙ getD-drop a (s .calls) q noCall
 
   delay : ℕ
-  delay = r * s .opening .offset
+  delay = lateness (s .opening) r
 
   ws : List ℕ
   ws = rowsOf d s a n delay 0 part
@@ -305,7 +306,7 @@ module _ (d : Delivery) (s : Service) (r k a n : ℕ) (one : Only (operatedLegs 
     never-fall : (p m : ℕ) → p ≤ m → 1 ≤ p → m ≤ 2 * n → timeAt ws p ≤ timeAt ws m
     never-fall p m l f t = let z : p + (m - p) ≡ m = omega arith in rw z at (later-time p (m - p) f (omega arith))
 
-    pub stretched : Stretched d s r k (rowsOf d s a n (r * s .opening .offset) 0 (take (n + 1) (drop a (s .calls))))
+    pub stretched : Stretched d s r k (rowsOf d s a n (lateness (s .opening) r) 0 (take (n + 1) (drop a (s .calls))))
     unfolding ws part delay
     stretched = record {
       start = a;

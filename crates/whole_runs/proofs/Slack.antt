@@ -12,6 +12,7 @@ use lib.Dec.{eqb}
 use borrow.Author.Tests.{eqb-true}
 use Rattle.base.specs.Lists.{All, nil, cons, every, countIf, upto, below}
 use Rattle.base.proofs.Laws.{clash, by-ltb, by-eqb}
+use Rattle.timetable.specs.Runs.{lateness}
 use Rattle.timetable.specs.Layout.{rowSize, allFlags}
 use Rattle.timetable.specs.Delivery.{Files, Interchange, CategoryRange, Service, Delivery}
 use Rattle.timetable.specs.Legs.{covers}
@@ -153,16 +154,16 @@ module _ (d : Delivery) (s : Service) (r k : ℕ) where
       legs : x .legs ≡ y .legs
       legs = same-legs d s k (x .unbroken) (y .unbroken)
 
-      other : (q : ℕ) → q ≤ x .legs → Row d s (r * s .opening .offset) (x .legs) q (x .start + q) (callNo s (x .start + q)) (rowWord w q)
+      other : (q : ℕ) → q ≤ x .legs → Row d s (lateness (s .opening) r) (x .legs) q (x .start + q) (callNo s (x .start + q)) (rowWord w q)
       other q l =
-          subst (λ (a : ℕ). Row d s (r * s .opening .offset) (x .legs) q (a + q) (callNo s (a + q)) (rowWord w q)) (sym start)
-          (subst (λ (n : ℕ). Row d s (r * s .opening .offset) n q (y .start + q) (callNo s (y .start + q)) (rowWord w q)) (sym legs) (y .row q (omega (arith, legs))))
+          subst (λ (a : ℕ). Row d s (lateness (s .opening) r) (x .legs) q (a + q) (callNo s (a + q)) (rowWord w q)) (sym start)
+          (subst (λ (n : ℕ). Row d s (lateness (s .opening) r) n q (y .start + q) (callNo s (y .start + q)) (rowWord w q)) (sym legs) (y .row q (omega (arith, legs))))
 
       each : (p : ℕ) → p < length v → getD v p 0 ≡ getD w p 0
       each p l =
           let z : rowSize * (p / rowSize) + p % rowSize ≡ p = omega arith in
           let h = x .size in
-          let e = same-words d s (r * s .opening .offset) (x .legs) (p / rowSize) (x .start + p / rowSize) (callNo s (x .start + p / rowSize)) (rowWord v (p / rowSize)) (rowWord w (p / rowSize)) (x .row (p / rowSize) (omega arith)) (other (p / rowSize) (omega arith)) (omega arith) (p % rowSize) (omega arith) in
+          let e = same-words d s (lateness (s .opening) r) (x .legs) (p / rowSize) (x .start + p / rowSize) (callNo s (x .start + p / rowSize)) (rowWord v (p / rowSize)) (rowWord w (p / rowSize)) (x .row (p / rowSize) (omega arith)) (other (p / rowSize) (omega arith)) (omega arith) (p % rowSize) (omega arith) in
           ap (λ (i : ℕ). getD v i 0) (sym z) ∙ (e ∙ ap (λ (i : ℕ). getD w i 0) z)
 
   pub no-slack : (lent : List ℕ) {a b : Walked} {v w : List ℕ} → Walk d s r k lent a v → Walk d s r k lent b w → (a ≡ b) × (v ≡ w)

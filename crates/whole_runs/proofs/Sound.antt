@@ -15,16 +15,18 @@ use Rattle.fields.specs.Fields.{time}
 use Rattle.fields.specs.declared.Time.{Time}
 use Rattle.fields.specs.declared.Time.the-variants.{Absent, Stated, NoTime}
 use Rattle.forms.specs.Form.{formOf}
+use Rattle.forms.proofs.Laws.{row-holds, from-one-says}
 use Rattle.forms.specs.declared.Form.{Form}
 use Rattle.forms.specs.declared.Form.the-variants.{Fits, Broken as BrokenForm}
-use Rattle.forms.specs.Columns.{serviceColumns, categoryColumns, attributeColumns, callColumns}
+use Rattle.forms.specs.Columns.{serviceColumns, frequencyColumns, categoryColumns, attributeColumns, callColumns}
 use Rattle.forms.specs.Kinds.{kindOf}
 use Rattle.forms.specs.declared.Kind.{Kind}
-use Rattle.forms.specs.declared.Kind.the-variants.{Opening as OpeningKind, Category as CategoryKind, Attribute, Schedule, Other as OtherKind}
+use Rattle.forms.specs.declared.Kind.the-variants.{Opening as OpeningKind, Frequency, Category as CategoryKind, Attribute, Schedule, Other as OtherKind}
 use Rattle.lines.specs.Lines.{Line, skipped}
-use Rattle.timetable.specs.Layout.{mostRepeats, latestTime, allFlags}
+use Rattle.timetable.specs.Runs.{openingSound}
+use Rattle.timetable.specs.Layout.{mostRepeats, mostRunning, latestTime, allFlags}
 use Rattle.timetable.specs.Delivery.{Legs, CategoryRange, DayRange, ExtraRange}
-use Rattle.timetable.specs.Plan.{openingIn, categoryIn, attributeIn, minutesOf, flagsOf, callIn, formed, toldBy, toldIn, tolds, asOpening, asCall, partLines}
+use Rattle.timetable.specs.Plan.{openingIn, frequencyIn, categoryIn, attributeIn, minutesOf, flagsOf, callIn, formed, toldBy, toldIn, tolds, asOpening, asCall, partLines}
 use Rattle.timetable.specs.Service.{loose, legsOn, categoryRange, dayRange, extraRange, firstLine, firstOpening, callBy, callsOf, serviceOf}
 use Rattle.timetable.specs.Table.{callSound, legsSound, serviceSound}
 use Rattle.timetable.specs.declared.Announced.{Announced}
@@ -68,12 +70,18 @@ module _ (P : Told → Type 0) where
   formed-all Fits t p q = q
   formed-all (BrokenForm c) t p q = p c
 
-  pub told-all : (text : List ℕ) → P Skip → P Other → ((c : ℕ) → P (Broken c)) → P (Opens (openingIn text)) → ((r : RangeLine) → P (Ranges r)) → P (Calls (callIn text)) → P (toldIn text)
+  -- where it matters that the line has the form
+  formed-by : (f : Form) (t : Told) → ((c : ℕ) → P (Broken c)) → (f ≡ Fits → P t) → P (formed f t)
+  formed-by Fits t p q = q refl
+  formed-by (BrokenForm c) t p q = p c
+
+  pub told-all : (text : List ℕ) → P Skip → P Other → ((c : ℕ) → P (Broken c)) → P (Opens (openingIn text)) → (formOf frequencyColumns text ≡ Fits → P (Opens (frequencyIn text))) → ((r : RangeLine) → P (Ranges r)) → P (Calls (callIn text)) → P (toldIn text)
   unfolding toldIn
-  told-all text skip other broken o r c = cond-all P (skipped text) Skip (toldBy (kindOf text) text) skip (kind (kindOf text))
+  told-all text skip other broken o q r c = cond-all P (skipped text) Skip (toldBy (kindOf text) text) skip (kind (kindOf text))
     where
       kind : (k : Kind) → P (toldBy k text)
       kind OpeningKind = formed-all (formOf serviceColumns text) (Opens (openingIn text)) broken o
+      kind Frequency = formed-by (formOf frequencyColumns text) (Opens (frequencyIn text)) broken q
       kind CategoryKind = formed-all (formOf categoryColumns text) (Ranges (categoryIn text)) broken (r _)
       kind Attribute = formed-all (formOf attributeColumns text) (Ranges (attributeIn text)) broken (r _)
       kind Schedule = formed-all (formOf callColumns text) (Calls (callIn text)) broken c
@@ -88,17 +96,30 @@ unfolding tolds gathered
 lines-sound [] = nil
 lines-sound (l ∷ ls) =
     all-append LineSound
-    (told-all (λ (t : Told). All LineSound (asCall t)) (l .text) nil nil (λ c. nil) nil (λ r. nil) (cons {x = callIn (l .text)} (call-sound (l .text)) nil))
+    (told-all (λ (t : Told). All LineSound (asCall t)) (l .text) nil nil (λ c. nil) nil (λ f. nil) (λ r. nil) (cons {x = callIn (l .text)} (call-sound (l .text)) nil))
     (lines-sound ls)
 
 pub calls-sound : (ls : List Line) → All (λ (c : Call). callSound c ≡ true) (callsOf ls)
 calls-sound ls = calls-all LineSound (λ (c : Call). callSound c ≡ true) (λ b l h. h b) ls (lines-sound ls)
 
--- "repeats or offset over 999": three columns each
-opening-le : (text : List ℕ) → (firstOpening (asOpening (toldIn text)) .repeats ≤ mostRepeats) × (firstOpening (asOpening (toldIn text)) .offset ≤ mostRepeats)
-opening-le text =
-    told-all (λ (t : Told). (firstOpening (asOpening t) .repeats ≤ mostRepeats) × (firstOpening (asOpening t) .offset ≤ mostRepeats)) text
-    (omega arith) (omega arith) (λ c. omega arith) (omega (arith, columns-lt 23 25 text, columns-lt 27 29 text)) (λ r. omega arith) (omega arith)
+-- "repeats or offset over 999": three columns each of a *Z
+repeated-sound : (text : List ℕ) → openingSound (openingIn text) ≡ true
+unfolding openingSound
+repeated-sound text = rw (le-leb (openingIn text .repeats) mostRepeats (omega (arith, columns-lt 23 25 text)), le-leb (openingIn text .offset) mostRepeats (omega (arith, columns-lt 27 29 text)))
+
+-- "9,999 there but no density 0": four columns each of a *T, and what its form asks of the density
+frequency-sound : (text : List ℕ) → formOf frequencyColumns text ≡ Fits → openingSound (frequencyIn text) ≡ true
+unfolding openingSound
+frequency-sound text f =
+    rw (
+      le-leb (frequencyIn text .repeats) mostRunning (omega (arith, columns-lt 17 20 text)),
+      le-leb 1 (frequencyIn text .offset) (from-one-says text (columns 22 25 text) (row-holds frequencyColumns text 4 f)),
+      le-leb (frequencyIn text .offset) mostRunning (omega (arith, columns-lt 22 25 text)),
+    )
+
+opening-sound : (text : List ℕ) → openingSound (firstOpening (asOpening (toldIn text))) ≡ true
+unfolding openingSound
+opening-sound text = told-all (λ (t : Told). openingSound (firstOpening (asOpening t)) ≡ true) text refl refl (λ c. refl) (repeated-sound text) (frequency-sound text) (λ r. refl) refl
 
 -- ---- a service, whatever its lines
 
@@ -115,9 +136,9 @@ pub service-sound : (ls : List Line) → serviceSound (serviceOf ls) ≡ true
 unfolding serviceOf
 service-sound ls =
     let cs = callsOf ls in
-    let o = opening-le (firstLine ls .text) in
+    let o = opening-sound (firstLine ls .text) in
     let c = every-all callSound (calls-sound ls) in
     let g = ranges-sound (categoryRange cs) (λ (r : CategoryRange). r .legs) cs Category ls (λ x. with-sound (loose (x .part)) cs _ (λ (r : CategoryRange). r .legs) (λ g. refl) (legsOn cs x) (legs-sound (loose (x .part)) cs (x .ends))) in
     let v = ranges-sound (dayRange cs) (λ (r : DayRange). r .legs) cs Days ls (λ x. with-sound (loose (x .part)) cs _ (λ (r : DayRange). r .legs) (λ g. refl) (legsOn cs x) (legs-sound (loose (x .part)) cs (x .ends))) in
     let a = ranges-sound (extraRange cs) (λ (r : ExtraRange). r .legs) cs Extra ls (λ x. with-sound (loose (x .part)) cs _ (λ (r : ExtraRange). r .legs) (λ g. refl) (legsOn cs x) (legs-sound (loose (x .part)) cs (x .ends))) in
-    rw (le-leb _ mostRepeats (o .0), le-leb _ mostRepeats (o .1), c, g, v, a)
+    rw (o, c, g, v, a)

@@ -14,12 +14,14 @@ use Rattle.base.specs.Lists.{All}
 use Rattle.calendar.specs.Calendar.{dayOf}
 use Rattle.calendar.specs.declared.Date.the-variants.{Day}
 use Rattle.lines.specs.Lines.{linesOf}
-use Rattle.timetable.specs.Layout.{rowSize}
+use Rattle.timetable.specs.Runs.{hasRun, lateness}
+use Rattle.timetable.specs.Layout.{kindZ, kindT, rowSize}
 use Rattle.timetable.specs.Delivery.{Files, DayRange, Service, Delivery}
 use Rattle.timetable.specs.Service.{blocks}
 use Rattle.timetable.specs.Legs.{fieldKnown, covers, covering, operated, fieldRuns, legCount}
 use Rattle.timetable.specs.Load.{delivered, onto}
 use Rattle.timetable.specs.Questions.{Dated, dated, Journey, refused, idle, rows, walkedBy}
+use Rattle.timetable.specs.declared.Opening.{Opening}
 use Rattle.timetable.specs.declared.Walked.{Walked}
 use Rattle.timetable.specs.declared.Walked.the-variants.{Listed, NotRunning, Refused}
 use Rattle.whole_runs.specs.Text.{FromText, Announces, OwnText}
@@ -28,10 +30,19 @@ use Rattle.whole_runs.specs.Rows.{RunsNowhere, Unbroken, rowWord, Stretc
 -- what is asked: a service of the delivery, a repeat that it has, and a date in the period
 pub record Asked (f : Files) (i r d m y : ℕ) (s : Service) (day : ℕ) : Type 0 where
   pub service : getElem? (delivered f .services) i ≡ some s
-  pub repeat : r ≤ s .opening .repeats
+  pub repeat : hasRun (s .opening) r ≡ true
   pub date : dayOf d m y ≡ Day day
   pub from : delivered f .period .start ≤ day
   pub until : day < delivered f .period .start + delivered f .period .days
+
+-- "any repeat the service has", and how late it is, by the paper's words for each kind: of a *Z "repeat number over repeats" is refused, and a row's times
+-- are "plus repeat times offset"; No. 8, of a *T: "The runs are j = 0, 1, 2.. while j times density is at most sixty times the running time, and run j is
+-- late by j times density over sixty, rounded up" (the repeats word holds the running time, the offset word the density)
+pub record RunsBy (o : Opening) : Type 0 where
+  pub z-runs : o .kind ≡ kindZ → (j : ℕ) → (hasRun o j ≡ true → j ≤ o .repeats) × (j ≤ o .repeats → hasRun o j ≡ true)
+  pub z-late : o .kind ≡ kindZ → (j : ℕ) → lateness o j ≡ j * o .offset
+  pub t-runs : o .kind ≡ kindT → (j : ℕ) → (hasRun o j ≡ true → j * o .offset ≤ 60 * o .repeats) × (j * o .offset ≤ 60 * o .repeats → hasRun o j ≡ true)
+  pub t-late : o .kind ≡ kindT → (j : ℕ) → (j * o .offset ≤ 60 * lateness o j) × (60 * lateness o j < j * o .offset + 60)
 
 -- "The days, calls and categories are those of that same delivery's text": of the i-th service on day k of the period
 pub record OwnRun (f : Files) (i : ℕ) (s : Service) (k : ℕ) : Type 0 where
@@ -44,6 +55,8 @@ pub record OwnRun (f : Files) (i : ℕ) (s : Service) (k : ℕ) : Type 0 where
   pub leg-days : (leg : ℕ) → leg < legCount s
       → All (λ (g : DayRange). covers leg (g .legs) ≡ true
       → operated (delivered f .fields) (s .days) k leg ≡ fieldRuns (delivered f .fields) (g .field) k) (s .days)
+  -- document 02, No. 8: its runs are those of its kind
+  pub runs-by : RunsBy (s .opening)
   -- document 02, No. 5: the number and administration that a row states are those that the text says hold at its call, wherever the stretch begins
   pub announced : {r : ℕ} {ws : List ℕ} (x : Stretched (delivered f) s r k ws) (q : ℕ) → q ≤ x .legs
       → Announces (service .lines) (x .start + q) (rowWord ws q 4) (rowWord ws q 5) (rowWord ws q 6)

@@ -8,6 +8,7 @@ use mathlib.Core.Option.{some}
 use Prim.Native.Nat.{ℕ, _+_, _*_, _/_, _%_, _<_, _≤_}
 use lib.ListN.{length, getD, getElem?}
 use Rattle.base.specs.Lists.{All}
+use Rattle.timetable.specs.Runs.{lateness}
 use Rattle.timetable.specs.Layout.{rowSize, allFlags}
 use Rattle.timetable.specs.Delivery.{Interchange, CategoryRange, Service, Delivery}
 use Rattle.timetable.specs.Files.{hasStop}
@@ -37,9 +38,9 @@ rowWord ws q j = word ws (rowSize * q + j)
 abbrev pub flag : ℕ → ℕ → ℕ
 flag b flags = flags / b % 2
 
--- the words w of row q, for call c of a run with n legs; `leg` is the leg that leaves it, `delay` is repeat times offset
+-- the words w of row q, for call c of a run with n legs; `leg` is the leg that leaves it, `delay` is how late the run is
 pub record Row (d : Delivery) (s : Service) (delay n q leg : ℕ) (c : Call) (w : ℕ → ℕ) : Type 0 where
-  -- "stop, arrival, departure (each plus repeat times offset)"; the stop is in BAHNHOF
+  -- "stop, arrival, departure (each plus repeat times offset)": the run's `lateness`; the stop is in BAHNHOF
   pub stop : w 0 ≡ c .stop
   pub known : hasStop (c .stop) (d .stops) ≡ true
   pub arrival : 1 ≤ q → w 1 ≡ c .arrival + delay
@@ -88,7 +89,7 @@ pub record Stretched (d : Delivery) (s : Service) (r k : ℕ) (ws : List ℕ) : 
   pub unbroken : Unbroken d s k start legs
   -- its calls, none missing, each as its row
   pub size : length ws ≡ rowSize * (legs + 1)
-  pub row : (q : ℕ) → q ≤ legs → Row d s (r * s .opening .offset) legs q (start + q) (callNo s (start + q)) (rowWord ws q)
+  pub row : (q : ℕ) → q ≤ legs → Row d s (lateness (s .opening) r) legs q (start + q) (callNo s (start + q)) (rowWord ws q)
   -- the times that a run needs are stated, and over any two stated times they never fall
   pub arrives : (q : ℕ) → 1 ≤ q → q ≤ legs → flag 1 (rowWord ws q 3) ≡ 1
   pub departs : (q : ℕ) → q < legs → flag 2 (rowWord ws q 3) ≡ 1

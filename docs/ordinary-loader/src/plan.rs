@@ -6,7 +6,7 @@ use crate::refusal::{number, Offence};
 use crate::route::Call;
 use crate::sections::{BitFields, Stops};
 use crate::service::{Attribute, Opening, Range, Service};
-use crate::table::{packed, Table};
+use crate::table::{packed, Table, KIND_T, KIND_Z};
 
 /// "in one service over 200 calls, 50 *G, 50 *A VE or 100 other *A"
 const MOST_CALLS: usize = 200;
@@ -17,17 +17,19 @@ const MOST_OTHERS: usize = 100;
 /// The kinds of lines.
 enum Kind {
     Z,
+    T,
     G,
     A,
     Schedule,
 }
 
-/// ""*Z ", "*G ", "*A " or a digit"; columns past the end read as blank.
+/// ""*Z ", "*G ", "*A " or a digit", and "*T " of document 02, No. 8; columns past the end read as blank.
 fn kind_of(line: &Line<'_>) -> Option<Kind> {
     match line.text {
         [b'0'..=b'9', ..] => Some(Kind::Schedule),
         [b'*', letter] | [b'*', letter, b' ', ..] => match letter {
             b'Z' => Some(Kind::Z),
+            b'T' => Some(Kind::T),
             b'G' => Some(Kind::G),
             b'A' => Some(Kind::A),
             _ => None,
@@ -44,6 +46,10 @@ pub fn read(file: &[u8], stops: &Stops, fields: &BitFields, table: &mut Table) -
             (Some(Kind::Z), _) => {
                 finish(&current, fields, table)?;
                 current = Some(Service::new(line.formed(opening_in(&line))?));
+            }
+            (Some(Kind::T), _) => {
+                finish(&current, fields, table)?;
+                current = Some(Service::new(line.formed(frequency_in(&line))?));
             }
             (_, None) => return Err(line.offence(number::NOT_OPENED)),
             (None, _) => return Err(line.offence(number::OTHER_KIND)),
@@ -105,14 +111,34 @@ fn push<T>(items: &mut Vec<T>, item: T, most: usize, line: &Line<'_>) -> Result<
 
 /// "4-8 digits, 10-15 six non-blank bytes, 23-25 repeats and 27-29 offset"
 fn opening_in(line: &Line<'_>) -> Result<Opening, Broken> {
-    let number = line.digits(4, 8)?;
-    line.unnamed(9, 9)?;
-    let administration = line.no_blanks(10, 15)?;
+    let (number, administration) = name_in(line)?;
     line.unnamed(16, 22)?;
     let (repeats, offset) = repeats_in(line)?;
     line.unnamed(30, 58)?;
     line.percent()?;
-    Ok(Opening { line: line.number, number, administration: two_words(administration), repeats, offset })
+    Ok(Opening { line: line.number, number, administration, repeats, offset, kind: KIND_Z })
+}
+
+/// "running time in minutes 17-20, density in seconds 22-25. Both are digits; density is at least 1."
+fn frequency_in(line: &Line<'_>) -> Result<Opening, Broken> {
+    let (number, administration) = name_in(line)?;
+    line.unnamed(16, 16)?;
+    let running_time = line.digits(17, 20)?;
+    line.unnamed(21, 21)?;
+    let density = match line.digits(22, 25)? {
+        0 => return Err(Broken(22)),
+        density => density,
+    };
+    line.unnamed(26, 58)?;
+    line.percent()?;
+    Ok(Opening { line: line.number, number, administration, repeats: running_time, offset: density, kind: KIND_T })
+}
+
+/// Number and administration, columns 4 to 15 of a line that opens a service.
+fn name_in(line: &Line<'_>) -> Result<(u32, [u32; 2]), Broken> {
+    let number = line.digits(4, 8)?;
+    line.unnamed(9, 9)?;
+    Ok((number, two_words(line.no_blanks(10, 15)?)))
 }
 
 /// An administration's six bytes, "two words of three bytes".

@@ -6,14 +6,18 @@ use crate::refusal::{number, Offence};
 use crate::route::{from_index, to_index, Call};
 use crate::sections::BitFields;
 
-/// What a *Z line says.
+/// What a *Z or *T line says.
 #[derive(Clone, Copy, Debug)]
 pub struct Opening {
     pub line: u32,
     pub number: u32,
     pub administration: [u32; 2],
+    /// Of a *T the running time in minutes.
     pub repeats: u32,
+    /// Of a *T the density in seconds.
     pub offset: u32,
+    /// "its kind (0 for *Z, 1 for *T)" (document 02, No. 8)
+    pub kind: u32,
 }
 
 /// A *G or *A line: what holds over the range, and its ends as they are written.

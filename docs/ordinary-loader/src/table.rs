@@ -7,11 +7,14 @@ use crate::route::Call;
 use crate::service::{Found, Ranges, Service};
 
 const HEADER_WORDS: usize = 8;
-const SERVICE_WORDS: usize = 11;
+const SERVICE_WORDS: usize = 12;
 const CALL_WORDS: usize = 7;
 const CATEGORY_WORDS: usize = 3;
 const DAYS_WORDS: usize = 3;
 const EXTRA_WORDS: usize = 4;
+
+pub const KIND_Z: u32 = 0;
+pub const KIND_T: u32 = 1;
 
 const ARRIVAL: u32 = 1;
 const DEPARTURE: u32 = 2;
@@ -76,7 +79,8 @@ impl Table {
         }
     }
 
-    /// "its word count, number, administration, repeats, offset, calls c, *G g, *A VE v, other a, *Z line"
+    /// "its word count, number, administration, repeats, offset, calls c, *G g, *A VE v, other a, *Z line"; "a twelfth word, its
+    /// kind" (document 02, No. 8)
     fn head(&mut self, service: &Service, ranges: &Ranges) {
         let (calls, categories) = (service.calls.len(), ranges.categories.len());
         let (days, others) = (ranges.days.len(), ranges.others.len());
@@ -96,6 +100,7 @@ impl Table {
             days,
             others,
             opening.line,
+            opening.kind,
         ]);
     }
 

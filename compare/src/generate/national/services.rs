@@ -2,7 +2,7 @@
 
 use super::ends::{from_end, to_end, EndText};
 use super::{stop_name, FAMILY};
-use crate::columns::{a, g, line, z};
+use crate::columns::{a, g, line, t, z};
 use crate::generate::ends::hours_minutes;
 use crate::generate::plan::{random_cuts, Call, Change};
 use crate::generate::rng::Rng;
@@ -119,8 +119,16 @@ fn change(rng: &mut Rng, number: u32, administration: &str) -> Change {
     }
 }
 
-/// Now and then with repeats.
+/// Now and then with repeats, once in a while a frequency service.
 fn opening(rng: &mut Rng, number: &str, administration: &str) -> String {
+    if rng.once_in(25) {
+        return t(
+            number,
+            administration,
+            &format!("{:04}", rng.between(60, 900)),
+            &format!("{:04}", rng.pick(&[300, 450, 600, 900, 1_200])),
+        );
+    }
     if rng.once_in(8) {
         return z(
             number,

@@ -55,6 +55,9 @@ cast-t16 c = search tests
 blank-or-requires-3 : tie.Need-blank-or-requires-3
 blank-or-requires-3 c κs = search tests
 
+fits-from-one-requires : tie.Need-fits-from-one-requires
+fits-from-one-requires c κs = search tests
+
 cast-t18 : tie.Need-cast-t18
 cast-t18 c = search tests
 
@@ -123,7 +126,11 @@ returns-15 c = search (tests, c .before .match .keys15)
 
 returns-16 : tie.Need-returns-16
 unfolding ruleOf
-returns-16 c = search tests
+returns-16 c = search (tests, c .before .match .keys16)
+
+returns-17 : tie.Need-returns-17
+unfolding ruleOf
+returns-17 c = search tests
 
 pub fits-rule-spec : {M : Type 1} → statement M
 fits-rule-spec =
@@ -146,6 +153,7 @@ fits-rule-spec =
     fits-offset-requires
     cast-t16
     blank-or-requires-3
+    fits-from-one-requires
     cast-t18
     every-in-requires-4
     returns
@@ -163,4 +171,5 @@ fits-rule-spec =
     returns-13
     returns-14
     returns-15
-    returns-16)
+    returns-16
+    returns-17)

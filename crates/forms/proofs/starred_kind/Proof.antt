@@ -15,7 +15,10 @@ returns-4 : tie.Need-returns-4
 returns-4 c = search (tests, c .match .keys3)
 
 returns-5 : tie.Need-returns-5
-returns-5 c = search tests
+returns-5 c = search (tests, c .match .keys4)
+
+returns-6 : tie.Need-returns-6
+returns-6 c = search tests
 
 pub starred-kind-spec : {M : Type 1} → statement M
-starred-kind-spec = tie.close (tie.spec returns returns-2 returns-3 returns-4 returns-5)
+starred-kind-spec = tie.close (tie.spec returns returns-2 returns-3 returns-4 returns-5 returns-6)

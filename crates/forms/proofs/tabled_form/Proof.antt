@@ -76,6 +76,15 @@ slice-aggregate-form-of-8 c = search tests
 form-of-requires-8 : tie.Need-form-of-requires-8
 form-of-requires-8 c κs = search tests
 
+enum-told-9 : tie.Need-enum-told-9
+enum-told-9 c = search tests
+
+slice-aggregate-form-of-9 : tie.Need-slice-aggregate-form-of-9
+slice-aggregate-form-of-9 c = search tests
+
+form-of-requires-9 : tie.Need-form-of-requires-9
+form-of-requires-9 c κs = search tests
+
 returns : tie.Need-returns
 unfolding rowsOf ruleOf
 returns c = of-kind (c .before .before .before .before .before .args .line .now) (c .before .before .enum-told .given .1) (c .form-of .ensures)
@@ -108,6 +117,10 @@ returns-8 : tie.Need-returns-8
 unfolding rowsOf ruleOf
 returns-8 c = of-kind (c .before .before .before .before .before .args .line .now) (c .before .before .enum-told8 .given .1) (c .form-of8 .ensures)
 
+returns-9 : tie.Need-returns-9
+unfolding rowsOf ruleOf
+returns-9 c = of-kind (c .before .before .before .before .before .args .line .now) (c .before .before .enum-told9 .given .1) (c .form-of9 .ensures)
+
 pub tabled-form-spec : {M : Type 1} → statement M
 tabled-form-spec =
     tie.close
@@ -136,6 +149,9 @@ tabled-form-spec =
     enum-told-8
     slice-aggregate-form-of-8
     form-of-requires-8
+    enum-told-9
+    slice-aggregate-form-of-9
+    form-of-requires-9
     returns
     returns-2
     returns-3
@@ -143,4 +159,5 @@ tabled-form-spec =
     returns-5
     returns-6
     returns-7
-    returns-8)
+    returns-8
+    returns-9)

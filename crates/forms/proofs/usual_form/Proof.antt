@@ -35,6 +35,9 @@ enum-told-7 c = search usual
 enum-told-8 : tie.Need-enum-told-8
 enum-told-8 c = search usual
 
+enum-told-9 : tie.Need-enum-told-9
+enum-told-9 c = search usual
+
 returns : tie.Need-returns
 returns c = search usual
 
@@ -59,6 +62,9 @@ returns-7 c = search usual
 returns-8 : tie.Need-returns-8
 returns-8 c = search usual
 
+returns-9 : tie.Need-returns-9
+returns-9 c = search usual
+
 pub usual-form-spec : {M : Type 1} → statement M
 usual-form-spec =
     tie.close
@@ -74,6 +80,7 @@ usual-form-spec =
     enum-told-6
     enum-told-7
     enum-told-8
+    enum-told-9
     returns
     returns-2
     returns-3
@@ -81,4 +88,5 @@ usual-form-spec =
     returns-5
     returns-6
     returns-7
-    returns-8)
+    returns-8
+    returns-9)

@@ -11,11 +11,11 @@ add-put4 c = search heading
 put4-requires-2 : tie.Need-put4-requires-2
 put4-requires-2 c κs = search heading
 
-add-put3 : tie.Need-add-put3
-add-put3 c = search heading
+add-put4-2 : tie.Need-add-put4-2
+add-put4-2 c = search heading
 
-put3-requires : tie.Need-put3-requires
-put3-requires c κs = search heading
+put4-requires-3 : tie.Need-put4-requires-3
+put4-requires-3 c κs = search heading
 
 same-length : tie.Need-same-length
 same-length c = search heading
@@ -26,4 +26,4 @@ returns c = search heading
 pub head-into-spec : {M : Type 1} → statement M
 head-into-spec =
     tie.close
-    (tie.spec put4-requires add-put4 put4-requires-2 add-put3 put3-requires same-length returns)
+    (tie.spec put4-requires add-put4 put4-requires-2 add-put4-2 put4-requires-3 same-length returns)

@@ -17,17 +17,17 @@ size-requires c κs = search stretch
 returns : tie.Need-returns
 returns c = search stretch
 
-shared-slice-read-rows-into : tie.Need-shared-slice-read-rows-into
-shared-slice-read-rows-into c = search stretch
+opening-at-requires : tie.Need-opening-at-requires
+opening-at-requires c κs = search stretch
 
-mul-rows-into : tie.Need-mul-rows-into
-mul-rows-into c = search stretch
+lateness-requires : tie.Need-lateness-requires
+lateness-requires c κs = search stretch
 
 rows-into-requires : tie.Need-rows-into-requires
 rows-into-requires c κs = (search stretch, (search stretch, ((search stretch, search stretch), search stretch)))
 
-add-t8 : tie.Need-add-t8
-add-t8 c = search stretch
+add-t9 : tie.Need-add-t9
+add-t9 c = search stretch
 
 same-length : tie.Need-same-length
 same-length c = search stretch
@@ -44,9 +44,9 @@ list-spec =
     mul-needed
     size-requires
     returns
-    shared-slice-read-rows-into
-    mul-rows-into
+    opening-at-requires
+    lateness-requires
     rows-into-requires
-    add-t8
+    add-t9
     same-length
     returns-2)
