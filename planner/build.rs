@@ -1,30 +1,67 @@
-//! Links the proved archive `libestelunya.a`: from the directory that `ESTELUNYA_LIB` names, by its full path, else from
-//! `../target/staticlib`, where `rt staticlib estelunya` writes it.
+//! Links the proved archive `libestelunya.a`: from the directory that `ESTELUNYA_LIB` names, else from `../target/staticlib`, where
+//! `rt staticlib estelunya` writes it. A relative directory counts from where cargo was started, else from this crate.
 
 use std::env;
-use std::path::PathBuf;
+use std::fs;
+use std::path::{Path, PathBuf};
+use std::process::exit;
 
 const ARCHIVE: &str = "libestelunya.a";
 
+/// ELF's numbers of machines, beside Rust's names of them.
+const MACHINES: [(u16, &str); 2] = [(62, "x86_64"), (183, "aarch64")];
+
 fn main() {
+    println!("cargo:rerun-if-env-changed=ESTELUNYA_LIB");
     let directory = directory();
     let archive = directory.join(ARCHIVE);
-    if !archive.is_file() {
-        println!(
-            "cargo:warning=no {} in {}: `rt staticlib estelunya` writes it, ESTELUNYA_LIB names its directory",
-            ARCHIVE,
-            directory.display()
-        );
-    }
-    println!("cargo:rerun-if-env-changed=ESTELUNYA_LIB");
     println!("cargo:rerun-if-changed={}", archive.display());
+    match fs::read(&archive) {
+        Ok(bytes) => fits_target(&archive, &bytes),
+        Err(error) => println!(
+            "cargo:warning={}: {}: `rt staticlib estelunya` writes it, ESTELUNYA_LIB names its directory",
+            archive.display(),
+            error
+        ),
+    }
     println!("cargo:rustc-link-search=native={}", directory.display());
     println!("cargo:rustc-link-lib=static=estelunya");
 }
 
+/// By its full path, since programs that use this crate are linked elsewhere.
 fn directory() -> PathBuf {
-    match env::var_os("ESTELUNYA_LIB") {
+    let manifest = PathBuf::from(env::var_os("CARGO_MANIFEST_DIR").unwrap_or_default());
+    let given = match env::var_os("ESTELUNYA_LIB") {
         Some(given) if !given.is_empty() => PathBuf::from(given),
-        _ => PathBuf::from(env::var_os("CARGO_MANIFEST_DIR").unwrap_or_default()).join("../target/staticlib"),
+        _ => return manifest.join("../target/staticlib"),
+    };
+    let started = env::var_os("PWD").map_or_else(|| manifest.clone(), PathBuf::from);
+    let places = [started.join(&given), manifest.join(&given)];
+    let found = places.iter().find(|place| place.join(ARCHIVE).is_file());
+    found.unwrap_or(&places[0]).clone()
+}
+
+/// Ends with an error where the archive is for another machine, before a linker says so in its own words.
+fn fits_target(archive: &Path, bytes: &[u8]) {
+    let variable = |name: &str| env::var(name).unwrap_or_default();
+    let (machine, system) = (variable("CARGO_CFG_TARGET_ARCH"), variable("CARGO_CFG_TARGET_OS"));
+    let made_for = machine_of(bytes).unwrap_or("a machine that is not known here");
+    if (made_for, "linux") != (&machine, &system) {
+        eprintln!(
+            "error: {} is made for {} Linux, and this build is for {} {}.\n`rt staticlib estelunya` writes it for x86-64 Linux: \
+             build with --target x86_64-unknown-linux-gnu, or name the directory of a fitting archive in ESTELUNYA_LIB.",
+            archive.display(),
+            made_for,
+            machine,
+            system
+        );
+        exit(1);
     }
+}
+
+/// The machine of the archive's first object, from the head of its ELF file.
+fn machine_of(bytes: &[u8]) -> Option<&'static str> {
+    let object = bytes.windows(4).position(|four| four == b"\x7fELF")?;
+    let number = u16::from_le_bytes([*bytes.get(object + 18)?, *bytes.get(object + 19)?]);
+    MACHINES.iter().find(|(machine, _)| *machine == number).map(|(_, name)| *name)
 }

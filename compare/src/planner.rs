@@ -3,10 +3,9 @@
 
 use compare::boundary::{size_word, Boundary};
 use compare::reader::Combination;
+use estelunya_planner::by_number::{load, load_with, BitField, Date, Loaded, Table, Walk};
 use estelunya_planner::layout::BIT_WORDS;
-use estelunya_planner::{
-    load, load_with, BitField, Date, File, Files, Language, LoadRefusal, Loaded, NameType, Refusal, Table, Walk,
-};
+use estelunya_planner::{File, Files, Language, LoadRefusal, NameType, Opened, Refusal, Timetable};
 
 pub struct Planner;
 
@@ -20,6 +19,7 @@ impl Boundary for Planner {
         if answer[0] != 51 {
             assert_eq!(numbers(load(&files, &mut own)), answer, "with helper words from the heap");
             assert!(own == table, "with helper words from the heap, the table");
+            owned(&files, table, answer);
         }
         answer
     }
@@ -110,6 +110,53 @@ fn lent(made: Result<BitField<'_>, Refusal>, result: &mut [u32]) -> [u32; 1] {
         }
         Ok(_) => [42],
         Err(refusal) => [refusal.number()],
+    }
+}
+
+/// The same delivery as a timetable: it has the same words or the same refusal, and its handles say what the numbers say.
+fn owned(files: &Files<'_>, table: &[u32], answer: [u32; 5]) {
+    match Timetable::load(files) {
+        Err(refusal) => assert_eq!(numbers(Err(refusal)), answer, "the timetable's refusal"),
+        Ok(timetable) => {
+            let words = timetable.by_number().words();
+            assert_eq!(words.len(), answer[3] as usize, "the timetable's words");
+            assert!(answer[0] == 20 || table.starts_with(words), "the timetable's table");
+            timetable.open(handled);
+        }
+    }
+}
+
+/// Each word of the table through the handles; of the runs of the first and the last day, the first and the last.
+fn handled(timetable: Opened<'_>) {
+    let period = timetable.period();
+    for service in timetable.services() {
+        let calls = service.route().len();
+        let ends = service.categories().map(|part| (part.from, part.to));
+        let ends = ends.chain(service.operating_days().map(|part| (part.from, part.to)));
+        let ends = ends.chain(service.attributes().map(|part| (part.from, part.to)));
+        ends.for_each(|(from, to)| assert!(from <= to && to < calls, "a range of {:?}", service));
+        for date in [period.first, period.last] {
+            let days = service.operating_days().any(|part| part.from < part.to && part.field.runs_on(date) == Ok(true));
+            let mut runs =
+                service.runs(date).unwrap_or_else(|refusal| panic!("{:?} on {}: {}", service, date, refusal));
+            assert_eq!(days, runs.len() > 0, "{:?} on {}", service, date);
+            for run in [runs.next(), runs.next_back()].into_iter().flatten() {
+                for call in run.calls() {
+                    let known = service.route().any(|stated| stated.stop() == call.stop());
+                    assert!(known && !call.stop().name_field().is_empty(), "a call of {:?}", run);
+                }
+            }
+        }
+    }
+    for field in timetable.bit_fields() {
+        assert_eq!(field.dates().count() + (!field).dates().count(), period.day_count() as usize);
+        assert_eq!(field.dates().count(), field.day_count() as usize);
+        assert_eq!(field.runs_on(period.last), Ok(field.dates().any(|date| date == period.last)));
+    }
+    for record in timetable.interchanges() {
+        if let Some(stop) = record.stop {
+            assert_eq!([stop.interchange(0, 2), stop.interchange(3, 0)], record.times.map(Ok));
+        }
     }
 }
 

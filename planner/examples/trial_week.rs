@@ -6,45 +6,16 @@
 
 use std::env;
 use std::error::Error;
-use std::fs::read;
 use std::path::{Path, PathBuf};
 
-use estelunya_planner::{load, Date, Files, Language, NameType, Row, Table, Walk, MOST_ROW_WORDS};
-
-/// Enough for a small delivery; a longer table is refused with the words that it needs.
-const TABLE_WORDS: usize = 4_096;
+use estelunya_planner::{Call, Date, Language, Month, NameType, Refusal, Service, Timetable};
 
 fn main() -> Result<(), Box<dyn Error>> {
-    let directory = directory();
-    let file = |name: &str| {
-        let path = directory.join(name);
-        read(&path).map_err(|error| format!("{}: {}", path.display(), error))
-    };
-    let bahnhof = file("BAHNHOF")?;
-    let files = Files {
-        eckdaten: &file("ECKDATEN")?,
-        bitfeld: &file("BITFELD")?,
-        bahnhof: &bahnhof,
-        umsteigb: &file("UMSTEIGB")?,
-        fplan: &file("FPLAN")?,
-    };
-    let mut words = vec![0; TABLE_WORDS];
-    let loaded = load(&files, &mut words)?;
-    words.truncate(loaded.words as usize);
-    let table = Table::new(&words);
-    println!("accepted: stops {} services {} words {}", table.stops(), table.services(), loaded.words);
-
-    let mut lent = vec![0; MOST_ROW_WORDS];
+    let timetable = Timetable::read(directory())?;
+    println!("accepted: {:?}", timetable);
     for day in [5, 6] {
-        let date = Date { day, month: 12, year: 2025 };
-        print!("service {:05} on {:02}.12.2025:", table.service_number(0).unwrap_or(0), day);
-        match table.walk(0, 0, date, &mut lent)? {
-            Walk::NotRunning => println!(" not running"),
-            Walk::Rows(rows) => {
-                println!();
-                rows.iter().for_each(|row| println!("  {}", row_text(row, table, &bahnhof)));
-            }
-        }
+        let date = Date::new(day, Month::December, 2025).ok_or("no such date")?;
+        timetable.open(|timetable| timetable.services().take(1).try_for_each(|service| show(service, date)))?;
     }
     Ok(())
 }
@@ -57,11 +28,21 @@ fn directory() -> PathBuf {
     }
 }
 
-fn row_text(row: Row<'_>, table: Table<'_>, bahnhof: &[u8]) -> String {
-    let name = text(table.stop(row.stop(), bahnhof).name(Language::ENGLISH, NameType::ANY).unwrap_or(b"?"));
-    let category = row.category().map_or(String::new(), |bytes| text(&bytes));
-    let (times, service) = ([row.arrival(), row.departure()].map(clock), text(&row.administration()));
-    format!("{} {} {:3} {:05} {} {} {}", times[0], times[1], category, row.number(), service, row.stop(), name)
+fn show(service: Service<'_>, date: Date) -> Result<(), Refusal> {
+    let runs = service.runs(date)?;
+    println!("service {:05} on {}: {} runs", service.number(), date, runs.len());
+    for run in runs {
+        run.calls().for_each(|call| println!("  {}", call_text(&call)));
+    }
+    Ok(())
+}
+
+fn call_text(call: &Call<'_>) -> String {
+    let name = text(call.stop().name(Language::ENGLISH, NameType::ANY).unwrap_or(b"?"));
+    let category = call.category().map_or(String::new(), |bytes| text(&bytes));
+    let (times, service) = ([call.arrival(), call.departure()].map(clock), text(&call.administration()));
+    let stop = call.stop().number();
+    format!("{} {} {:3} {:05} {} {} {}", times[0], times[1], category, call.number(), service, stop, name)
 }
 
 fn clock(time: Option<u32>) -> String {

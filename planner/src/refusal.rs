@@ -57,6 +57,7 @@ impl fmt::Display for File {
 
 /// Why a delivery is refused.
 #[derive(Clone, Copy, Debug, PartialEq, Eq)]
+#[non_exhaustive]
 pub enum Offence {
     /// 1: a file has more than 16,777,216 bytes.
     FileTooLong = 1,
@@ -100,7 +101,7 @@ pub enum Offence {
     TableTooShort = 20,
     /// 39: the name field of a stop is no list of names with their patterns.
     NameList = 39,
-    /// 51: the load needs more helper words than were lent. [`load`](crate::load) lends enough.
+    /// 51: the load needs more helper words than were lent. [`Timetable::load`](crate::Timetable::load) lends enough.
     HelperTooShort = 51,
 }
 
@@ -152,6 +153,7 @@ impl fmt::Display for Offence {
 
 /// A refused delivery. Its text begins as the program's line does: `refused N file F line L column C`.
 #[derive(Clone, Copy, Debug, PartialEq, Eq)]
+#[non_exhaustive]
 pub struct LoadRefusal {
     /// What is wrong: the first offence, in document 01's order.
     pub offence: Offence,
@@ -183,6 +185,7 @@ impl Error for LoadRefusal {}
 /// Why a question, or arithmetic on operating days, is refused. 31 to 36 cannot occur on the
 /// unaltered table of an accepted delivery, nor 39 and 41 with its own BAHNHOF: that is proved.
 #[derive(Clone, Copy, Debug, PartialEq, Eq)]
+#[non_exhaustive]
 pub enum Refusal {
     /// 21: the words are not a table.
     NotATable,

@@ -1,5 +1,8 @@
 //! The rows of a walk.
 
+use std::iter::FusedIterator;
+use std::slice::ChunksExact;
+
 use crate::layout::{
     ARRIVAL, DEPARTURE, NO_ALIGHTING, NO_BOARDING, ROW_ADMINISTRATION_AT, ROW_ARRIVAL_AT, ROW_CATEGORY_AT,
     ROW_DEPARTURE_AT, ROW_FIRST_TIME_AT, ROW_FLAGS_AT, ROW_NUMBER_AT, ROW_SECOND_TIME_AT, ROW_STOP_AT, ROW_WORDS,
@@ -12,6 +15,11 @@ pub struct Row<'r> {
 }
 
 impl<'r> Row<'r> {
+    /// A row of these words, of which there are [`ROW_WORDS`].
+    pub(crate) fn new(words: &'r [u32]) -> Row<'r> {
+        Row { words }
+    }
+
     /// The row's words: stop, arrival, departure, flags, number, administration in two, category, the stop's two interchange
     /// times.
     pub fn words(self) -> &'r [u32] {
@@ -52,9 +60,7 @@ impl<'r> Row<'r> {
     /// The administration that holds from this call on: columns 50-55 of the last schedule line up to this call that states one,
     /// else columns 10-15 of the *Z or *T line. Number and administration change each by itself.
     pub fn administration(self) -> [u8; 6] {
-        let [a, b, c] = three_bytes(self.words[ROW_ADMINISTRATION_AT]);
-        let [d, e, f] = three_bytes(self.words[ROW_ADMINISTRATION_AT + 1]);
-        [a, b, c, d, e, f]
+        six_bytes(&self.words[ROW_ADMINISTRATION_AT..])
     }
 
     /// The category of the leaving leg, columns 4-6 of its *G line; `None` at the last row.
@@ -76,8 +82,15 @@ impl<'r> Row<'r> {
     }
 }
 
+/// The six bytes of two words.
+pub(crate) fn six_bytes(words: &[u32]) -> [u8; 6] {
+    let [a, b, c] = three_bytes(words[0]);
+    let [d, e, f] = three_bytes(words[1]);
+    [a, b, c, d, e, f]
+}
+
 /// The three bytes that share a word, the first highest.
-fn three_bytes(word: u32) -> [u8; 3] {
+pub(crate) fn three_bytes(word: u32) -> [u8; 3] {
     let [_, first, second, third] = word.to_be_bytes();
     [first, second, third]
 }
@@ -100,7 +113,57 @@ impl<'r> Rows<'r> {
     }
 
     /// The rows, in the order of the calls.
-    pub fn iter(self) -> impl ExactSizeIterator<Item = Row<'r>> + DoubleEndedIterator {
-        self.words.chunks_exact(ROW_WORDS).map(|words| Row { words })
+    pub fn iter(self) -> RowIter<'r> {
+        RowIter { rows: self.words.chunks_exact(ROW_WORDS) }
+    }
+
+    /// How many rows there are.
+    #[must_use]
+    pub fn len(self) -> usize {
+        self.words.len() / ROW_WORDS
+    }
+
+    /// Never: a stretch has two calls or more.
+    #[must_use]
+    pub fn is_empty(self) -> bool {
+        self.words.is_empty()
     }
 }
+
+impl<'r> IntoIterator for Rows<'r> {
+    type Item = Row<'r>;
+    type IntoIter = RowIter<'r>;
+
+    fn into_iter(self) -> RowIter<'r> {
+        self.iter()
+    }
+}
+
+/// The rows of a walk one by one, from either end.
+#[derive(Clone, Debug)]
+#[must_use]
+pub struct RowIter<'r> {
+    rows: ChunksExact<'r, u32>,
+}
+
+impl<'r> Iterator for RowIter<'r> {
+    type Item = Row<'r>;
+
+    fn next(&mut self) -> Option<Row<'r>> {
+        self.rows.next().map(Row::new)
+    }
+
+    fn size_hint(&self) -> (usize, Option<usize>) {
+        self.rows.size_hint()
+    }
+}
+
+impl<'r> DoubleEndedIterator for RowIter<'r> {
+    fn next_back(&mut self) -> Option<Row<'r>> {
+        self.rows.next_back().map(Row::new)
+    }
+}
+
+impl ExactSizeIterator for RowIter<'_> {}
+
+impl FusedIterator for RowIter<'_> {}

@@ -9,6 +9,7 @@ const MOST_RUNNING: u32 = 9_999;
 
 /// What a service's opening line says of its runs: its kind, and the numbers that this kind has.
 #[derive(Clone, Copy, Debug, PartialEq, Eq)]
+#[non_exhaustive]
 pub enum Runs {
     /// Opened by *Z: so many runs follow the first, each the offset in minutes after the one before.
     Repeated {
@@ -30,7 +31,7 @@ pub enum Runs {
 /// A run of a service.
 #[derive(Clone, Copy, Debug, PartialEq, Eq)]
 pub struct Run {
-    /// Its number, as [`Table::walk`](crate::Table::walk) takes it: 0 is the first.
+    /// Its number, as [`Table::walk`](crate::by_number::Table::walk) takes it: 0 is the first.
     pub number: u32,
     /// The minutes that all its times are later than those of the first.
     pub late: u32,

@@ -1,6 +1,7 @@
 //! Operating days as sets, on the trial week's table.
 
-use estelunya_planner::{load, Files, Refusal, Table};
+use estelunya_planner::by_number::{load, Table};
+use estelunya_planner::{Files, Refusal};
 
 fn trial_week() -> Vec<u32> {
     let files = Files {

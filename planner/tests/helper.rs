@@ -1,7 +1,8 @@
 //! Helper words (document 02, No. 13): how many a load needs, and what it leaves in them.
 
+use estelunya_planner::by_number::{helper_words, load, load_with, Loaded};
 use estelunya_planner::layout::{HELPER_HEAD_WORDS, HELPER_LINE_WORDS};
-use estelunya_planner::{helper_words, load, load_with, File, Files, Loaded, Offence};
+use estelunya_planner::{File, Files, Offence};
 
 /// The trial week: one bit field, three stops, one record.
 const TRIAL_WEEK: Files<'static> = Files {

@@ -2,11 +2,12 @@
 
 use std::thread::Builder;
 
+use estelunya_planner::by_number::{load, Date, Table, Walk};
 use estelunya_planner::layout::{
     CALL_WORDS, CATEGORY_WORDS, DAYS_WORDS, EXTRA_WORDS, HEADER_WORDS, INTERCHANGE_WORDS, MOST_CALLS, SERVICE_WORDS,
     STOP_WORDS,
 };
-use estelunya_planner::{load, Date, Files, Table, Walk, MOST_ROW_WORDS};
+use estelunya_planner::{Files, MOST_ROW_WORDS};
 
 const STACK_BYTES: usize = 64 * 1024;
 

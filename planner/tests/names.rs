@@ -2,8 +2,9 @@
 
 use std::thread::Builder;
 
+use estelunya_planner::by_number::{load, Table};
 use estelunya_planner::layout::{HEADER_WORDS, STOP_WORDS};
-use estelunya_planner::{load, File, Files, Language, LoadRefusal, NameType, Offence, Refusal, Table};
+use estelunya_planner::{File, Files, Language, LoadRefusal, NameType, Offence, Refusal};
 
 const ANY: NameType = NameType::ANY;
 

@@ -1,6 +1,7 @@
 //! Numbers and names of refusals.
 
-use estelunya_planner::{load, File, Files, Offence, Refusal};
+use estelunya_planner::by_number::load;
+use estelunya_planner::{File, Files, Offence, Refusal};
 
 #[test]
 fn numbers_and_back() {

@@ -1,6 +1,7 @@
 //! A walk through its typed rows, and those of document 01's checked examples that no theorem proves.
 
-use estelunya_planner::{load, Date, File, Files, LoadRefusal, Offence, Refusal, Table, Walk, ROW_WORDS};
+use estelunya_planner::by_number::{load, Date, Table, Walk};
+use estelunya_planner::{File, Files, LoadRefusal, Offence, Refusal, ROW_WORDS};
 
 const FPLAN: &str = "\
 *Z 00007 FERRY_       002 030                             %

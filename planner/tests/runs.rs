@@ -1,6 +1,7 @@
 //! Runs of both kinds of services in one table: which there are, how late each is, and that a walk says the same.
 
-use estelunya_planner::{load, Date, Files, Refusal, Run, Runs, Table, Walk, ROW_WORDS};
+use estelunya_planner::by_number::{load, Date, Run, Table, Walk};
+use estelunya_planner::{Files, Refusal, Runs, ROW_WORDS};
 
 const DAY: Date = Date { day: 31, month: 12, year: 2025 };
 

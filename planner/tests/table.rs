@@ -1,7 +1,8 @@
 //! The trial week's table: what it answers and lists; and what any words list.
 
+use estelunya_planner::by_number::{load, Date, Table, Walk};
 use estelunya_planner::layout::HEADER_WORDS;
-use estelunya_planner::{load, Date, Files, Table, Walk, MOST_ROW_WORDS};
+use estelunya_planner::{Files, MOST_ROW_WORDS};
 
 const BAHNHOF: &[u8] = include_bytes!("../../crates/ferry/data/BAHNHOF");
 

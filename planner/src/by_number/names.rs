@@ -1,6 +1,8 @@
 //! The names of stops.
 
-use crate::ask::{answered, Table};
+use std::fmt;
+
+use super::ask::{answered, Table};
 use crate::raw;
 use crate::refusal::Refusal;
 
@@ -54,11 +56,17 @@ impl NameType {
 }
 
 /// A stop by its number, with the table that lists it and the bytes of BAHNHOF that hold its names.
-#[derive(Clone, Copy, Debug)]
+#[derive(Clone, Copy)]
 pub struct Stop<'a> {
     table: Table<'a>,
     bahnhof: &'a [u8],
     number: u32,
+}
+
+impl fmt::Debug for Stop<'_> {
+    fn fmt(&self, f: &mut fmt::Formatter<'_>) -> fmt::Result {
+        write!(f, "Stop({})", self.number)
+    }
 }
 
 impl<'a> Table<'a> {
@@ -78,6 +86,10 @@ impl<'a> Stop<'a> {
     /// The name in a language and of a type, as a part of BAHNHOF: the first name with a pattern that fits both, else the first name.
     /// A pattern without letters fits every language, one without digits every type. A name without patterns fits nothing: it
     /// is given only as the first name.
+    ///
+    /// # Errors
+    ///
+    /// 21, 27, 39, 40 or 41.
     pub fn name(self, language: Language, kind: NameType) -> Result<&'a [u8], Refusal> {
         let (words, bahnhof) = (self.table.words(), self.bahnhof);
         // SAFETY: each pointer and length is that of a slice.

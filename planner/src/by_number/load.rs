@@ -1,10 +1,12 @@
 //! Loading a delivery into lent words.
 
+use std::fmt;
+
 use crate::raw;
 use crate::refusal::{File, LoadRefusal, Offence};
 
 /// The five files of a delivery, each as its bytes.
-#[derive(Clone, Copy, Debug, PartialEq, Eq)]
+#[derive(Clone, Copy, PartialEq, Eq)]
 pub struct Files<'a> {
     /// ECKDATEN: the period.
     pub eckdaten: &'a [u8],
@@ -18,8 +20,22 @@ pub struct Files<'a> {
     pub fplan: &'a [u8],
 }
 
+/// The lengths of the files.
+impl fmt::Debug for Files<'_> {
+    fn fmt(&self, f: &mut fmt::Formatter<'_>) -> fmt::Result {
+        f.debug_struct("Files")
+            .field("eckdaten", &self.eckdaten.len())
+            .field("bitfeld", &self.bitfeld.len())
+            .field("bahnhof", &self.bahnhof.len())
+            .field("umsteigb", &self.umsteigb.len())
+            .field("fplan", &self.fplan.len())
+            .finish()
+    }
+}
+
 /// An accepted delivery.
 #[derive(Clone, Copy, Debug, PartialEq, Eq)]
+#[non_exhaustive]
 pub struct Loaded {
     /// How many words the table has: so many of those lent, from the first.
     pub words: u32,
@@ -28,10 +44,14 @@ pub struct Loaded {
 /// Loads a delivery into the words lent. Accepted: later words stay. Refused: all words stay as lent.
 ///
 /// The files are not needed afterwards, but for BAHNHOF if stop names are shown: see
-/// [`Table::stop`](crate::Table::stop).
+/// [`Table::stop`](crate::by_number::Table::stop).
 ///
 /// A load works in helper words besides. They are lent from the heap here, as many as it needs, and given back; to lend them from
 /// elsewhere there is [`load_with`].
+///
+/// # Errors
+///
+/// The first offence of the delivery, in document 01's order; [`Offence::TableTooShort`] if it is right but the words lent are too few.
 ///
 /// # Panics
 ///
@@ -43,6 +63,10 @@ pub fn load(files: &Files<'_>, table: &mut [u32]) -> Result<Loaded, LoadRefusal>
 
 /// How many helper words the load of these files needs: 64, and four for each line of BITFELD, BAHNHOF and UMSTEIGB. No file is
 /// looked into further; one that is too long is refused as a load refuses it.
+///
+/// # Errors
+///
+/// [`Offence::FileTooLong`], and no other.
 ///
 /// # Panics
 ///
@@ -59,6 +83,10 @@ pub fn helper_words(files: &Files<'_>) -> Result<usize, LoadRefusal> {
 /// Loads a delivery as [`load`] does, with helper words of the caller: at least [`helper_words`] of them, else the delivery is
 /// refused with [`Offence::HelperTooShort`]. They may hold anything. Afterwards those that are needed hold 0, whatever the answer,
 /// and further ones stay as lent; where they are too few, or a file is too long, all stay.
+///
+/// # Errors
+///
+/// As of [`load`], and [`Offence::HelperTooShort`].
 pub fn load_with(files: &Files<'_>, table: &mut [u32], helper: &mut [u32]) -> Result<Loaded, LoadRefusal> {
     let Files { eckdaten, bitfeld, bahnhof, umsteigb, fplan } = *files;
     // SAFETY: each pointer and length is that of a slice, and the two mutable slices overlap no other.

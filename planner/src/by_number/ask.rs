@@ -1,10 +1,12 @@
 //! Questions on a table.
 
+use std::fmt;
+
 use crate::raw;
 use crate::refusal::Refusal;
 use crate::row::Rows;
 
-/// A date as it is asked; whether it exists is for the answer to say.
+/// A date as three numbers; whether it exists is for the answer to say. One that exists is a [`Date`](crate::Date).
 #[derive(Clone, Copy, Debug, PartialEq, Eq)]
 pub struct Date {
     /// The day of the month, from 1.
@@ -15,13 +17,26 @@ pub struct Date {
     pub year: u32,
 }
 
+impl From<crate::Date> for Date {
+    fn from(date: crate::Date) -> Date {
+        Date { day: date.day(), month: date.month().number(), year: date.year() }
+    }
+}
+
 /// Words to ask. Any words may be asked; each question first looks whether they are a table, and answers
 /// [`Refusal::NotATable`] if not. Words after the table's own are not looked at.
 ///
 /// Their layout: [`layout`](crate::layout), and `include/estelunya.h`.
-#[derive(Clone, Copy, Debug)]
+#[derive(Clone, Copy)]
 pub struct Table<'a> {
     words: &'a [u32],
+}
+
+/// How many words there are, not which.
+impl fmt::Debug for Table<'_> {
+    fn fmt(&self, f: &mut fmt::Formatter<'_>) -> fmt::Result {
+        f.debug_struct("Table").field("words", &self.words.len()).finish_non_exhaustive()
+    }
 }
 
 /// The answer of a walk.
@@ -46,9 +61,13 @@ impl<'a> Table<'a> {
 
     /// Whether a bit field runs on a date; 0 always runs.
     ///
+    /// # Errors
+    ///
+    /// 21, 22, 23 or 28.
+    ///
     /// # Panics
     ///
-    /// As [`load`](crate::load) does, here and in the other questions.
+    /// As [`load`](crate::by_number::load) does, here and in the other questions.
     pub fn day(self, field: u32, date: Date) -> Result<bool, Refusal> {
         let Date { day, month, year } = date;
         // SAFETY: pointer and length are those of a slice.
@@ -57,6 +76,10 @@ impl<'a> Table<'a> {
     }
 
     /// The minutes to change at a stop from a class to a class.
+    ///
+    /// # Errors
+    ///
+    /// 21, 26 or 27.
     pub fn interchange(self, stop: u32, arriving: u32, departing: u32) -> Result<u32, Refusal> {
         // SAFETY: pointer and length are those of a slice.
         let answer =
@@ -66,7 +89,10 @@ impl<'a> Table<'a> {
 
     /// Walks a run that starts on a date: service by its index from 0 in FPLAN's order, repeat 0 for the run itself, else the
     /// number of one of its [`runs`](Table::runs).
-    /// Refused: the rows stay as lent.
+    ///
+    /// # Errors
+    ///
+    /// 21 to 25, 29, or 31 to 36; the rows stay as lent.
     pub fn walk(self, service: u32, repeat: u32, date: Date, rows: &mut [u32]) -> Result<Walk<'_>, Refusal> {
         let Date { day, month, year } = date;
         // SAFETY: each pointer and length is that of a slice, and the mutable slice does not overlap the other.

@@ -3,7 +3,7 @@
 use std::ops::{BitAnd, BitOr, Not, Sub};
 use std::ptr;
 
-use crate::ask::{answered, Table};
+use super::ask::{answered, Table};
 use crate::layout::BIT_WORDS;
 use crate::raw;
 use crate::refusal::Refusal;
@@ -20,7 +20,7 @@ const FRAME_BITS: u32 = 4;
 ///
 /// # Panics
 ///
-/// `|`, `&` and `-` if the two are of different tables, whose periods may differ; and all as [`load`](crate::load) does.
+/// `|`, `&` and `-` if the two are of different tables, whose periods may differ; and all as [`load`](crate::by_number::load) does.
 #[derive(Clone, Copy, Debug)]
 pub struct BitField<'a> {
     table: Table<'a>,
@@ -29,6 +29,8 @@ pub struct BitField<'a> {
 
 impl<'a> Table<'a> {
     /// The bit field of this number; 0 is each day of the period.
+    ///
+    /// # Errors
     ///
     /// It is refused with [`Refusal::NoSuchBitField`] where the table lists no such number, and with
     /// [`Refusal::NotAField`] where its frame is wrong, which the table of an accepted delivery has nowhere.
@@ -40,8 +42,11 @@ impl<'a> Table<'a> {
         self.bit_field_from(words)
     }
 
-    /// Words from elsewhere as a bit field of this table: [`Refusal::NotAField`] unless they are twelve with the frame of
-    /// its period. Whether they were meant for this period, nobody can see.
+    /// Words from elsewhere as a bit field of this table. Whether they were meant for its period, nobody can see.
+    ///
+    /// # Errors
+    ///
+    /// [`Refusal::NotAField`] unless they are twelve with the frame of its period.
     pub fn bit_field_from(self, words: &[u32]) -> Result<BitField<'a>, Refusal> {
         // SAFETY: pointer and length are those of a slice.
         let answer = unsafe { raw::estelunya_days_count(self.period_days(), words.as_ptr(), words.len()) };

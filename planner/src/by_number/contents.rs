@@ -3,10 +3,11 @@
 //! None of this asks the archive, or whether the words are a table ([`Table::day`] and the other questions do): of words
 //! that are none it tells what stands in these places, or nothing where there are no such words.
 
-use crate::ask::Table;
+use super::ask::Table;
+use crate::handles::Listed;
 use crate::layout::{
-    BIT_FIELDS_AT, BIT_FIELD_WORDS, FIRST_SERVICE_AT, HEADER_WORDS, NUMBER_AT, PERIOD_DAYS_AT, SERVICES_AT,
-    SERVICE_WORDS, SIZE_AT, STOPS_AT, STOP_WORDS, USED_AT,
+    BIT_FIELDS_AT, BIT_FIELD_WORDS, FIRST_SERVICE_AT, HEADER_WORDS, INTERCHANGES_AT, INTERCHANGE_WORDS, NUMBER_AT,
+    PERIOD_DAYS_AT, SERVICES_AT, SERVICE_WORDS, SIZE_AT, STOPS_AT, STOP_WORDS, USED_AT,
 };
 use crate::runs::Runs;
 
@@ -50,7 +51,7 @@ impl<'a> Table<'a> {
 
     /// The name field of the stop with this number, as a [`Row`](crate::Row) says it: the bytes from column 13 of its line in
     /// BAHNHOF, without trailing blanks. All its names stand there with their patterns; the one to show is
-    /// [`Stop::name`](crate::Stop::name). The bytes of BAHNHOF must be those that were loaded. `None` if the stop is not in
+    /// [`Stop::name`](crate::by_number::Stop::name). The bytes of BAHNHOF must be those that were loaded. `None` if the stop is not in
     /// the table, or these bytes do not reach so far.
     pub fn stop_name(self, stop: u32, bahnhof: &[u8]) -> Option<&[u8]> {
         let record = self.stop_records().find(|record| record[0] == stop)?;
@@ -60,13 +61,11 @@ impl<'a> Table<'a> {
 
     /// The words of the bits of the bit field with this number.
     pub(crate) fn bit_field_words(self, number: u32) -> Option<&'a [u32]> {
-        let fields = self.from(HEADER_WORDS as u64).chunks_exact(BIT_FIELD_WORDS);
-        let mut listed = fields.take(self.header(BIT_FIELDS_AT) as usize);
-        listed.find(|record| record[0] == number).map(|record| &record[1..])
+        self.bit_field_records().find(|record| record[0] == number).map(|record| &record[1..])
     }
 
     /// A word of the header.
-    fn header(self, at: usize) -> u32 {
+    pub(crate) fn header(self, at: usize) -> u32 {
         if self.words().len() < HEADER_WORDS {
             return 0;
         }
@@ -74,21 +73,37 @@ impl<'a> Table<'a> {
     }
 
     /// The table's own words from a place on.
-    fn from(self, place: u64) -> &'a [u32] {
+    pub(crate) fn from(self, place: u64) -> &'a [u32] {
         let used = self.words().len().min(self.header(USED_AT) as usize);
         let start = used.min(usize::try_from(place).unwrap_or(used));
         &self.words()[start..used]
     }
 
+    /// The bit fields that are listed, each with its number, in BITFELD's order.
+    pub(crate) fn bit_field_records(self) -> impl Listed<&'a [u32]> {
+        let fields = self.from(HEADER_WORDS as u64).chunks_exact(BIT_FIELD_WORDS);
+        fields.take(self.header(BIT_FIELDS_AT) as usize)
+    }
+
+    /// Stop and two times of each interchange record, in UMSTEIGB's order.
+    pub(crate) fn interchange_records(self) -> impl Listed<&'a [u32]> {
+        let first = self.first_stop() + STOP_WORDS as u64 * u64::from(self.stops());
+        self.from(first).chunks_exact(INTERCHANGE_WORDS).take(self.header(INTERCHANGES_AT) as usize)
+    }
+
     /// The head of each service, in FPLAN's order.
-    fn service_heads(self) -> impl Iterator<Item = &'a [u32]> {
+    pub(crate) fn service_heads(self) -> impl Iterator<Item = &'a [u32]> {
         heads(self.from(u64::from(self.header(FIRST_SERVICE_AT)))).take(self.services() as usize)
     }
 
     /// Number, place and length of the name of each stop.
-    fn stop_records(self) -> impl Iterator<Item = &'a [u32]> {
-        let first = HEADER_WORDS as u64 + BIT_FIELD_WORDS as u64 * u64::from(self.header(BIT_FIELDS_AT));
-        self.from(first).chunks_exact(STOP_WORDS).take(self.stops() as usize)
+    pub(crate) fn stop_records(self) -> impl Listed<&'a [u32]> {
+        self.from(self.first_stop()).chunks_exact(STOP_WORDS).take(self.stops() as usize)
+    }
+
+    /// The place of the first stop: header and bit fields stand before it.
+    fn first_stop(self) -> u64 {
+        HEADER_WORDS as u64 + BIT_FIELD_WORDS as u64 * u64::from(self.header(BIT_FIELDS_AT))
     }
 }
 

@@ -1,0 +1,106 @@
+//! A day in the host: how a planner lives with timetables from night to night. This is a chapter; there is nothing to call in it.
+//!
+//! # Size
+//!
+//! [`Timetable::load`](crate::Timetable::load) takes what it needs from the heap. While it loads, that is hardly more than the bytes of the five files once again, and four words of four bytes (helper
+//! words) for each line of BITFELD, BAHNHOF and UMSTEIGB. Afterwards it keeps the table's own words, BAHNHOF's bytes, and eight bytes a service. No file is over 16 MiB (16,777,216
+//! bytes): a longer one is refused. The archive itself takes no heap, and little stack: the crate's tests load and walk the largest service on a thread of 64 KiB.
+//!
+//! # Load
+//!
+//! One call for a delivery, at night, on any thread. It is accepted or refused as a whole. A refusal is an `Err` and yields no timetable, so there is nothing that could be asked by
+//! mistake; the one of the night before stands as it stood, and goes on answering for its own period. Write the refusal to the log (its text begins as the program's line does) and to the
+//! operator's data desk (docs/REFUSALS.md says how to mend it).
+//!
+//! An accepted delivery may be empty: no services, or a period that is over. That is for the host to see, before it swaps:
+//!
+//! ```
+//! use estelunya_planner::{Date, Timetable};
+//!
+//! fn fit(timetable: &Timetable, today: Date) -> bool {
+//!     timetable.service_count() > 0 && timetable.period().contains(today)
+//! }
+//!
+//! # fn main() -> Result<(), Box<dyn std::error::Error>> {
+//! let timetable = Timetable::read("../crates/ferry/data")?;
+//! assert!(fit(&timetable, "01.12.2025".parse()?));
+//! assert!(!fit(&timetable, "08.12.2025".parse()?));
+//! # Ok(())
+//! # }
+//! ```
+//!
+//! # Share, and threads
+//!
+//! A timetable is never changed, and is `Send` and `Sync`: put it into an [`Arc`](std::sync::Arc), and give a clone of that to whoever asks. No lock is needed to ask: the archive keeps no
+//! state between calls. Each request opens the timetable, asks, and gives back plain values (numbers, dates, strings); handles stay inside the opening. Threads that end
+//! inside it may share its handles.
+//!
+//! # Swap at night, drop when the last run has ended
+//!
+//! The place where the timetable of the day stands is the only thing that is locked, and only for as long as a pointer is copied. A request that has begun keeps the timetable that
+//! it began with; the old one is dropped when the last of them has ended.
+//!
+//! A run belongs to the date on which it *starts*. At half past midnight last night's ferry is still on its way: ask for it with yesterday's date, its times are then over 1,440 minutes. If
+//! the new period begins today, the new timetable refuses yesterday ([`OutsidePeriod`](crate::Refusal::OutsidePeriod)), and does not know that run. So do not drop the old timetable at midnight, but when its
+//! last run has ended:
+//!
+//! ```
+//! use estelunya_planner::{Date, Timetable};
+//! use std::sync::{Arc, RwLock};
+//!
+//! /// Today's timetable, and yesterday's while its last runs are on their way.
+//! struct Host {
+//!     today: RwLock<Arc<Timetable>>,
+//!     yesterday: RwLock<Option<Arc<Timetable>>>,
+//! }
+//!
+//! impl Host {
+//!     fn current(&self) -> Arc<Timetable> {
+//!         Arc::clone(&self.today.read().unwrap())
+//!     }
+//!
+//!     fn swap(&self, new: Timetable) {
+//!         let old = std::mem::replace(&mut *self.today.write().unwrap(), Arc::new(new));
+//!         *self.yesterday.write().unwrap() = Some(old);
+//!     }
+//! }
+//!
+//! /// When the last run that starts on a date has ended, in minutes from the start of that date; found once, when the timetable is loaded.
+//! fn last_arrival(timetable: &Timetable, date: Date) -> Option<u32> {
+//!     timetable.open(|timetable| {
+//!         let last_runs = timetable.services().filter_map(|service| service.runs(date).ok()?.last());
+//!         last_runs.filter_map(|run| run.calls().last()?.arrival()).max()
+//!     })
+//! }
+//!
+//! # fn main() -> Result<(), Box<dyn std::error::Error>> {
+//! let timetable = Timetable::read("../crates/ferry/data")?;
+//! assert_eq!(last_arrival(&timetable, "05.12.2025".parse()?), Some(8 * 60 + 55));
+//! let host = Host { today: RwLock::new(Arc::new(timetable)), yesterday: RwLock::new(None) };
+//!
+//! let asked = host.current();
+//! host.swap(Timetable::read("../crates/ferry/data")?);
+//! // a request that began before the swap goes on with what it began with
+//! assert_eq!(asked.open(|timetable| timetable.services().len()), 1);
+//! // the last run has ended
+//! *host.yesterday.write().unwrap() = None;
+//! # Ok(())
+//! # }
+//! ```
+//!
+//! Numbers do not survive the night: an index of a service, and the number of a bit field, mean something in their own delivery only. What a host keeps over the night it keeps by what people know:
+//! service number, administration, stop numbers, dates.
+//!
+//! # What a question costs
+//!
+//! A question that the archive answers first looks whether the words are a table, every time: that is proved, and grows with the table, about 0.3 ns a word (docs/MEASURED.md); a tenth of a
+//! millisecond for 300,000 words. That is so for [`Service::runs`](crate::Service::runs), [`Run::calls`](crate::Run::calls), [`BitField::runs_on`](crate::BitField::runs_on), [`Stop::name`](crate::Stop::name) and
+//! [`Stop::interchange`](crate::Stop::interchange). Who asks them in an inner loop asks once for the day, and keeps the answers. Arithmetic on days takes some microseconds whatever the table.
+//! What is only read (numbers, routes, ranges, periods) takes no call of the archive, but [`Opened::stop_by_number`](crate::Opened::stop_by_number) and a range's bit field are looked for
+//! from the first.
+//!
+//! # What a class is
+//!
+//! [`Stop::interchange`](crate::Stop::interchange) takes the classes of the service that arrives and of the one that departs: the quality of a means of transport, 0 the highest to 13 the lowest. Which category
+//! (*G, such as `BAT`) has which class stands in the standard's file ZUGART (5.5), which is not one of the five files: the host has to know it. Two classes that are both 0, 1 or 2 take a stop's first time, all
+//! others its second.

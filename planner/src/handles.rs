@@ -1,0 +1,689 @@
+//! Handles of what a timetable holds. Each borrows its timetable and carries the mark of one opening, so that handles of two never meet.
+//!
+//! A question that the archive has is asked of it. What else the table holds is read from the places that document 01's section "Table" gives it.
+
+use std::fmt;
+use std::hash::{Hash, Hasher};
+use std::marker::PhantomData;
+use std::ops::{BitAnd, BitOr, Not, Sub};
+
+use crate::by_number;
+use crate::by_number::names::{Language, NameType};
+
+use crate::by_number::Table;
+use crate::date::Date;
+use crate::layout::{
+    ADMINISTRATION_AT, ARRIVAL, CALLS_AT, CALL_WORDS, CATEGORIES_AT, CATEGORY_WORDS, DAYS_AT, DAYS_WORDS, DEPARTURE,
+    EXTRAS_AT, EXTRA_WORDS, NO_ALIGHTING, NO_BOARDING, NUMBER_AT, OPENING_LINE_AT, ROW_WORDS, SERVICE_WORDS,
+};
+use crate::refusal::Refusal;
+use crate::row::{six_bytes, three_bytes, Row};
+use crate::runs::Runs;
+use crate::timetable::{Period, Timetable};
+
+/// In an interchange record: every stop without its own.
+const EVERY_STOP: u32 = 9_999_999;
+
+/// Items in the order of their file, from either end, with their number known.
+pub trait Listed<T>: ExactSizeIterator<Item = T> + DoubleEndedIterator {}
+
+impl<T, I: ExactSizeIterator<Item = T> + DoubleEndedIterator> Listed<T> for I {}
+
+/// A [`Timetable`] that is open: what a closure of [`Timetable::open`] is given. Copy it as you like; it and its handles may go to other threads that end
+/// inside the closure ([`std::thread::scope`]).
+#[derive(Clone, Copy)]
+pub struct Opened<'t> {
+    timetable: &'t Timetable,
+    /// No lifetime of another opening is longer or shorter than this one: they do not meet.
+    mark: PhantomData<fn(&'t ()) -> &'t ()>,
+}
+
+impl<'t> Opened<'t> {
+    pub(crate) fn new(timetable: &'t Timetable) -> Opened<'t> {
+        Opened { timetable, mark: PhantomData }
+    }
+
+    fn table(self) -> Table<'t> {
+        self.timetable.by_number()
+    }
+
+    /// The period of the delivery.
+    #[must_use]
+    pub fn period(self) -> Period {
+        self.timetable.period()
+    }
+
+    /// All services, in FPLAN's order.
+    pub fn services(self) -> impl Listed<Service<'t>> + 't {
+        (0..self.timetable.service_count()).map(move |index| Service { opened: self, index })
+    }
+
+    /// All stops, in BAHNHOF's order.
+    pub fn stops(self) -> impl Listed<Stop<'t>> + 't {
+        self.table().stop_records().map(move |record| self.stop(record[0]))
+    }
+
+    /// All bit fields, in BITFELD's order.
+    pub fn bit_fields(self) -> impl Listed<BitField<'t>> + 't {
+        self.table().bit_field_records().map(move |record| self.bit_field(record[0]))
+    }
+
+    /// All interchange records, in UMSTEIGB's order: the first is that of every stop without its own.
+    pub fn interchanges(self) -> impl Listed<Interchange<'t>> + 't {
+        self.table().interchange_records().map(move |record| Interchange {
+            stop: if record[0] == EVERY_STOP { None } else { Some(self.stop(record[0])) },
+            times: [record[1], record[2]],
+        })
+    }
+
+    /// Each day of the period: bit field 000000.
+    pub fn each_day(self) -> BitField<'t> {
+        self.bit_field(0)
+    }
+
+    /// The service with this index in FPLAN's order, from 0: only an index that was read in this timetable finds the service that was meant.
+    #[must_use]
+    pub fn service_by_index(self, index: usize) -> Option<Service<'t>> {
+        self.timetable.service_words(index).map(|_| Service { opened: self, index })
+    }
+
+    /// The stop with this number.
+    #[must_use]
+    pub fn stop_by_number(self, number: u32) -> Option<Stop<'t>> {
+        self.stops().find(|stop| stop.number == number)
+    }
+
+    /// The bit field with this number; 0 is [`Opened::each_day`]. Numbers of bit fields change from delivery to delivery: only one that was read in
+    /// this delivery finds the days that were meant.
+    #[must_use]
+    pub fn bit_field_by_number(self, number: u32) -> Option<BitField<'t>> {
+        match self.table().bit_field(number) {
+            Ok(days) => Some(BitField { opened: self, number: Some(number), days }),
+            Err(_) => None,
+        }
+    }
+
+    /// A bit field that the table names.
+    fn bit_field(self, number: u32) -> BitField<'t> {
+        self.bit_field_by_number(number).unwrap_or_else(|| panic!("the timetable does not list bit field {}", number))
+    }
+
+    /// A stop that the table names.
+    fn stop(self, number: u32) -> Stop<'t> {
+        Stop { opened: self, number }
+    }
+}
+
+impl fmt::Debug for Opened<'_> {
+    fn fmt(&self, f: &mut fmt::Formatter<'_>) -> fmt::Result {
+        fmt::Debug::fmt(self.timetable, f)
+    }
+}
+
+/// A service: a *Z or *T line of FPLAN with the lines that follow it.
+#[derive(Clone, Copy)]
+#[must_use]
+pub struct Service<'t> {
+    opened: Opened<'t>,
+    index: usize,
+}
+
+impl<'t> Service<'t> {
+    /// Its index in FPLAN's order, from 0.
+    #[must_use]
+    pub fn index(self) -> usize {
+        self.index
+    }
+
+    /// Its number, columns 4-8 of its opening line. Several services may have it.
+    #[must_use]
+    pub fn number(self) -> u32 {
+        self.words()[NUMBER_AT]
+    }
+
+    /// Its administration, columns 10-15 of its opening line.
+    #[must_use]
+    pub fn administration(self) -> [u8; 6] {
+        six_bytes(&self.words()[ADMINISTRATION_AT..])
+    }
+
+    /// The line of FPLAN that opens it, counted from 1.
+    #[must_use]
+    pub fn opening_line(self) -> u32 {
+        self.words()[OPENING_LINE_AT]
+    }
+
+    /// What its opening line says of its runs: repeats and offset of a *Z, running time and density of a *T.
+    #[must_use]
+    pub fn kind(self) -> Runs {
+        Runs::of_head(self.words())
+            .unwrap_or_else(|| panic!("the archive accepted service {} without runs", self.index))
+    }
+
+    /// Its runs that start on a date, the first first; none if it operates no leg on that day.
+    ///
+    /// # Errors
+    ///
+    /// [`Refusal::OutsidePeriod`], and no other.
+    pub fn runs(self, date: Date) -> Result<impl Listed<Run<'t>> + 't, Refusal> {
+        // Lent no rows, a walk says whether the service runs, and if it does, how many words its rows need.
+        let calls = match self.opened.table().walk(self.index as u32, 0, date.into(), &mut []) {
+            Ok(_) => 0,
+            Err(Refusal::RowsTooShort { needed }) => needed as usize / ROW_WORDS,
+            Err(refusal) => return Err(refusal),
+        };
+        let count = if calls == 0 { 0 } else { self.kind().last() + 1 };
+        Ok((0..count).map(move |number| Run { service: self, date, number, calls }))
+    }
+
+    /// The calls of its whole route, as FPLAN has them. Which of them are served on a date, and when, a [`Run`] says.
+    pub fn route(self) -> impl Listed<RouteCall<'t>> + 't {
+        let opened = self.opened;
+        self.records(0).chunks_exact(CALL_WORDS).map(move |words| RouteCall { opened, words })
+    }
+
+    /// Its categories, from its *G lines.
+    pub fn categories(self) -> impl Listed<Category> + 't {
+        self.records(1).chunks_exact(CATEGORY_WORDS).map(|record| Category {
+            code: three_bytes(record[0]),
+            from: record[1] as usize,
+            to: record[2] as usize,
+        })
+    }
+
+    /// Its operating days, from its *A VE lines.
+    pub fn operating_days(self) -> impl Listed<OperatingDays<'t>> + 't {
+        self.records(2).chunks_exact(DAYS_WORDS).map(move |record| OperatingDays {
+            field: self.opened.bit_field(record[0]),
+            from: record[1] as usize,
+            to: record[2] as usize,
+        })
+    }
+
+    /// Its other attributes, from its *A lines that are not *A VE.
+    pub fn attributes(self) -> impl Listed<Attribute<'t>> + 't {
+        self.records(3).chunks_exact(EXTRA_WORDS).map(move |record| {
+            let [_, first, second] = three_bytes(record[0]);
+            Attribute {
+                code: [first, second],
+                field: self.opened.bit_field(record[1]),
+                from: record[2] as usize,
+                to: record[3] as usize,
+            }
+        })
+    }
+
+    fn words(self) -> &'t [u32] {
+        self.opened.timetable.service_words(self.index).unwrap_or(&[])
+    }
+
+    /// The words of its calls (0), *G (1), *A VE (2) or other *A (3), which stand in this order behind its head.
+    fn records(self, kind: usize) -> &'t [u32] {
+        let words = self.words();
+        let lengths = [
+            words[CALLS_AT] as usize * CALL_WORDS,
+            words[CATEGORIES_AT] as usize * CATEGORY_WORDS,
+            words[DAYS_AT] as usize * DAYS_WORDS,
+            words[EXTRAS_AT] as usize * EXTRA_WORDS,
+        ];
+        let start = SERVICE_WORDS + lengths[..kind].iter().sum::<usize>();
+        &words[start..][..lengths[kind]]
+    }
+}
+
+impl fmt::Debug for Service<'_> {
+    fn fmt(&self, f: &mut fmt::Formatter<'_>) -> fmt::Result {
+        f.debug_struct("Service").field("index", &self.index).field("number", &self.number()).finish_non_exhaustive()
+    }
+}
+
+/// The same service: of one timetable they always are.
+impl PartialEq for Service<'_> {
+    fn eq(&self, other: &Self) -> bool {
+        self.index == other.index
+    }
+}
+
+impl Eq for Service<'_> {}
+
+impl Hash for Service<'_> {
+    fn hash<H: Hasher>(&self, state: &mut H) {
+        self.index.hash(state);
+    }
+}
+
+/// A category on a part of a service's route.
+#[derive(Clone, Copy, Debug, PartialEq, Eq, Hash)]
+#[non_exhaustive]
+pub struct Category {
+    /// Columns 4-6 of the *G line.
+    pub code: [u8; 3],
+    /// The index of the first call in [`Service::route`].
+    pub from: usize,
+    /// The index of the last call.
+    pub to: usize,
+}
+
+/// The operating days of a part of a service's route.
+#[derive(Clone, Copy, Debug, PartialEq, Eq)]
+#[non_exhaustive]
+pub struct OperatingDays<'t> {
+    /// The days.
+    pub field: BitField<'t>,
+    /// The index of the first call in [`Service::route`].
+    pub from: usize,
+    /// The index of the last call.
+    pub to: usize,
+}
+
+/// Another attribute of a part of a service's route. What a code means the delivery's makers say.
+#[derive(Clone, Copy, Debug, PartialEq, Eq)]
+#[non_exhaustive]
+pub struct Attribute<'t> {
+    /// Columns 4-5 of the *A line.
+    pub code: [u8; 2],
+    /// The days on which it holds.
+    pub field: BitField<'t>,
+    /// The index of the first call in [`Service::route`].
+    pub from: usize,
+    /// The index of the last call.
+    pub to: usize,
+}
+
+/// A call of a service's route, as FPLAN has it.
+#[derive(Clone, Copy)]
+#[must_use]
+pub struct RouteCall<'t> {
+    opened: Opened<'t>,
+    /// Stop, arrival, departure, flags, number, administration in two.
+    words: &'t [u32],
+}
+
+impl<'t> RouteCall<'t> {
+    /// The stop.
+    pub fn stop(self) -> Stop<'t> {
+        self.opened.stop(self.words[0])
+    }
+
+    /// The arrival of the first run in minutes, if the line states one.
+    #[must_use]
+    pub fn arrival(self) -> Option<u32> {
+        if self.flag(ARRIVAL) {
+            Some(self.words[1])
+        } else {
+            None
+        }
+    }
+
+    /// The departure of the first run in minutes, if the line states one.
+    #[must_use]
+    pub fn departure(self) -> Option<u32> {
+        if self.flag(DEPARTURE) {
+            Some(self.words[2])
+        } else {
+            None
+        }
+    }
+
+    /// Whether alighting is forbidden here.
+    #[must_use]
+    pub fn no_alighting(self) -> bool {
+        self.flag(NO_ALIGHTING)
+    }
+
+    /// Whether boarding is forbidden here.
+    #[must_use]
+    pub fn no_boarding(self) -> bool {
+        self.flag(NO_BOARDING)
+    }
+
+    /// The service's number that holds from this call on.
+    #[must_use]
+    pub fn number(self) -> u32 {
+        self.words[4]
+    }
+
+    /// The administration that holds from this call on.
+    #[must_use]
+    pub fn administration(self) -> [u8; 6] {
+        six_bytes(&self.words[5..])
+    }
+
+    fn flag(self, flag: u32) -> bool {
+        self.words[3] & flag == flag
+    }
+}
+
+impl fmt::Debug for RouteCall<'_> {
+    fn fmt(&self, f: &mut fmt::Formatter<'_>) -> fmt::Result {
+        f.debug_struct("RouteCall")
+            .field("stop", &self.stop().number)
+            .field("arrival", &self.arrival())
+            .field("departure", &self.departure())
+            .finish_non_exhaustive()
+    }
+}
+
+/// A run of a service that starts on a date.
+#[derive(Clone, Copy)]
+#[must_use]
+pub struct Run<'t> {
+    service: Service<'t>,
+    date: Date,
+    number: u32,
+    calls: usize,
+}
+
+impl<'t> Run<'t> {
+    /// Its service.
+    pub fn service(self) -> Service<'t> {
+        self.service
+    }
+
+    /// The date on which it starts; it may end on the next.
+    #[must_use]
+    pub fn date(self) -> Date {
+        self.date
+    }
+
+    /// Its number among the service's runs of that date, from 0.
+    #[must_use]
+    pub fn number(self) -> u32 {
+        self.number
+    }
+
+    /// The minutes that all its times are later than those of the first run.
+    #[must_use]
+    pub fn late(self) -> u32 {
+        self.service.kind().run(self.number).map_or(0, |run| run.late)
+    }
+
+    /// Walks it: the calls of that day's stretch, two or more.
+    pub fn calls(self) -> impl Listed<Call<'t>> + 't {
+        let mut words = vec![0; self.calls * ROW_WORDS];
+        let opened = self.service.opened;
+        // That no run of an accepted delivery is refused is proved.
+        match opened.table().walk(self.service.index as u32, self.number, self.date.into(), &mut words) {
+            Ok(by_number::Walk::Rows(rows)) if rows.len() == self.calls => {}
+            other => panic!("the archive walked {:?} to {:?}", self, other),
+        }
+        (0..self.calls).map(move |at| {
+            let mut row = [0; ROW_WORDS];
+            row.copy_from_slice(&words[at * ROW_WORDS..][..ROW_WORDS]);
+            Call { opened, words: row }
+        })
+    }
+}
+
+impl fmt::Debug for Run<'_> {
+    fn fmt(&self, f: &mut fmt::Formatter<'_>) -> fmt::Result {
+        f.debug_struct("Run")
+            .field("service", &self.service.index)
+            .field("date", &self.date)
+            .field("number", &self.number)
+            .finish_non_exhaustive()
+    }
+}
+
+impl PartialEq for Run<'_> {
+    fn eq(&self, other: &Self) -> bool {
+        (self.service, self.date, self.number) == (other.service, other.date, other.number)
+    }
+}
+
+impl Eq for Run<'_> {}
+
+impl Hash for Run<'_> {
+    fn hash<H: Hasher>(&self, state: &mut H) {
+        (self.service, self.date, self.number).hash(state);
+    }
+}
+
+/// A call of a run. Times are minutes from the start of the run's date; they may pass 1,440.
+#[derive(Clone, Copy)]
+#[must_use]
+pub struct Call<'t> {
+    opened: Opened<'t>,
+    words: [u32; ROW_WORDS],
+}
+
+impl<'t> Call<'t> {
+    /// The stop that is called at.
+    pub fn stop(&self) -> Stop<'t> {
+        self.opened.stop(self.row().stop())
+    }
+
+    /// The arrival; `None` at the first call.
+    #[must_use]
+    pub fn arrival(&self) -> Option<u32> {
+        self.row().arrival()
+    }
+
+    /// The departure; `None` at the last call.
+    #[must_use]
+    pub fn departure(&self) -> Option<u32> {
+        self.row().departure()
+    }
+
+    /// Whether there is an arrival at which alighting is not forbidden.
+    #[must_use]
+    pub fn may_alight(&self) -> bool {
+        self.row().may_alight()
+    }
+
+    /// Whether there is a departure at which boarding is not forbidden.
+    #[must_use]
+    pub fn may_board(&self) -> bool {
+        self.row().may_board()
+    }
+
+    /// The service's number that holds from this call on: see [`Row::number`].
+    #[must_use]
+    pub fn number(&self) -> u32 {
+        self.row().number()
+    }
+
+    /// The administration that holds from this call on.
+    #[must_use]
+    pub fn administration(&self) -> [u8; 6] {
+        self.row().administration()
+    }
+
+    /// The category of the leaving leg; `None` at the last call.
+    #[must_use]
+    pub fn category(&self) -> Option<[u8; 3]> {
+        self.row().category()
+    }
+
+    /// The row as the walk gave it.
+    #[must_use]
+    pub fn row(&self) -> Row<'_> {
+        Row::new(&self.words)
+    }
+}
+
+impl fmt::Debug for Call<'_> {
+    fn fmt(&self, f: &mut fmt::Formatter<'_>) -> fmt::Result {
+        f.debug_struct("Call")
+            .field("stop", &self.row().stop())
+            .field("arrival", &self.arrival())
+            .field("departure", &self.departure())
+            .finish_non_exhaustive()
+    }
+}
+
+/// A stop.
+#[derive(Clone, Copy)]
+#[must_use]
+pub struct Stop<'t> {
+    opened: Opened<'t>,
+    number: u32,
+}
+
+impl<'t> Stop<'t> {
+    /// Its number.
+    #[must_use]
+    pub fn number(self) -> u32 {
+        self.number
+    }
+
+    /// Its name in a language and of a type, as a part of BAHNHOF: the first name with a pattern that fits both, else the first name. It is in the
+    /// delivery's own coding, and has to be copied to outlive the opening.
+    ///
+    /// # Errors
+    ///
+    /// [`Refusal::NoSuchLanguageOrType`], and no other.
+    pub fn name(self, language: Language, kind: NameType) -> Result<&'t [u8], Refusal> {
+        self.opened.table().stop(self.number, self.opened.timetable.bahnhof()).name(language, kind)
+    }
+
+    /// All its names with their patterns, as they stand from column 13 of its line on.
+    #[must_use]
+    pub fn name_field(self) -> &'t [u8] {
+        self.opened.table().stop_name(self.number, self.opened.timetable.bahnhof()).unwrap_or(b"")
+    }
+
+    /// The minutes to change here from a service of one class to a service of another, each 0 to 13: see
+    /// [what a class is](crate::a_day_in_the_host#what-a-class-is).
+    ///
+    /// # Errors
+    ///
+    /// [`Refusal::ClassOver13`], and no other.
+    pub fn interchange(self, arriving: u32, departing: u32) -> Result<u32, Refusal> {
+        self.opened.table().interchange(self.number, arriving, departing)
+    }
+}
+
+impl fmt::Debug for Stop<'_> {
+    fn fmt(&self, f: &mut fmt::Formatter<'_>) -> fmt::Result {
+        write!(f, "Stop({})", self.number)
+    }
+}
+
+/// The same stop: a timetable has one of a number.
+impl PartialEq for Stop<'_> {
+    fn eq(&self, other: &Self) -> bool {
+        self.number == other.number
+    }
+}
+
+impl Eq for Stop<'_> {}
+
+impl Hash for Stop<'_> {
+    fn hash<H: Hasher>(&self, state: &mut H) {
+        self.number.hash(state);
+    }
+}
+
+/// A record of UMSTEIGB.
+#[derive(Clone, Copy, Debug, PartialEq, Eq)]
+#[non_exhaustive]
+pub struct Interchange<'t> {
+    /// The stop; `None` in the record of every stop without its own.
+    pub stop: Option<Stop<'t>>,
+    /// Minutes for two classes that are both 0, 1 or 2, and for all others.
+    pub times: [u32; 2],
+}
+
+/// A set of days of the period: one of BITFELD's, or one made of them.
+///
+/// `a | b` has the days of either, `a & b` those of both, `a - b` those of `a` that `b` has not, and `!a` the other days of the period: each is
+/// the archive's answer. Of two timetables they [do not compile](Timetable::open).
+#[derive(Clone, Copy)]
+#[must_use]
+pub struct BitField<'t> {
+    opened: Opened<'t>,
+    number: Option<u32>,
+    days: by_number::BitField<'t>,
+}
+
+impl<'t> BitField<'t> {
+    /// Its number in BITFELD, 0 for each day; `None` if it was made of others.
+    #[must_use]
+    pub fn number(self) -> Option<u32> {
+        self.number
+    }
+
+    /// Whether it has a date.
+    ///
+    /// # Errors
+    ///
+    /// [`Refusal::OutsidePeriod`], and no other.
+    pub fn runs_on(self, date: Date) -> Result<bool, Refusal> {
+        let runs = self.opened.table().day(self.number.unwrap_or(0), date.into())?;
+        // Of a field that has no number the archive can only be asked about the date.
+        Ok(runs && (self.number.is_some() || self.has(date.day_number() - self.opened.period().first.day_number())))
+    }
+
+    /// Its dates, the first first.
+    pub fn dates(self) -> impl DoubleEndedIterator<Item = Date> + 't {
+        let first = self.opened.period().first.day_number();
+        self.opened.period().dates().filter(move |date| self.has(date.day_number() - first))
+    }
+
+    /// How many days it has.
+    #[must_use]
+    pub fn day_count(self) -> u32 {
+        self.days.day_count()
+    }
+
+    /// Bit d + 2, bit 0 being the highest of the first word.
+    fn has(self, day: u32) -> bool {
+        let bit = day + 2;
+        self.days.words()[(bit / 32) as usize] << (bit % 32) >> 31 == 1
+    }
+
+    fn made(self, days: by_number::BitField<'t>) -> BitField<'t> {
+        BitField { opened: self.opened, number: None, days }
+    }
+}
+
+impl<'t> BitOr for BitField<'t> {
+    type Output = BitField<'t>;
+
+    fn bitor(self, other: BitField<'t>) -> BitField<'t> {
+        self.made(self.days | other.days)
+    }
+}
+
+impl<'t> BitAnd for BitField<'t> {
+    type Output = BitField<'t>;
+
+    fn bitand(self, other: BitField<'t>) -> BitField<'t> {
+        self.made(self.days & other.days)
+    }
+}
+
+impl<'t> Sub for BitField<'t> {
+    type Output = BitField<'t>;
+
+    fn sub(self, other: BitField<'t>) -> BitField<'t> {
+        self.made(self.days - other.days)
+    }
+}
+
+impl<'t> Not for BitField<'t> {
+    type Output = BitField<'t>;
+
+    fn not(self) -> BitField<'t> {
+        self.made(!self.days)
+    }
+}
+
+impl fmt::Debug for BitField<'_> {
+    fn fmt(&self, f: &mut fmt::Formatter<'_>) -> fmt::Result {
+        f.debug_struct("BitField")
+            .field("number", &self.number)
+            .field("days", &self.day_count())
+            .finish_non_exhaustive()
+    }
+}
+
+/// The same days.
+impl PartialEq for BitField<'_> {
+    fn eq(&self, other: &Self) -> bool {
+        self.days == other.days
+    }
+}
+
+impl Eq for BitField<'_> {}

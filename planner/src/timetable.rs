@@ -1,0 +1,297 @@
+//! A loaded delivery that owns all that its questions need.
+
+use std::error::Error;
+use std::path::Path;
+use std::{fmt, fs, io};
+
+use crate::by_number::load::Files;
+use crate::by_number::{load, Table};
+use crate::date::Date;
+use crate::handles::Opened;
+use crate::layout::{
+    BIT_FIELD_WORDS, FIRST_DAY_AT, FIRST_SERVICE_AT, HEADER_WORDS, INTERCHANGE_WORDS, SERVICE_WORDS, SIZE_AT,
+    STOP_WORDS,
+};
+use crate::refusal::{File, LoadRefusal, Offence};
+
+/// The table of one accepted delivery, with the bytes of its BAHNHOF, in which the names of its stops stand. It is never changed, and is made
+/// to stand in an [`Arc`](std::sync::Arc) all day: [`a day in the host`](crate::a_day_in_the_host).
+///
+/// What it holds is asked through handles ([`Service`](crate::Service), [`Stop`](crate::Stop), [`BitField`](crate::BitField),
+/// [`Run`](crate::Run)), which [`Timetable::open`] gives.
+pub struct Timetable {
+    words: Box<[u32]>,
+    bahnhof: Box<[u8]>,
+    /// Where each service starts, in FPLAN's order.
+    services: Box<[usize]>,
+}
+
+impl Timetable {
+    /// Loads a delivery. A refused one yields no timetable; one that was loaded before is not touched.
+    ///
+    /// It takes the words for the table and for the work from the heap, and copies BAHNHOF; the files are not needed afterwards.
+    ///
+    /// # Errors
+    ///
+    /// The first offence of the delivery, in document 01's order: number, file, line and column. Neither [`Offence::TableTooShort`]
+    /// nor [`Offence::HelperTooShort`].
+    ///
+    /// # Panics
+    ///
+    /// If the archive answers what this crate does not know: the two are not of one version. The same holds for every question.
+    pub fn load(files: &Files<'_>) -> Result<Timetable, LoadRefusal> {
+        let mut words = vec![0; likely_words(files)];
+        let loaded = match load(files, &mut words) {
+            // A guess that was too low costs a second load; the answer says how many words are needed.
+            Err(LoadRefusal { offence: Offence::TableTooShort, needed, .. }) => {
+                words = vec![0; needed as usize];
+                load(files, &mut words)?
+            }
+            answer => answer?,
+        };
+        words.truncate(loaded.words as usize);
+        let services = service_places(Table::new(&words));
+        Ok(Timetable { words: words.into(), bahnhof: files.bahnhof.into(), services })
+    }
+
+    /// Reads the five files of a delivery in a directory, each under its name in capitals, and loads them.
+    ///
+    /// # Errors
+    ///
+    /// The first file that cannot be read, or the refusal as of [`Timetable::load`].
+    pub fn read(directory: impl AsRef<Path>) -> Result<Timetable, ReadError> {
+        let read = |file: File| {
+            fs::read(directory.as_ref().join(file.name())).map_err(|error| ReadError::Unread { file, error })
+        };
+        let files = Files {
+            eckdaten: &read(File::Eckdaten)?,
+            bitfeld: &read(File::Bitfeld)?,
+            bahnhof: &read(File::Bahnhof)?,
+            umsteigb: &read(File::Umsteigb)?,
+            fplan: &read(File::Fplan)?,
+        };
+        Timetable::load(&files).map_err(ReadError::Refused)
+    }
+
+    /// Opens the timetable to a closure, which is given its handles. What the closure gives back is given back; no handle can be in it, since
+    /// each belongs to this opening alone, and no question takes one of another.
+    ///
+    /// ```
+    /// # fn main() -> Result<(), Box<dyn std::error::Error>> {
+    /// # let timetable = estelunya_planner::Timetable::read("../crates/ferry/data")?;
+    /// use estelunya_planner::{Date, Month};
+    ///
+    /// let friday = Date::new(5, Month::December, 2025).unwrap();
+    /// let numbers: Vec<u32> = timetable.open(|timetable| timetable.services().map(|service| service.number()).collect());
+    /// assert_eq!(numbers, [42]);
+    /// let runs = timetable.open(|timetable| timetable.services().next().unwrap().runs(friday).map(|runs| runs.len()))?;
+    /// assert_eq!(runs, 1);
+    /// # Ok(())
+    /// # }
+    /// ```
+    ///
+    /// # What does not compile
+    ///
+    /// Two timetables, and a field of one in a question with a field of the other. This compiles:
+    ///
+    /// ```
+    /// # fn main() -> Result<(), Box<dyn std::error::Error>> {
+    /// # let (old, new) = (estelunya_planner::Timetable::read("../crates/ferry/data")?, estelunya_planner::Timetable::read("../crates/ferry/data")?);
+    /// let days = old.open(|old| new.open(|new| {
+    ///     let (ferry, daily) = (old.bit_field_by_number(1).unwrap(), new.each_day());
+    ///     (ferry & old.each_day()).day_count() + daily.day_count()
+    /// }));
+    /// assert_eq!(days, 12);
+    /// # Ok(())
+    /// # }
+    /// ```
+    ///
+    /// This does not, since `ferry` is of another timetable than `daily`:
+    ///
+    /// ```compile_fail
+    /// # fn main() -> Result<(), Box<dyn std::error::Error>> {
+    /// # let (old, new) = (estelunya_planner::Timetable::read("../crates/ferry/data")?, estelunya_planner::Timetable::read("../crates/ferry/data")?);
+    /// let days = old.open(|old| new.open(|new| {
+    ///     let (ferry, daily) = (old.bit_field_by_number(1).unwrap(), new.each_day());
+    ///     (ferry & daily).day_count() + daily.day_count()
+    /// }));
+    /// # Ok(())
+    /// # }
+    /// ```
+    ///
+    /// Nor does a function of the host that is given a handle of another timetable than it asks, if it says so by one lifetime:
+    ///
+    /// ```compile_fail
+    /// # use estelunya_planner::{Opened, Service};
+    /// # fn main() -> Result<(), Box<dyn std::error::Error>> {
+    /// # let (old, new) = (estelunya_planner::Timetable::read("../crates/ferry/data")?, estelunya_planner::Timetable::read("../crates/ferry/data")?);
+    /// fn listed<'t>(timetable: Opened<'t>, service: Service<'t>) -> bool {
+    ///     timetable.services().any(|listed| listed == service)
+    /// }
+    /// old.open(|old| new.open(|new| listed(new, old.services().next().unwrap())));
+    /// # Ok(())
+    /// # }
+    /// ```
+    ///
+    /// Nor does a handle that is kept for later, when its timetable may be gone:
+    ///
+    /// ```compile_fail
+    /// # fn main() -> Result<(), Box<dyn std::error::Error>> {
+    /// # let timetable = estelunya_planner::Timetable::read("../crates/ferry/data")?;
+    /// let kept = timetable.open(|timetable| timetable.services().next());
+    /// # Ok(())
+    /// # }
+    /// ```
+    ///
+    /// ```compile_fail
+    /// # fn main() -> Result<(), Box<dyn std::error::Error>> {
+    /// # let timetable = estelunya_planner::Timetable::read("../crates/ferry/data")?;
+    /// let mut kept = None;
+    /// timetable.open(|timetable| kept = timetable.services().next());
+    /// drop(timetable);
+    /// kept.unwrap().number();
+    /// # Ok(())
+    /// # }
+    /// ```
+    pub fn open<R>(&self, ask: impl for<'t> FnOnce(Opened<'t>) -> R) -> R {
+        ask(Opened::new(self))
+    }
+
+    /// The period of the delivery.
+    #[must_use]
+    pub fn period(&self) -> Period {
+        let first = self.by_number().header(FIRST_DAY_AT);
+        let last = first + self.by_number().period_days() - 1;
+        match (Date::from_day_number(first), Date::from_day_number(last)) {
+            (Some(first), Some(last)) => Period { first, last },
+            _ => panic!("the archive accepted a period that ends on day {}", last),
+        }
+    }
+
+    /// How many services there are. An accepted delivery may have none: a host should raise an alarm then, and not plan with it.
+    #[must_use]
+    pub fn service_count(&self) -> usize {
+        self.services.len()
+    }
+
+    /// The words, to be asked by bare numbers: nobody then sees whether a number was read in this timetable.
+    #[must_use]
+    pub fn by_number(&self) -> Table<'_> {
+        Table::new(&self.words)
+    }
+
+    /// The bytes of BAHNHOF, as they were loaded.
+    #[must_use]
+    pub fn bahnhof(&self) -> &[u8] {
+        &self.bahnhof
+    }
+
+    /// The words of the service with this index.
+    pub(crate) fn service_words(&self, index: usize) -> Option<&[u32]> {
+        let from = &self.words[*self.services.get(index)?..];
+        Some(&from[..from[SIZE_AT] as usize])
+    }
+}
+
+/// Not its words: only what it is about.
+impl fmt::Debug for Timetable {
+    fn fmt(&self, f: &mut fmt::Formatter<'_>) -> fmt::Result {
+        let period = self.period();
+        f.debug_struct("Timetable")
+            .field("first", &period.first)
+            .field("last", &period.last)
+            .field("services", &self.service_count())
+            .field("words", &self.words.len())
+            .finish_non_exhaustive()
+    }
+}
+
+/// Why there is no timetable of a directory.
+#[derive(Debug)]
+#[non_exhaustive]
+pub enum ReadError {
+    /// A file could not be read.
+    Unread {
+        /// Which.
+        file: File,
+        /// Why.
+        error: io::Error,
+    },
+    /// The delivery is refused.
+    Refused(LoadRefusal),
+}
+
+impl fmt::Display for ReadError {
+    fn fmt(&self, f: &mut fmt::Formatter<'_>) -> fmt::Result {
+        match self {
+            ReadError::Unread { file, error } => write!(f, "unread file {}: {}: {}", file.number(), file, error),
+            ReadError::Refused(refusal) => refusal.fmt(f),
+        }
+    }
+}
+
+impl Error for ReadError {
+    fn source(&self) -> Option<&(dyn Error + 'static)> {
+        match self {
+            ReadError::Unread { error, .. } => Some(error),
+            ReadError::Refused(_) => None,
+        }
+    }
+}
+
+/// The days of a delivery, from its first to its last.
+#[derive(Clone, Copy, Debug, PartialEq, Eq, Hash)]
+#[non_exhaustive]
+pub struct Period {
+    /// Its first day.
+    pub first: Date,
+    /// Its last day.
+    pub last: Date,
+}
+
+impl Period {
+    /// How many days it has, 1 to 380.
+    #[must_use]
+    pub fn day_count(self) -> u32 {
+        self.last.day_number() - self.first.day_number() + 1
+    }
+
+    /// Whether a date is in it. A question on any other is refused with [`Refusal::OutsidePeriod`](crate::Refusal::OutsidePeriod).
+    #[must_use]
+    pub fn contains(self, date: Date) -> bool {
+        self.first <= date && date <= self.last
+    }
+
+    /// Its dates, the first first.
+    pub fn dates(self) -> impl DoubleEndedIterator<Item = Date> {
+        (self.first.day_number()..=self.last.day_number()).filter_map(Date::from_day_number)
+    }
+}
+
+/// The bytes that a line which makes a record has at least, with its LF: up to the last bit, the first byte of a name, the second time, "%".
+const BIT_FIELD_LINE: usize = 104;
+const STOP_LINE: usize = 14;
+const INTERCHANGE_LINE: usize = 14;
+const SERVICE_LINE: usize = 60;
+
+/// Words for the table of a delivery with files of these lengths, if each file were full of the shortest lines, of the kind that takes most
+/// words. No proof says that they are enough.
+fn likely_words(files: &Files<'_>) -> usize {
+    // The last line may have no LF.
+    let lines = |bytes: &[u8], shortest: usize| bytes.len() / shortest + 1;
+    HEADER_WORDS
+        + BIT_FIELD_WORDS * lines(files.bitfeld, BIT_FIELD_LINE)
+        + STOP_WORDS * lines(files.bahnhof, STOP_LINE)
+        + INTERCHANGE_WORDS * lines(files.umsteigb, INTERCHANGE_LINE)
+        + SERVICE_WORDS * lines(files.fplan, SERVICE_LINE)
+}
+
+fn service_places(table: Table<'_>) -> Box<[usize]> {
+    let mut next = table.header(FIRST_SERVICE_AT) as usize;
+    let place = |head: &[u32]| {
+        let place = next;
+        next += head[SIZE_AT] as usize;
+        place
+    };
+    table.service_heads().map(place).collect()
+}

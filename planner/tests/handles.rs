@@ -1,0 +1,236 @@
+//! A timetable through its handles: they say what the numbers say, and everything that the table holds.
+
+use std::collections::HashSet;
+use std::path::Path;
+use std::sync::Arc;
+use std::thread;
+
+use estelunya_planner::by_number::Walk;
+use estelunya_planner::{
+    Date, File, Files, Language, Month, NameType, Offence, ReadError, Refusal, Runs, Timetable, MOST_ROW_WORDS,
+};
+
+/// A *Z with repeats, of which the second leg does not run on the second day; a *T; both with other attributes.
+const FPLAN: &str = "\
+*Z 00007 FERRY_       002 030                             %
+*G BAT         1000022                                    %
+*G SCH 1000022                                            %
+*A VE         1000022                                     %
+*A VE 1000022         000003                              %
+*A FR                 000003                              %
+*A K2 1000022                                             %
+1000011                              02355                %
+1000022                      -02410 -02412 00008          %
+1000033                       02430        00008 NIGHT_   %
+*T 00042 FERRY_ 0240 0450                                 %
+*G BAT                                                    %
+*A VE                 000003                              %
+1000022                              00900                %
+1000011                       00910                       %
+";
+
+/// Two days, 31.12.2025 and 01.01.2026; bit field 3 has the first.
+fn two_days() -> Result<Timetable, estelunya_planner::LoadRefusal> {
+    let bitfeld = format!("000003 EC{:0<94}\n", "");
+    Timetable::load(&Files {
+        eckdaten: b"31.12.2025\n01.01.2026\nTwo days",
+        bitfeld: bitfeld.as_bytes(),
+        bahnhof: b"1000022     B$<d>$Bee$<e>\n1000011     A\n1000033     C",
+        umsteigb: b"9999999  2  3\n1000022  4 15",
+        fplan: FPLAN.as_bytes(),
+    })
+}
+
+fn date(text: &str) -> Date {
+    text.parse().unwrap()
+}
+
+fn first() -> Date {
+    date("31.12.2025")
+}
+
+fn second() -> Date {
+    date("01.01.2026")
+}
+
+#[test]
+fn shared_between_threads() {
+    fn shared<T: Send + Sync + 'static>(_: &T) {}
+    let timetable = Arc::new(two_days().unwrap());
+    shared(&timetable);
+    let other = Arc::clone(&timetable);
+    let counted = thread::spawn(move || other.open(|timetable| timetable.services().len()));
+    assert_eq!(counted.join().unwrap(), 2);
+    timetable.open(|timetable| {
+        let service = timetable.services().next().unwrap();
+        let walked = thread::scope(|scope| scope.spawn(|| service.runs(first()).unwrap().len()).join());
+        assert_eq!(walked.unwrap(), 3);
+    });
+}
+
+#[test]
+fn heads() {
+    let timetable = two_days().unwrap();
+    let period = timetable.period();
+    assert_eq!((period.first, period.last, period.day_count()), (first(), second(), 2));
+    assert_eq!(period.dates().collect::<Vec<_>>(), [first(), second()]);
+    assert!(period.contains(second()) && !period.contains(date("02.01.2026")));
+    timetable.open(|timetable| {
+        let said: Vec<_> =
+            timetable.services().map(|service| (service.number(), service.administration(), service.kind())).collect();
+        let expected = [
+            (7, *b"FERRY_", Runs::Repeated { repeats: 2, offset: 30 }),
+            (42, *b"FERRY_", Runs::Frequent { running_time: 240, density: 450 }),
+        ];
+        assert_eq!(said, expected);
+        let lines: Vec<u32> = timetable.services().rev().map(|service| service.opening_line()).collect();
+        assert_eq!(lines, [11, 1]);
+        assert_eq!(timetable.service_by_index(1), timetable.services().last());
+        assert_eq!(timetable.service_by_index(2), None);
+        assert_eq!(timetable.services().collect::<HashSet<_>>().len(), 2);
+    });
+}
+
+#[test]
+fn ranges() {
+    let timetable = two_days().unwrap();
+    timetable.open(|timetable| {
+        let service = timetable.services().next().unwrap();
+        let categories: Vec<_> = service.categories().map(|part| (part.code, part.from, part.to)).collect();
+        assert_eq!(categories, [(*b"BAT", 0, 1), (*b"SCH", 1, 2)]);
+        let days: Vec<_> = service.operating_days().map(|part| (part.field.number(), part.from, part.to)).collect();
+        assert_eq!(days, [(Some(0), 0, 1), (Some(3), 1, 2)]);
+        let attributes: Vec<_> =
+            service.attributes().map(|part| (part.code, part.field.number(), part.from, part.to)).collect();
+        assert_eq!(attributes, [(*b"FR", Some(3), 0, 2), (*b"K2", Some(0), 1, 2)]);
+        let route: Vec<_> =
+            service.route().map(|call| (call.stop().number(), call.arrival(), call.departure())).collect();
+        let expected =
+            [(1_000_011, None, Some(1_435)), (1_000_022, Some(1_450), Some(1_452)), (1_000_033, Some(1_470), None)];
+        assert_eq!(route, expected);
+        let between = service.route().nth(1).unwrap();
+        assert_eq!((between.no_alighting(), between.no_boarding(), between.number()), (true, true, 8));
+        assert_eq!(service.route().last().unwrap().administration(), *b"NIGHT_");
+        let sizes: Vec<_> =
+            timetable.services().map(|service| (service.route().len(), service.attributes().len())).collect();
+        assert_eq!(sizes, [(3, 2), (2, 0)]);
+    });
+}
+
+#[test]
+fn runs() {
+    let timetable = two_days().unwrap();
+    timetable.open(|timetable| {
+        let counts =
+            |date| -> Vec<usize> { timetable.services().map(|service| service.runs(date).unwrap().len()).collect() };
+        assert_eq!((counts(first()), counts(second())), (vec![3, 33], vec![3, 0]));
+        let service = timetable.services().next().unwrap();
+        assert_eq!(service.runs(date("02.01.2026")).err(), Some(Refusal::OutsidePeriod));
+        let last = service.runs(first()).unwrap().last().unwrap();
+        assert_eq!((last.number(), last.late(), last.date(), last.service()), (2, 60, first(), service));
+        assert_eq!(last.calls().last().unwrap().arrival(), Some(1_470 + 60));
+        // on the second day the second leg rests
+        let short = service.runs(second()).unwrap().next().unwrap();
+        assert_eq!(short.calls().map(|call| call.stop().number()).collect::<Vec<_>>(), [1_000_011, 1_000_022]);
+        assert_eq!(short.calls().map(|call| call.category()).collect::<Vec<_>>(), [Some(*b"BAT"), None]);
+    });
+}
+
+/// Every run of every day, word by word as the walk by numbers gives it.
+#[test]
+fn as_by_number() {
+    let timetable = two_days().unwrap();
+    let (table, mut lent) = (timetable.by_number(), vec![0; MOST_ROW_WORDS]);
+    for date in timetable.period().dates() {
+        let walked: Vec<Vec<u32>> = timetable.open(|timetable| {
+            let runs = timetable.services().flat_map(|service| service.runs(date).unwrap());
+            runs.map(|run| run.calls().flat_map(|call| call.row().words().to_vec()).collect()).collect()
+        });
+        let mut expected = Vec::new();
+        for service in 0..table.services() {
+            for run in table.runs(service).unwrap().iter() {
+                match table.walk(service, run.number, date.into(), &mut lent).unwrap() {
+                    Walk::Rows(rows) => expected.push(rows.words().to_vec()),
+                    Walk::NotRunning => {}
+                }
+            }
+        }
+        assert_eq!(walked, expected);
+    }
+}
+
+#[test]
+fn stops() {
+    let timetable = two_days().unwrap();
+    timetable.open(|timetable| {
+        let names: Vec<_> =
+            timetable.stops().map(|stop| stop.name(Language::ENGLISH, NameType::ANY).unwrap()).collect();
+        assert_eq!(names, [&b"Bee"[..], b"A", b"C"]);
+        let stop = timetable.stop_by_number(1_000_022).unwrap();
+        assert_eq!((stop, stop.name_field()), (timetable.stops().next().unwrap(), &b"B$<d>$Bee$<e>"[..]));
+        assert_eq!(stop.name(Language(1), NameType::ANY), Err(Refusal::NoSuchLanguageOrType));
+        assert_eq!((stop.interchange(2, 2), stop.interchange(2, 3)), (Ok(4), Ok(15)));
+        assert_eq!(stop.interchange(0, 14), Err(Refusal::ClassOver13));
+        assert_eq!(timetable.stop_by_number(9_999_999), None);
+        let records: Vec<_> = timetable.interchanges().map(|record| (record.stop, record.times)).collect();
+        assert_eq!(records, [(None, [2, 3]), (Some(stop), [4, 15])]);
+    });
+}
+
+#[test]
+fn days() {
+    let timetable = two_days().unwrap();
+    timetable.open(|timetable| {
+        let field = timetable.bit_fields().next().unwrap();
+        let daily = timetable.each_day();
+        assert_eq!((timetable.bit_fields().len(), field.number(), field.day_count()), (1, Some(3), 1));
+        assert_eq!((field.runs_on(first()), field.runs_on(second())), (Ok(true), Ok(false)));
+        assert_eq!(((!field).runs_on(first()), (!field).runs_on(second())), (Ok(false), Ok(true)));
+        assert_eq!(((!field).number(), (!field).dates().collect::<Vec<_>>()), (None, vec![second()]));
+        assert_eq!((field | !field, field & !field, daily - field), (daily, daily - daily, !field));
+        assert_eq!((field | daily).runs_on(date("30.12.2025")), Err(Refusal::OutsidePeriod));
+        assert_eq!(field.runs_on(Date::new(1, Month::March, 1900).unwrap()), Err(Refusal::OutsidePeriod));
+        assert_eq!((timetable.bit_field_by_number(3), timetable.bit_field_by_number(4)), (Some(field), None));
+    });
+}
+
+/// What is printed is short, whatever the table's size.
+#[test]
+fn printed() {
+    let timetable = two_days().unwrap();
+    let text = format!("{:?}", timetable);
+    assert!(text.starts_with("Timetable { first: 31.12.2025, last: 01.01.2026, services: 2, words: "), "{}", text);
+    timetable.open(|timetable| {
+        let service = timetable.services().next().unwrap();
+        assert_eq!(format!("{:?}", service), "Service { index: 0, number: 7, .. }");
+        let run = service.runs(first()).unwrap().next().unwrap();
+        assert_eq!(format!("{:?}", run), "Run { service: 0, date: 31.12.2025, number: 0, .. }");
+        assert_eq!(format!("{:?}", timetable.each_day()), "BitField { number: Some(0), days: 2, .. }");
+        assert_eq!(format!("{:?}", run.calls().next().unwrap().stop()), "Stop(1000011)");
+    });
+}
+
+/// No stop, no service: accepted, and for the host to see.
+#[test]
+fn empty_but_accepted() {
+    let files = Files {
+        eckdaten: b"31.12.2025\n31.12.2025\nNone",
+        bitfeld: b"",
+        bahnhof: b"",
+        umsteigb: b"9999999  2  3",
+        fplan: b"",
+    };
+    let timetable = Timetable::load(&files).unwrap();
+    assert_eq!((timetable.service_count(), timetable.by_number().words().len()), (0, 11));
+}
+
+#[test]
+fn refused() {
+    let refusal =
+        Timetable::load(&Files { eckdaten: b"", bitfeld: b"", bahnhof: b"", umsteigb: b"", fplan: b"" }).unwrap_err();
+    assert_eq!(refusal.offence, Offence::LineMissing);
+    match Timetable::read(Path::new("no such directory")) {
+        Err(ReadError::Unread { file: File::Eckdaten, .. }) => {}
+        other => panic!("{:?}", other),
+    }
+}
