@@ -1,5 +1,6 @@
 //! Links the proved archive `libestelunya.a`: from the directory that `ESTELUNYA_LIB` names, else from `../target/staticlib`, where
-//! `rt staticlib estelunya` writes it. A relative directory counts from where cargo was started, else from this crate.
+//! `rt staticlib estelunya` writes it, or, if there is none, from `../lib`, where `tools/install.sh` puts it and a run of the gate leaves it.
+//! A relative directory counts from where cargo was started, else from this crate.
 
 use std::env;
 use std::fs;
@@ -33,12 +34,25 @@ fn directory() -> PathBuf {
     let manifest = PathBuf::from(env::var_os("CARGO_MANIFEST_DIR").unwrap_or_default());
     let given = match env::var_os("ESTELUNYA_LIB") {
         Some(given) if !given.is_empty() => PathBuf::from(given),
-        _ => return manifest.join("../target/staticlib"),
+        _ => return beside_crate(&manifest),
     };
     let started = env::var_os("PWD").map_or_else(|| manifest.clone(), PathBuf::from);
     let places = [started.join(&given), manifest.join(&given)];
     let found = places.iter().find(|place| place.join(ARCHIVE).is_file());
     found.unwrap_or(&places[0]).clone()
+}
+
+fn beside_crate(manifest: &Path) -> PathBuf {
+    let [fresh, kept] = ["../target/staticlib", "../lib"].map(|place| manifest.join(place));
+    // Either may come or go, and the choice with it.
+    for directory in [&fresh, &kept] {
+        println!("cargo:rerun-if-changed={}", directory.join(ARCHIVE).display());
+    }
+    if !fresh.join(ARCHIVE).is_file() && kept.join(ARCHIVE).is_file() {
+        kept
+    } else {
+        fresh
+    }
 }
 
 /// Ends with an error where the archive is for another machine, before a linker says so in its own words.

@@ -1,6 +1,7 @@
 #!/bin/sh
-# planner.sh [SEED COUNT [FIRST]]: makes the planner's crate and the comparison with the archive, and runs them: the crate's tests and documentation, README's
-# program, the crate with cargo, the trial week, the standard's examples, the declarations (drift.sh), and COUNT generated cases of a SEED from case FIRST on. Ends with 'planner.sh: ok'.
+# planner.sh [SEED COUNT [FIRST]]: makes the planner's crate and the comparison with the archive, and runs them: the crate's tests and documentation, the data desk's program
+# and its tests, README's program, the crate with cargo, the trial week, the standard's examples, the declarations (drift.sh), and COUNT generated cases of a SEED from case FIRST on.
+# Ends with 'planner.sh: ok'.
 set -eu
 cd "$(dirname "$0")/.."
 seed=${1:-1} count=${2:-20000} first=${3:-0}
@@ -8,7 +9,9 @@ seed=${1:-1} count=${2:-20000} first=${3:-0}
 
 # The crate as a user of cargo has it, where there is cargo: form, lints, documentation, tests.
 as_cargo_user() {
-    command -v cargo >/dev/null || { say 'no cargo on the path, so the crate is not tried with it'; return 0; }
+    for tool in cargo cargo-fmt cargo-clippy; do
+        command -v "$tool" >/dev/null || { say "no $tool on the path, so the crate is not tried with cargo"; return 0; }
+    done
     set -- --manifest-path planner/Cargo.toml
     cargo fmt "$@" --check
     set -- "$@" --quiet --target-dir "$out/cargo"
@@ -22,17 +25,38 @@ compare_library
 linked trial_week planner/examples/trial_week.rs
 tests='dates days handles helper largest names refusals rows runs table'
 for test in $tests; do linked "$test" "planner/tests/$test.rs" --test; done
+linked desk planner/src/bin/desk/main.rs
+linked desk_tests planner/src/bin/desk/main.rs --test
+# shellcheck disable=SC2016 # the marks of a block
+sed -n '/^```rust$/,/^```$/p' README.md | sed '/^```/d' >"$out/readme.rs"
+linked readme "$out/readme.rs"
 for tool in standard delivery; do linked "$tool" "compare/src/bin/$tool.rs"; done
 
-# An emulator cannot run the crate's documentation and README's program. The first reads the sample delivery from the crate's directory, as with cargo.
+# An emulator cannot run the crate's documentation. It reads the sample delivery from the crate's directory, as with cargo.
 if [ -z "$emulator" ]; then
     (cd planner && rustdoc --edition 2021 --test src/lib.rs --crate-name estelunya_planner -L "../$out" --extern estelunya_planner)
-    # shellcheck disable=SC2016 # the marks of a block
-    sed -n '/^```rust$/,/^```$/p' README.md >"$out/readme.md"
-    rustdoc --edition 2021 --test "$out/readme.md" -L "$out" --extern estelunya_planner
     as_cargo_user
 fi
 for test in $tests; do run "$out/$test" --quiet; done
+run "$out/desk_tests" --quiet
+
+# desk_says STATUS LINE WORD..: the data desk's program begins with this line and ends with this status
+desk_says() {
+    status=0
+    said=$(run "$out/desk" "$3") || status=$?
+    [ "$status $(printf '%s\n' "$said" | head -1)" = "$1 $2" ] || die "desk $3: status $status, $said"
+    echo "  desk: $2, status $status"
+}
+mended=$out/delivery-of-desk
+rm -rf "$mended"
+cp -r crates/ferry/data "$mended"
+desk_says 0 'accepted days 7 bitfields 1 stops 3 interchange 1 services 1 words 79' "$mended"
+sed -i '2s/%$//' "$mended/FPLAN"
+desk_says 1 'refused 4 file 5 line 2 column 59' "$mended"
+rm "$mended/UMSTEIGB"
+desk_says 2 'unread file 4' "$mended"
+
+run "$out/readme"
 run "$out/trial_week"
 run "$out/standard"
 tools/drift.sh

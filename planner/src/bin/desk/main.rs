@@ -1,0 +1,187 @@
+//! The data desk's program: loads a delivery as the planner does, and says what is to be mended.
+//!
+//!     desk [--all] [DIRECTORY]
+//!
+//! It reads the five files by name from the directory (without one: from the directory at hand), of any size. The first line is the
+//! proved answer: `accepted ..`, `refused N file F line L column C` or `unread file F`. What follows is worked out by this program: the line, the
+//! field, what the number means and how to mend it. `--all` goes on after a refused line and shows what else of the same file is likely to be refused;
+//! it mends nothing. The exit status is 0 for accepted, 1 for refused, 2 for unread. Progress of a long load goes to standard error.
+
+mod dates;
+mod explain;
+mod form;
+mod further;
+mod lines;
+mod looks;
+mod service;
+#[cfg(test)]
+mod tests;
+
+use std::env;
+use std::ffi::OsString;
+use std::io::{stdout, Write};
+use std::path::{Path, PathBuf};
+use std::process::exit;
+use std::sync::mpsc::{channel, RecvTimeoutError};
+use std::thread;
+use std::time::{Duration, Instant};
+
+use estelunya_planner::by_number::load;
+use estelunya_planner::layout::{BIT_FIELDS_AT, INTERCHANGES_AT, PERIOD_DAYS_AT, SERVICES_AT, STOPS_AT};
+use estelunya_planner::{Files, LoadRefusal};
+
+use explain::{screen, short, Answer};
+use further::Further;
+use lines::{Delivery, MOST_BYTES, NAMES};
+
+const ACCEPTED: i32 = 0;
+const REFUSED: i32 = 1;
+const UNREAD: i32 = 2;
+
+/// A load that takes longer says that it goes on, and says it again each time.
+const LONG_WAIT: Duration = Duration::from_secs(2);
+
+/// Further offences that `--all` shows at most.
+const MOST_FURTHER: usize = 200;
+
+fn main() {
+    let (mut all, mut directory) = (false, None);
+    for word in env::args_os().skip(1) {
+        match word.to_str() {
+            Some("--all") => all = true,
+            Some(option) if option.starts_with('-') => usage(),
+            _ if directory.is_none() => directory = Some(word),
+            _ => usage(),
+        }
+    }
+    let (status, text) = run(&PathBuf::from(directory.unwrap_or_else(|| OsString::from("."))), all);
+    // A reader that has seen enough, such as `head`, is no reason to end otherwise.
+    stdout().write_all(text.as_bytes()).ok();
+    exit(status);
+}
+
+fn usage() -> ! {
+    eprintln!("desk [--all] [DIRECTORY]: loads the delivery there; status 0 accepted, 1 refused, 2 unread");
+    exit(UNREAD)
+}
+
+/// The exit status, and what is printed.
+fn run(directory: &Path, all: bool) -> (i32, String) {
+    match read(directory) {
+        Ok(delivery) => told(&delivery, all),
+        Err((number, why)) => (UNREAD, format!("unread file {}\n{}: {}\n", number, NAMES[number - 1], why)),
+    }
+}
+
+fn read(directory: &Path) -> Result<Delivery, (usize, String)> {
+    let mut delivery = Delivery { files: Default::default() };
+    for (at, name) in NAMES.iter().enumerate() {
+        let path = directory.join(name);
+        delivery.files[at] =
+            std::fs::read(&path).map_err(|error| (at + 1, format!("{}: {}", path.display(), error)))?;
+    }
+    Ok(delivery)
+}
+
+fn told(delivery: &Delivery, all: bool) -> (i32, String) {
+    match loaded(delivery) {
+        Ok(words) => (ACCEPTED, accepted(delivery, &words)),
+        Err(answer) => {
+            let mut text = screen(delivery, &answer);
+            if all {
+                text.push_str(&further(delivery, &answer));
+            }
+            (REFUSED, text)
+        }
+    }
+}
+
+/// The words of the table, or the refusal.
+fn loaded(delivery: &Delivery) -> Result<Vec<u32>, Answer> {
+    with_progress(|| {
+        // No line of a file gives more words than a quarter of its bytes.
+        let bytes: usize = delivery.files.iter().map(|file| file.len().min(MOST_BYTES)).sum();
+        let mut words = vec![0; bytes / 4 + 64];
+        let used = match load(&files(delivery), &mut words).map_err(answer) {
+            Err(Answer { number: 20, needed, .. }) => {
+                words = vec![0; needed as usize];
+                load(&files(delivery), &mut words).map_err(answer)?
+            }
+            other => other?,
+        };
+        words.truncate(used.words as usize);
+        Ok(words)
+    })
+}
+
+fn files(delivery: &Delivery) -> Files<'_> {
+    let [eckdaten, bitfeld, bahnhof, umsteigb, fplan] = &delivery.files;
+    Files { eckdaten, bitfeld, bahnhof, umsteigb, fplan }
+}
+
+fn answer(refusal: LoadRefusal) -> Answer {
+    let LoadRefusal { offence, file, line, column, needed, .. } = refusal;
+    Answer { number: offence.number(), file: file.map_or(0, |file| file.number()), line, column, needed }
+}
+
+/// Says on standard error that the work goes on, if it takes long.
+fn with_progress<T>(work: impl FnOnce() -> T) -> T {
+    let (done, wait) = channel::<()>();
+    let start = Instant::now();
+    let teller = thread::spawn(move || {
+        while wait.recv_timeout(LONG_WAIT) == Err(RecvTimeoutError::Timeout) {
+            eprintln!("desk: loading, {} s", start.elapsed().as_secs());
+        }
+    });
+    let result = work();
+    drop(done);
+    teller.join().ok();
+    result
+}
+
+/// The program's line, and a warning for a table that answers nothing and for files that are hardly meant so.
+fn accepted(delivery: &Delivery, words: &[u32]) -> String {
+    let [days, fields, stops, records, services] =
+        [PERIOD_DAYS_AT, BIT_FIELDS_AT, STOPS_AT, INTERCHANGES_AT, SERVICES_AT].map(|at| words[at]);
+    let mut text = format!(
+        "accepted days {} bitfields {} stops {} interchange {} services {} words {}\n",
+        days,
+        fields,
+        stops,
+        records,
+        services,
+        words.len()
+    );
+    if services == 0 {
+        text.push_str("look: there are no services: FPLAN has no line that is not passed over. The delivery keeps the rules, and nothing runs.\n");
+        text.push_str("see:  docs/REFUSALS.md#no-services\n");
+    }
+    for (name, told) in NAMES.iter().zip(&delivery.files).filter_map(|(name, file)| Some((name, looks::file(file)?))) {
+        text.push_str(&format!("look: {}: {}\nsee:  docs/REFUSALS.md#looks-right\n", name, told));
+    }
+    text
+}
+
+fn further(delivery: &Delivery, first: &Answer) -> String {
+    let (mut state, mut last, mut shown) = (Further::new(delivery), *first, Vec::new());
+    let mut ask = |copy: &Delivery| loaded(copy).err();
+    while shown.len() < MOST_FURTHER {
+        last = match state.next(&last, &mut ask) {
+            Some(next) => next,
+            None => break,
+        };
+        shown.push(short(delivery, &last));
+    }
+    let name = match first.file {
+        0 => return String::new(),
+        file => NAMES[file as usize - 1],
+    };
+    let end = match shown.len() {
+        0 => format!("--all: nothing else of {} was found\n", name),
+        MOST_FURTHER => {
+            format!("--all: {} more of {}, likely and not proved; there may be others\n", MOST_FURTHER, name)
+        }
+        count => format!("--all: {} more of {}, likely and not proved\n", count, name),
+    };
+    format!("\n{}{}", shown.concat(), end)
+}

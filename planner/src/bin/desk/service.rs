@@ -1,0 +1,391 @@
+//! One service of FPLAN: its calls and ranges, and what is wrong with it as a whole (14 to 19).
+
+use super::dates::{later, period, written};
+use super::lines::{
+    blank, column, columns, digits, gives_days, hashed, kind, minutes, numbered, passed_over, text, Delivery, Kind,
+    BITFELD, ECKDATEN, FPLAN,
+};
+
+/// A schedule line.
+#[derive(Clone, Debug)]
+pub struct Call {
+    line: u32,
+    stop: u32,
+    arrival: Option<u32>,
+    departure: Option<u32>,
+}
+
+/// What a range gives.
+#[derive(Clone, Copy, Debug, PartialEq, Eq)]
+enum Gives {
+    Category,
+    Days(u32),
+    Other,
+}
+
+/// A *G or *A line, with the first column of *from* and of its detail, and of *to* and of its detail.
+#[derive(Clone, Debug)]
+struct Range {
+    line: u32,
+    bytes: Vec<u8>,
+    gives: Gives,
+    ends: [(usize, usize); 2],
+}
+
+/// A *Z or *T line and what follows it.
+#[derive(Clone, Debug)]
+pub struct Service {
+    /// The line that opens it.
+    pub opening: u32,
+    calls: Vec<Call>,
+    ranges: Vec<Range>,
+    counts: [u32; 4],
+}
+
+/// Columns to mark in a line, and what is to be said of them.
+#[derive(Clone, Debug, Default, PartialEq, Eq)]
+pub struct Finding {
+    /// Further lines to show, each with the columns to mark.
+    pub marks: Vec<(u32, Vec<(usize, usize)>)>,
+    /// Sentences.
+    pub says: Vec<String>,
+}
+
+impl Finding {
+    /// One sentence, and one mark.
+    pub fn at(line: u32, columns: (usize, usize), says: String) -> Finding {
+        Finding { marks: vec![(line, vec![columns])], says: vec![says] }
+    }
+
+    /// One sentence.
+    pub fn says(says: String) -> Finding {
+        Finding { marks: Vec::new(), says: vec![says] }
+    }
+}
+
+/// The service to which a line of FPLAN belongs, as far as `last`; `None` before the first.
+pub fn service_of(fplan: &[u8], at: u32, last: u32) -> Option<Service> {
+    let mut found: Option<Service> = None;
+    for (number, line) in
+        numbered(fplan).take_while(|(number, _)| *number <= last).filter(|(_, line)| !passed_over(line))
+    {
+        if kind(line) == Kind::Opening {
+            if number > at {
+                break;
+            }
+            found = Some(Service { opening: number, calls: Vec::new(), ranges: Vec::new(), counts: [0; 4] });
+        } else if let Some(service) = &mut found {
+            service.add(number, line);
+        }
+    }
+    found
+}
+
+/// HHHMM as in the file, and as a clock shows it.
+fn clock(minutes: u32) -> String {
+    format!("{:03}{:02}", minutes / 60, minutes % 60)
+}
+
+fn listed(lines: &[u32]) -> String {
+    let lines: Vec<String> = lines.iter().map(u32::to_string).collect();
+    lines.join(" and ")
+}
+
+impl Service {
+    fn add(&mut self, number: u32, line: &[u8]) {
+        let gives = match kind(line) {
+            Kind::Call => {
+                self.counts[0] += 1;
+                return self.calls.extend(digits(line, 1, 7).map(|stop| Call {
+                    line: number,
+                    stop,
+                    arrival: minutes(&columns(line, 30, 35)),
+                    departure: minutes(&columns(line, 37, 42)),
+                }));
+            }
+            Kind::Category => Gives::Category,
+            Kind::Attribute if gives_days(line) => Gives::Days(digits(line, 23, 28).unwrap_or(0)),
+            Kind::Attribute => Gives::Other,
+            _ => return,
+        };
+        let (count, ends) = match gives {
+            Gives::Category => (1, [(8, 24), (16, 31)]),
+            Gives::Days(_) => (2, [(7, 30), (15, 37)]),
+            Gives::Other => (3, [(7, 30), (15, 37)]),
+        };
+        self.counts[count] += 1;
+        self.ranges.push(Range { line: number, bytes: line.to_vec(), gives, ends });
+    }
+
+    /// 13: how many there are of what the line is one of.
+    pub fn too_many(&self, line: &[u8]) -> String {
+        let (which, name, most) = match kind(line) {
+            Kind::Call => (0, "call", 200),
+            Kind::Category => (1, "*G", 50),
+            _ if gives_days(line) => (2, "*A VE", 50),
+            _ => (3, "other *A", 100),
+        };
+        format!(
+            "it is {} number {} of the service that line {} opens; {} are taken",
+            name, self.counts[which], self.opening, most
+        )
+    }
+
+    /// 14.
+    pub fn calls_found(&self) -> Finding {
+        match self.calls.first() {
+            None => {
+                Finding::says("there is no schedule line before the next *Z or *T, or the end of the file".to_string())
+            }
+            Some(call) => Finding::at(call.line, (1, 7), format!("the only call is that of line {}", call.line)),
+        }
+    }
+
+    /// 15: the time that is missing, or the two times.
+    pub fn times(&self, at: u32) -> Finding {
+        let mut before: Option<(u32, u32, &str)> = None;
+        for (index, call) in self.calls.iter().enumerate() {
+            let last = index + 1 == self.calls.len();
+            let times =
+                [(call.arrival, "arrival", (30, 35), index > 0), (call.departure, "departure", (37, 42), !last)];
+            if call.line == at {
+                if let Some((_, name, columns, _)) = times.iter().find(|(time, _, _, needed)| *needed && time.is_none())
+                {
+                    let place = if index == 0 {
+                        "the first call"
+                    } else if last {
+                        "the last call"
+                    } else {
+                        "a call between"
+                    };
+                    return Finding::at(at, *columns, format!("no {}, which {} needs", name, place));
+                }
+            }
+            for (time, name, columns, _) in times {
+                if let (Some(time), Some((earlier, line, what))) = (time, before) {
+                    if time < earlier && call.line == at {
+                        let told = format!(
+                            "the {} {} is earlier than {}, the {} of line {}",
+                            name,
+                            clock(time),
+                            clock(earlier),
+                            what,
+                            line
+                        );
+                        let mut found = Finding::at(at, columns, told);
+                        if line != at {
+                            found.marks.push((line, vec![if what == "arrival" { (30, 35) } else { (37, 42) }]));
+                        }
+                        if earlier >= time + 720 {
+                            let next = clock(time + 1_440);
+                            found.says.push(format!("if it is after midnight, the hours go on: {}", next));
+                        }
+                        return found;
+                    }
+                }
+                before = time.map(|time| (time, call.line, name)).or(before);
+            }
+        }
+        Finding::default()
+    }
+
+    /// The call that an end of a range means, or why there is none and in which columns.
+    fn end(&self, range: &Range, to: bool) -> Result<usize, ((usize, usize), String)> {
+        let (first, detail) = range.ends[usize::from(to)];
+        let place = columns(&range.bytes, first, first + 6);
+        if blank(&place) {
+            return Ok(if to { self.calls.len().saturating_sub(1) } else { 0 });
+        }
+        if let Some(index) = hashed(&place) {
+            let count = self.calls.len();
+            return if (index as usize) < count {
+                Ok(index as usize)
+            } else {
+                Err((
+                    (first, first + 6),
+                    format!("there is no call #{}: the {} calls are #0 to #{}", index, count, count.saturating_sub(1)),
+                ))
+            };
+        }
+        let stop = digits(&range.bytes, first, first + 6);
+        let seen: Vec<usize> = (0..self.calls.len()).filter(|at| Some(self.calls[*at].stop) == stop).collect();
+        if seen.is_empty() {
+            return Err(((first, first + 6), format!("the service does not call at {}", text(&place))));
+        }
+        let given = columns(&range.bytes, detail, detail + 5);
+        let found = if blank(&given) {
+            if to {
+                seen.last()
+            } else {
+                seen.first()
+            }
+        } else if let Some(nth) = hashed(&given) {
+            seen.get(nth as usize)
+        } else if to {
+            seen.iter().rev().find(|at| self.calls[**at].arrival == minutes(&given))
+        } else {
+            seen.iter().find(|at| self.calls[**at].departure == minutes(&given))
+        };
+        let lines: Vec<u32> = seen.iter().map(|at| self.calls[*at].line).collect();
+        let why = match hashed(&given) {
+            Some(nth) => format!(
+                "there is no call #{} at {}: it is called at {} times (line {})",
+                nth,
+                text(&place),
+                seen.len(),
+                listed(&lines)
+            ),
+            None => {
+                let what = if to { "arrives" } else { "departs" };
+                format!(
+                    "no call at {} {} at {} (it is called at in line {})",
+                    text(&place),
+                    what,
+                    text(trim(&given)),
+                    listed(&lines)
+                )
+            }
+        };
+        found.copied().ok_or(((detail, detail + 5), why))
+    }
+
+    /// 16: which end, and why.
+    pub fn range(&self, at: u32) -> Finding {
+        let range = match self.ranges.iter().find(|range| range.line == at) {
+            Some(range) => range,
+            None => return Finding::default(),
+        };
+        let spans = range.ends.map(|(first, _)| (first, first + 6));
+        match (self.end(range, false), self.end(range, true)) {
+            (Err((columns, why)), _) => Finding::at(at, columns, format!("from is not found: {}", why)),
+            (_, Err((columns, why))) => Finding::at(at, columns, format!("to is not found: {}", why)),
+            (Ok(from), Ok(to)) => {
+                let rule = if range.gives == Gives::Other { "at or before" } else { "before" };
+                let says = format!(
+                    "from is call #{} (line {}), to is call #{} (line {}): from must stand {} to",
+                    from, self.calls[from].line, to, self.calls[to].line, rule
+                );
+                Finding { marks: vec![(at, spans.to_vec())], says: vec![says] }
+            }
+        }
+    }
+
+    /// The ranges over a leg that give categories, or operating days.
+    fn over(&self, leg: usize, categories: bool) -> Vec<&Range> {
+        let wanted = |range: &&Range| match range.gives {
+            Gives::Category => categories,
+            Gives::Days(_) => !categories,
+            Gives::Other => false,
+        };
+        let covers = |range: &&Range| matches!((self.end(range, false), self.end(range, true)), (Ok(from), Ok(to)) if from <= leg && leg < to);
+        self.ranges.iter().filter(wanted).filter(covers).collect()
+    }
+
+    fn leg(&self, first: usize, last: usize) -> String {
+        let (from, to) = (&self.calls[first], &self.calls[last]);
+        format!("from {:07} (line {}) to {:07} (line {})", from.stop, from.line, to.stop, to.line)
+    }
+
+    /// 17 and 18: the first leg that is not covered once.
+    pub fn cover(&self, categories: bool) -> Finding {
+        let name = if categories { "*G" } else { "*A VE" };
+        for leg in 0..self.calls.len().saturating_sub(1) {
+            let over = self.over(leg, categories);
+            if over.len() != 1 {
+                let lines: Vec<u32> = over.iter().map(|range| range.line).collect();
+                let (way, call) = (self.leg(leg, leg + 1), self.calls[leg].line);
+                let says = match lines.len() {
+                    0 => format!("the leg {} has no {}", way, name),
+                    count => format!("the leg {} has {} {}: lines {}", way, count, name, listed(&lines)),
+                };
+                let mut marks = vec![(call, vec![(1, 7)]), (self.calls[leg + 1].line, vec![(1, 7)])];
+                let spans = |range: &&Range| (range.line, range.ends.map(|(first, _)| (first, first + 6)).to_vec());
+                marks.extend(over.iter().map(spans));
+                marks.sort();
+                return Finding { marks, says: vec![says] };
+            }
+        }
+        Finding::default()
+    }
+
+    /// 19: the first day with two stretches, and these.
+    pub fn stretches(&self, delivery: &Delivery) -> Finding {
+        let (first_day, days) = match period(delivery.file(ECKDATEN)) {
+            Some(period) => period,
+            None => return Finding::default(),
+        };
+        let legs = self.calls.len().saturating_sub(1);
+        let fields: Vec<(u32, u32)> = (0..legs)
+            .filter_map(|leg| match self.over(leg, false)[..] {
+                [Range { gives: Gives::Days(number), line, .. }] => Some((*number, *line)),
+                _ => None,
+            })
+            .collect();
+        let bits: Vec<Option<Vec<u8>>> =
+            fields.iter().map(|(number, _)| bit_field(delivery.file(BITFELD), *number)).collect();
+        for day in 0..days {
+            let runs: Vec<bool> =
+                bits.iter().map(|bits| bits.as_ref().map_or(true, |line| bit(line, day + 2))).collect();
+            let found = stretches(&runs);
+            if found.len() > 1 {
+                let date = written(later(first_day, day));
+                let mut says = vec![format!(
+                    "on {}, day {} of {}, it would run on {} stretches:",
+                    date,
+                    day + 1,
+                    days,
+                    found.len()
+                )];
+                says.extend(found.iter().map(|(first, last)| format!("  {}", self.leg(*first, *last))));
+                for (leg, (number, line)) in fields.iter().enumerate().filter(|(leg, _)| !runs[*leg]) {
+                    if leg > found[0].1 - 1 && leg < found[found.len() - 1].0 {
+                        says.push(format!(
+                            "and not {}: bit field {:06} of line {}",
+                            self.leg(leg, leg + 1),
+                            number,
+                            line
+                        ));
+                    }
+                }
+                let mut lines: Vec<u32> = fields.iter().map(|(_, line)| *line).collect();
+                lines.sort_unstable();
+                lines.dedup();
+                return Finding { marks: lines.into_iter().map(|line| (line, vec![(23, 28)])).collect(), says };
+            }
+        }
+        Finding::default()
+    }
+}
+
+fn trim(bytes: &[u8]) -> &[u8] {
+    super::lines::trimmed(bytes)
+}
+
+/// The line of a bit field; `None` for 0, which is daily, and for one that is not there.
+fn bit_field(bitfeld: &[u8], number: u32) -> Option<Vec<u8>> {
+    let is = |(_, line): &(u32, &[u8])| !passed_over(line) && digits(line, 1, 6) == Some(number);
+    (number > 0).then(|| numbered(bitfeld).find(is).map(|(_, line)| line.to_vec())).flatten()
+}
+
+/// A bit of a bit field's line, from 0.
+pub fn bit(line: &[u8], at: usize) -> bool {
+    let digit = char::from(column(line, 8 + at / 4)).to_digit(16).unwrap_or(0);
+    digit & (8 >> (at % 4)) != 0
+}
+
+/// First and last call of each stretch of legs that run.
+fn stretches(runs: &[bool]) -> Vec<(usize, usize)> {
+    let mut found: Vec<(usize, usize)> = Vec::new();
+    for (leg, _) in runs.iter().enumerate().filter(|(_, runs)| **runs) {
+        match found.last_mut() {
+            Some(stretch) if stretch.1 == leg => stretch.1 = leg + 1,
+            _ => found.push((leg, leg + 1)),
+        }
+    }
+    found
+}
+
+/// The service of a line in a delivery's FPLAN.
+pub fn of_delivery(delivery: &Delivery, at: u32) -> Option<Service> {
+    service_of(delivery.file(FPLAN), at, u32::MAX)
+}
