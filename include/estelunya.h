@@ -1,8 +1,8 @@
 /*
  * Estelunya: the proved timetable loader. Link libestelunya.a.
  *
- * A load makes a table from the five files of a delivery; day, interchange, stop name and walk are asked of a table; and there is arithmetic on operating
- * days.
+ * A load makes a table from the six files of a delivery; day, interchange (between classes or between categories), stop name and walk are asked of a table;
+ * and there is arithmetic on operating days.
  * The rules, and the numbers of the refusals, are those of documents 01 and 02; docs/REFUSALS.md tells them to people.
  *
  * What the caller owes: each pointer is good for its length, given in items (bytes or 32-bit words), and aligned as its type is; it may be null
@@ -24,8 +24,8 @@ extern "C" {
 #endif
 
 typedef struct EstelunyaLoadResult {
-    uint32_t number; /* 0: accepted; else the refusal, 1 to 20, 39 or 51 */
-    uint32_t file;   /* 1 ECKDATEN, 2 BITFELD, 3 BAHNHOF, 4 UMSTEIGB, 5 FPLAN; 0 if accepted, and for 20 and 51 */
+    uint32_t number; /* 0: accepted; else the refusal, 1 to 20, 37, 38, 39 or 51 */
+    uint32_t file;   /* 1 ECKDATEN, 2 BITFELD, 3 BAHNHOF, 4 UMSTEIGB, 5 FPLAN, 6 ZUGART; 0 if accepted, and for 20 and 51 */
     uint32_t line;   /* the line, counted from 1; 0 if accepted, and for 1, 20 and 51 */
     uint32_t words;  /* accepted: the words used; 20: the words needed; 51: the helper words needed; else 0 */
     size_t column;   /* 4: the column, counted from 1, where the leftmost field or unnamed column that breaks the form starts; else 0 */
@@ -37,7 +37,7 @@ typedef struct EstelunyaDayResult {
 } EstelunyaDayResult;
 
 typedef struct EstelunyaInterchangeResult {
-    uint32_t number;  /* 0: answered; else the refusal: 21, 26 or 27 */
+    uint32_t number;  /* 0: answered; else the refusal: 21, 26 or 27 between classes, 21, 27 or 38 between categories */
     uint32_t minutes; /* the interchange time; 0 if refused */
 } EstelunyaInterchangeResult;
 
@@ -63,7 +63,7 @@ typedef struct EstelunyaDayCountResult {
 } EstelunyaDayCountResult;
 
 /*
- * A table is 32-bit words: a header, then all bit fields, stops, interchange records and services, each in the order of their file, and within a
+ * A table is 32-bit words: a header, then all bit fields, stops, interchange records, categories and services, each in the order of their file, and within a
  * service its head, then all its calls, *G, *A VE and other *A. Below, .._WORDS is how many words a record has, and .._AT is where a word stands in it,
  * counted from 0. Bytes share a word with the first byte highest.
  *
@@ -72,7 +72,7 @@ typedef struct EstelunyaDayCountResult {
  */
 
 /* Header */
-#define ESTELUNYA_HEADER_WORDS 8
+#define ESTELUNYA_HEADER_WORDS 9
 #define ESTELUNYA_USED_AT 0          /* words used */
 #define ESTELUNYA_FIRST_DAY_AT 1     /* first day of the period; 01.01.1900 is 0 */
 #define ESTELUNYA_PERIOD_DAYS_AT 2   /* days of the period */
@@ -81,6 +81,7 @@ typedef struct EstelunyaDayCountResult {
 #define ESTELUNYA_INTERCHANGES_AT 5  /* interchange records */
 #define ESTELUNYA_SERVICES_AT 6      /* services */
 #define ESTELUNYA_FIRST_SERVICE_AT 7 /* place of the first service: the words of the header and of all records before it */
+#define ESTELUNYA_CLASSES_AT 8       /* categories, each with its class */
 
 /* Bit field: number; then bits, bit 0 the highest of the first word. Bit d + 2 is day d of the period, counted from 0. */
 #define ESTELUNYA_BIT_FIELD_WORDS 13
@@ -97,6 +98,9 @@ typedef struct EstelunyaDayCountResult {
  * other classes
  */
 #define ESTELUNYA_INTERCHANGE_WORDS 3
+
+/* Category, from a line of ZUGART: its code in three bytes; its class, 0 to 13 */
+#define ESTELUNYA_CLASS_WORDS 2
 
 /* Head of a service */
 #define ESTELUNYA_SERVICE_WORDS 12
@@ -125,7 +129,7 @@ typedef struct EstelunyaDayCountResult {
  */
 #define ESTELUNYA_CALL_WORDS 7
 
-/* *G: category in three bytes; from; to. From and to are indexes of calls, from 0. */
+/* *G: category in three bytes, which is one of ZUGART's; from; to. From and to are indexes of calls, from 0. */
 #define ESTELUNYA_CATEGORY_WORDS 3
 
 /* *A VE: number of the bit field, 0 for daily; from; to */
@@ -161,7 +165,8 @@ typedef struct EstelunyaDayCountResult {
 #define ESTELUNYA_NO_BOARDING 8u  /* boarding is forbidden */
 
 /*
- * Loads a delivery: the bytes of its five files, each of any length (over 16,777,216 is refusal 1).
+ * Loads a delivery: the bytes of its six files, each of any length (over 16,777,216 is refusal 1). They are given by their numbers, and checked in the order
+ * ECKDATEN, BITFELD, BAHNHOF, UMSTEIGB, ZUGART, FPLAN.
  *
  * Accepted: the first `words` words of `table` are the table, and the words after them hold what they held. Refused: all words of `table` hold
  * what they held, also for 20, which comes last: a delivery that is right needs so many words, and was lent fewer.
@@ -180,11 +185,12 @@ EstelunyaLoadResult estelunya_load(
     const uint8_t *bahnhof, size_t bahnhof_len,
     const uint8_t *umsteigb, size_t umsteigb_len,
     const uint8_t *fplan, size_t fplan_len,
+    const uint8_t *zugart, size_t zugart_len,
     uint32_t *table, size_t table_len,
     uint32_t *helper, size_t helper_len);
 
 /*
- * In the four questions `table` may be any words. Words that are not a table are refused with 21; words after the table's own are not looked at,
+ * In the five questions `table` may be any words. Words that are not a table are refused with 21; words after the table's own are not looked at,
  * so that all words lent to the load may be given.
  */
 
@@ -196,6 +202,14 @@ EstelunyaDayResult estelunya_day(
 
 /* The time to change at stop number `stop` from a service of class `arriving` to one of class `departing`, each 0 to 13. */
 EstelunyaInterchangeResult estelunya_interchange(
+    const uint32_t *table, size_t table_len,
+    uint32_t stop, uint32_t arriving, uint32_t departing);
+
+/*
+ * The same from a service of category `arriving` to one of category `departing`, each as a row has it: three bytes in a word, the first highest. Their classes are
+ * those of the table; a category that it does not list is refused with 38.
+ */
+EstelunyaInterchangeResult estelunya_interchange_between(
     const uint32_t *table, size_t table_len,
     uint32_t stop, uint32_t arriving, uint32_t departing);
 

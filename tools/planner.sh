@@ -50,7 +50,7 @@ desk_says() {
 mended=$out/delivery-of-desk
 rm -rf "$mended"
 cp -r crates/ferry/data "$mended"
-desk_says 0 'accepted days 7 bitfields 1 stops 3 interchange 1 services 1 words 79' "$mended"
+desk_says 0 'accepted days 7 bitfields 1 stops 3 interchange 1 categories 1 services 1 words 82' "$mended"
 sed -i '2s/%$//' "$mended/FPLAN"
 desk_says 1 'refused 4 file 5 line 2 column 59' "$mended"
 rm "$mended/UMSTEIGB"

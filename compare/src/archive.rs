@@ -8,14 +8,16 @@ use estelunya_planner::raw;
 pub struct Archive;
 
 impl Boundary for Archive {
-    fn load(&self, files: [&[u8]; 5], table: &mut [u32], helper: &mut [u32]) -> [u32; 5] {
-        let [a, b, c, d, e] = files.map(<[u8]>::as_ptr);
-        let [a_len, b_len, c_len, d_len, e_len] = files.map(<[u8]>::len);
+    fn load(&self, files: [&[u8]; 6], table: &mut [u32], helper: &mut [u32]) -> [u32; 5] {
+        let [a, b, c, d, e, f] = files.map(<[u8]>::as_ptr);
+        let [a_len, b_len, c_len, d_len, e_len, f_len] = files.map(<[u8]>::len);
         let ((words, room), (helps, help_room)) =
             ((table.as_mut_ptr(), table.len()), (helper.as_mut_ptr(), helper.len()));
         // SAFETY: here and below, pointers and lengths are those of slices, and a mutable one overlaps no other.
         let answer = unsafe {
-            raw::estelunya_load(a, a_len, b, b_len, c, c_len, d, d_len, e, e_len, words, room, helps, help_room)
+            raw::estelunya_load(
+                a, a_len, b, b_len, c, c_len, d, d_len, e, e_len, f, f_len, words, room, helps, help_room,
+            )
         };
         let raw::LoadResult { number, file, line, words, column } = answer;
         [number, file, line, words, size_word(column)]
@@ -29,6 +31,13 @@ impl Boundary for Archive {
 
     fn interchange(&self, table: &[u32], stop: u32, [arriving, departing]: [u32; 2]) -> [u32; 2] {
         let answer = unsafe { raw::estelunya_interchange(table.as_ptr(), table.len(), stop, arriving, departing) };
+        let raw::InterchangeResult { number, minutes } = answer;
+        [number, minutes]
+    }
+
+    fn interchange_between(&self, table: &[u32], stop: u32, [arriving, departing]: [u32; 2]) -> [u32; 2] {
+        let (words, used) = (table.as_ptr(), table.len());
+        let answer = unsafe { raw::estelunya_interchange_between(words, used, stop, arriving, departing) };
         let raw::InterchangeResult { number, minutes } = answer;
         [number, minutes]
     }

@@ -5,13 +5,16 @@ use crate::reader::{self, Changed, Combination, DayAnswer, Loaded, Named, Refuse
 /// Whatever answers as the archive does. An answer's numbers stand in the order of its fields.
 pub trait Boundary {
     /// number, file, line, words, column
-    fn load(&self, files: [&[u8]; 5], table: &mut [u32], helper: &mut [u32]) -> [u32; 5];
+    fn load(&self, files: [&[u8]; 6], table: &mut [u32], helper: &mut [u32]) -> [u32; 5];
 
     /// number, runs
     fn day(&self, table: &[u32], date: [u32; 3], field: u32) -> [u32; 2];
 
     /// number, minutes
     fn interchange(&self, table: &[u32], stop: u32, classes: [u32; 2]) -> [u32; 2];
+
+    /// number, minutes
+    fn interchange_between(&self, table: &[u32], stop: u32, categories: [u32; 2]) -> [u32; 2];
 
     /// number, start, length; a language and a type are wanted
     fn stop_name(&self, table: &[u32], bahnhof: &[u8], stop: u32, wanted: [u32; 2]) -> [u32; 3];
@@ -33,7 +36,7 @@ pub trait Boundary {
 pub struct Reader;
 
 impl Boundary for Reader {
-    fn load(&self, files: [&[u8]; 5], table: &mut [u32], helper: &mut [u32]) -> [u32; 5] {
+    fn load(&self, files: [&[u8]; 6], table: &mut [u32], helper: &mut [u32]) -> [u32; 5] {
         match reader::load(files, table, helper) {
             Loaded::Accepted { words } => [0, 0, 0, words, 0],
             Loaded::Refused { number, file, line, column, needed } => [number, file, line, needed, size_word(column)],
@@ -49,10 +52,11 @@ impl Boundary for Reader {
     }
 
     fn interchange(&self, table: &[u32], stop: u32, [arriving, departing]: [u32; 2]) -> [u32; 2] {
-        match reader::interchange(table, stop, arriving, departing) {
-            Changed::Minutes(minutes) => [0, minutes],
-            Changed::Refused { number } => [number, 0],
-        }
+        changed(reader::interchange(table, stop, arriving, departing))
+    }
+
+    fn interchange_between(&self, table: &[u32], stop: u32, [arriving, departing]: [u32; 2]) -> [u32; 2] {
+        changed(reader::interchange_between(table, stop, arriving, departing))
     }
 
     fn stop_name(&self, table: &[u32], bahnhof: &[u8], stop: u32, [language, kind]: [u32; 2]) -> [u32; 3] {
@@ -90,6 +94,13 @@ impl Boundary for Reader {
 /// A column, or a place or length in a file, as a word. No file that is read has one that needs more.
 pub fn size_word(size: usize) -> u32 {
     u32::try_from(size).unwrap_or(u32::MAX)
+}
+
+fn changed(answer: Changed) -> [u32; 2] {
+    match answer {
+        Changed::Minutes(minutes) => [0, minutes],
+        Changed::Refused { number } => [number, 0],
+    }
 }
 
 fn number(given: Result<(), Refused>) -> [u32; 1] {

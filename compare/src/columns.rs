@@ -35,6 +35,11 @@ pub fn call(stop: &str, arrival: &str, departure: &str) -> String {
     line(&[(1, stop), (30, arrival), (37, departure), (59, "%")])
 }
 
+/// A ZUGART line: output control 0, no text for the output, no supplement; a blank group is none.
+pub fn category(code: &str, class: u32, group: &str) -> String {
+    line(&[(1, code), (5, &format!("{:>2}", class)), (8, group), (10, "0"), (21, "0")])
+}
+
 /// A BITFELD line whose digits go on with zeros.
 pub fn bitfield(number: &str, digits: &str) -> String {
     format!("{} {:0<96}", number, digits)

@@ -11,9 +11,9 @@ pub struct Planner;
 
 impl Boundary for Planner {
     /// With these helper words; where they are enough, the load that lends them by itself must do the same.
-    fn load(&self, files: [&[u8]; 5], table: &mut [u32], helper: &mut [u32]) -> [u32; 5] {
-        let [eckdaten, bitfeld, bahnhof, umsteigb, fplan] = files;
-        let files = Files { eckdaten, bitfeld, bahnhof, umsteigb, fplan };
+    fn load(&self, files: [&[u8]; 6], table: &mut [u32], helper: &mut [u32]) -> [u32; 5] {
+        let [eckdaten, bitfeld, bahnhof, umsteigb, fplan, zugart] = files;
+        let files = Files { eckdaten, bitfeld, bahnhof, umsteigb, fplan, zugart };
         let mut own = table.to_vec();
         let answer = numbers(load_with(&files, table, helper));
         if answer[0] != 51 {
@@ -34,6 +34,22 @@ impl Boundary for Planner {
     fn interchange(&self, table: &[u32], stop: u32, [arriving, departing]: [u32; 2]) -> [u32; 2] {
         match Table::new(table).interchange(stop, arriving, departing) {
             Ok(minutes) => [0, minutes],
+            Err(refusal) => [refusal.number(), 0],
+        }
+    }
+
+    fn interchange_between(&self, table: &[u32], stop: u32, [arriving, departing]: [u32; 2]) -> [u32; 2] {
+        let words = Table::new(table);
+        match words.interchange_between(stop, arriving, departing) {
+            Ok(minutes) => {
+                let classes = (words.class_of(arriving), words.class_of(departing));
+                let by_class = match classes {
+                    (Some(arriving), Some(departing)) => words.interchange(stop, arriving, departing),
+                    _ => panic!("minutes between {:?}", classes),
+                };
+                assert_eq!(by_class, Ok(minutes), "by the classes of the two categories");
+                [0, minutes]
+            }
             Err(refusal) => [refusal.number(), 0],
         }
     }
@@ -97,8 +113,8 @@ fn numbers(answer: Result<Loaded, LoadRefusal>) -> [u32; 5] {
 }
 
 /// The header of a table of n days that lists nothing.
-fn header(n: u32) -> [u32; 8] {
-    [8, 0, n, 0, 0, 0, 0, 8]
+fn header(n: u32) -> [u32; 9] {
+    [9, 0, n, 0, 0, 0, 0, 9, 0]
 }
 
 /// The planner's layer gives a field by value. What it would do with words lent is said here: it takes twelve only.
@@ -141,7 +157,13 @@ fn handled(timetable: Opened<'_>) {
                 service.runs(date).unwrap_or_else(|refusal| panic!("{:?} on {}: {}", service, date, refusal));
             assert_eq!(days, runs.len() > 0, "{:?} on {}", service, date);
             for run in [runs.next(), runs.next_back()].into_iter().flatten() {
-                for call in run.calls() {
+                let calls: Vec<_> = run.calls().collect();
+                for pair in calls.windows(2) {
+                    let (leg, same) = (pair[0].departing_category(), pair[1].arriving_category());
+                    assert!(leg.is_some() && leg == same, "the category of a leg of {:?}", run);
+                    assert_eq!(pair[1].interchange_to(&pair[1]).is_some(), pair[1].departure().is_some());
+                }
+                for call in calls {
                     let known = service.route().any(|stated| stated.stop() == call.stop());
                     assert!(known && !call.stop().name_field().is_empty(), "a call of {:?}", run);
                 }
@@ -152,6 +174,19 @@ fn handled(timetable: Opened<'_>) {
         assert_eq!(field.dates().count() + (!field).dates().count(), period.day_count() as usize);
         assert_eq!(field.dates().count(), field.day_count() as usize);
         assert_eq!(field.runs_on(period.last), Ok(field.dates().any(|date| date == period.last)));
+    }
+    for category in timetable.categories() {
+        assert_eq!(timetable.category_by_code(category.code()), Some(category), "a code that is listed once");
+        for stop in timetable.stops().take(3) {
+            let between = stop.interchange_between(category, category);
+            assert_eq!(
+                Ok(between),
+                stop.interchange(category.class(), category.class()),
+                "{:?} at {:?}",
+                category,
+                stop
+            );
+        }
     }
     for record in timetable.interchanges() {
         if let Some(stop) = record.stop {

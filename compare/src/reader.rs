@@ -14,6 +14,6 @@ pub mod runs;
 pub mod service;
 pub mod table;
 
-pub use ask::{day, interchange, is_table, stop_name, walk, Changed, DayAnswer, Named, Walked};
+pub use ask::{day, interchange, interchange_between, is_table, stop_name, walk, Changed, DayAnswer, Named, Walked};
 pub use day_sets::{combine, complement, day_count, Combination, Refused};
 pub use load::{helper_needed, load, Loaded};

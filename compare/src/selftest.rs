@@ -1,6 +1,7 @@
 //! The reader held against document 01's checked examples, the standard's printed ones, generated deliveries and
 //! docs/REFUSALS.md; and the comparison against boundaries that slip.
 
+mod categories;
 mod day_sets;
 mod differ;
 mod examples;
@@ -13,4 +14,4 @@ mod refusals;
 mod runs;
 mod standard;
 
-pub use crate::columns::{a, bitfield, call, file, g, t, text, z};
+pub use crate::columns::{a, bitfield, call, category, file, g, t, text, z};

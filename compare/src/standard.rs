@@ -1,6 +1,7 @@
 //! The standard's printed examples (document 001), set to the columns of document 01, over a boundary: what is refused, for
 //! the reason that document 01 gives; and the mended ones, accepted and walked as printed.
 
+mod categories;
 mod files;
 mod frequency;
 mod services;
@@ -36,15 +37,18 @@ pub fn examples(boundary: &dyn Boundary) -> Vec<Checked> {
         frequency::on_call,
         files::period,
         files::saturdays,
+        categories::category,
+        categories::further_lines,
+        categories::between,
         files::interchange_times,
     ];
     sections.iter().flat_map(|section| section(boundary)).collect()
 }
 
-/// The five files of an example.
+/// The files of an example.
 #[derive(Clone)]
 struct Paper {
-    files: [Vec<u8>; 5],
+    files: [Vec<u8>; 6],
 }
 
 /// What words hold that no load has written.
@@ -54,14 +58,15 @@ const LENT: u32 = 0xAAAA_AAAA;
 const HELPER: usize = 64 + 4 * 100;
 
 impl Paper {
-    /// 5.4.1's period and 5.7's first record; no bit fields, stops and services.
+    /// 5.4.1's period and 5.7's first record; no bit fields, stops, services and categories.
     fn new() -> Paper {
         let eckdaten =
             latin(&["30.09.1996 start of timetable", "01.06.1997 end of timetable", "\"Test timetable 1996/97\""]);
-        Paper { files: [eckdaten, Vec::new(), Vec::new(), latin(&["9999999  2  3 STANDARD"]), Vec::new()] }
+        let umsteigb = latin(&["9999999  2  3 STANDARD"]);
+        Paper { files: [eckdaten, Vec::new(), Vec::new(), umsteigb, Vec::new(), Vec::new()] }
     }
 
-    /// The same with another file, 1 to 5.
+    /// The same with another file, 1 to 6.
     fn with<T: AsRef<str>>(mut self, file: usize, lines: &[T]) -> Paper {
         self.files[file - 1] = latin(lines);
         self
@@ -69,8 +74,8 @@ impl Paper {
 
     fn load(&self, boundary: &dyn Boundary) -> ([u32; 5], Vec<u32>) {
         let (mut table, mut helper) = (vec![LENT; 2_000], vec![LENT; HELPER]);
-        let [a, b, c, d, e] = &self.files;
-        let answer = boundary.load([a, b, c, d, e], &mut table, &mut helper);
+        let [a, b, c, d, e, f] = &self.files;
+        let answer = boundary.load([a, b, c, d, e, f], &mut table, &mut helper);
         (answer, table)
     }
 

@@ -1,4 +1,4 @@
-//! Reads the five files of a delivery, loads them, and walks the first service on 05.12.2025 and 06.12.2025.
+//! Reads the six files of a delivery, loads them, and walks the first service on 05.12.2025 and 06.12.2025.
 //!
 //!     trial_week [DIRECTORY]
 //!

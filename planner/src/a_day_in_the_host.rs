@@ -2,7 +2,7 @@
 //!
 //! # Size
 //!
-//! [`Timetable::load`](crate::Timetable::load) takes what it needs from the heap. While it loads, that is hardly more than the bytes of the five files once again, and four words of four bytes (helper
+//! [`Timetable::load`](crate::Timetable::load) takes what it needs from the heap. While it loads, that is hardly more than the bytes of the six files once again, and four words of four bytes (helper
 //! words) for each line of BITFELD, BAHNHOF and UMSTEIGB. Afterwards it keeps the table's own words, BAHNHOF's bytes, and eight bytes a service. No file is over 16 MiB (16,777,216
 //! bytes): a longer one is refused. The archive itself takes no heap, and little stack: the crate's tests load and walk the largest service on a thread of 64 KiB.
 //!
@@ -94,13 +94,30 @@
 //! # What a question costs
 //!
 //! A question that the archive answers first looks whether the words are a table, every time: that is proved, and grows with the table, about 0.3 ns a word (docs/MEASURED.md); a tenth of a
-//! millisecond for 300,000 words. That is so for [`Service::runs`](crate::Service::runs), [`Run::calls`](crate::Run::calls), [`BitField::runs_on`](crate::BitField::runs_on), [`Stop::name`](crate::Stop::name) and
-//! [`Stop::interchange`](crate::Stop::interchange). Who asks them in an inner loop asks once for the day, and keeps the answers. Arithmetic on days takes some microseconds whatever the table.
+//! millisecond for 300,000 words. That is so for [`Service::runs`](crate::Service::runs), [`Run::calls`](crate::Run::calls), [`BitField::runs_on`](crate::BitField::runs_on), [`Stop::name`](crate::Stop::name),
+//! [`Stop::interchange`](crate::Stop::interchange) and [`Call::interchange_to`](crate::Call::interchange_to). Who asks them in an inner loop asks once for the day, and keeps the answers. Arithmetic on days takes some microseconds whatever the table.
 //! What is only read (numbers, routes, ranges, periods) takes no call of the archive, but [`Opened::stop_by_number`](crate::Opened::stop_by_number) and a range's bit field are looked for
 //! from the first.
 //!
 //! # What a class is
 //!
-//! [`Stop::interchange`](crate::Stop::interchange) takes the classes of the service that arrives and of the one that departs: the quality of a means of transport, 0 the highest to 13 the lowest. Which category
-//! (*G, such as `BAT`) has which class stands in the standard's file ZUGART (5.5), which is not one of the five files: the host has to know it. Two classes that are both 0, 1 or 2 take a stop's first time, all
-//! others its second.
+//! The quality of a means of transport, 0 the highest to 13 the lowest. Two classes that are both 0, 1 or 2 take a stop's first time, all others its second. Which category (*G, such as `BAT`) has which class stands
+//! in ZUGART (5.5), and [`ServiceCategory::class`](crate::ServiceCategory::class) says it. So a host does not handle classes: the change from one run to another at a stop is
+//! [`Call::interchange_to`](crate::Call::interchange_to), by the categories of the leg that arrives and of the one that leaves; that both are listed is proved.
+//! [`Stop::interchange`](crate::Stop::interchange) takes two classes, for a service that is in no timetable.
+//!
+//! ```
+//! # fn main() -> Result<(), Box<dyn std::error::Error>> {
+//! # let timetable = estelunya_planner::Timetable::read("../crates/ferry/data")?;
+//! # let friday = "05.12.2025".parse()?;
+//! timetable.open(|timetable| {
+//!     let ferry = timetable.services().next().expect("a service");
+//!     let run = ferry.runs(friday)?.next().expect("it runs on Fridays");
+//!     let calls: Vec<_> = run.calls().collect();
+//!     // it comes back to the second quay: from the last call to the second, boat to boat
+//!     assert_eq!(calls[3].interchange_to(&calls[1]), Some(3));
+//!     assert_eq!(calls[3].interchange_to(&calls[0]), None);
+//!     Ok(())
+//! })
+//! # }
+//! ```

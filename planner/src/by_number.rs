@@ -5,7 +5,7 @@
 //! keep apart. A [`Timetable`](crate::Timetable) keeps it apart by itself.
 //!
 //! ```
-//! use estelunya_planner::by_number::{load, Date, Table, Walk};
+//! use estelunya_planner::by_number::{category_word, load, Date, Table, Walk};
 //! use estelunya_planner::{Files, Language, NameType, MOST_ROW_WORDS};
 //! use std::fs::read;
 //!
@@ -17,6 +17,7 @@
 //!     bahnhof: &bahnhof,
 //!     umsteigb: &read("../crates/ferry/data/UMSTEIGB")?,
 //!     fplan: &read("../crates/ferry/data/FPLAN")?,
+//!     zugart: &read("../crates/ferry/data/ZUGART")?,
 //! };
 //! let mut words = vec![0; 4096];
 //! let loaded = load(&files, &mut words)?;
@@ -35,6 +36,9 @@
 //!     }
 //!     Walk::NotRunning => panic!("it runs on Fridays"),
 //! }
+//! // the boat is of class 4, so that it takes the stop's second time
+//! let boat = category_word(*b"BAT");
+//! assert_eq!((table.class_of(boat), table.interchange_between(1_000_022, boat, boat)?), (Some(4), 3));
 //! let saturday = Date { day: 6, month: 12, year: 2025 };
 //! assert_eq!(table.walk(0, 0, saturday, &mut lent)?, Walk::NotRunning);
 //!
@@ -53,7 +57,7 @@
 //! use estelunya_planner::{Files, Offence, Refusal};
 //!
 //! let mut words = [0; 4096];
-//! let files = Files { eckdaten: b"01.12.2025\n", bitfeld: b"", bahnhof: b"", umsteigb: b"", fplan: b"" };
+//! let files = Files { eckdaten: b"01.12.2025\n", bitfeld: b"", bahnhof: b"", umsteigb: b"", fplan: b"", zugart: b"" };
 //! let refusal = load(&files, &mut words).unwrap_err();
 //! assert_eq!((refusal.offence, refusal.line), (Offence::LineMissing, 2));
 //!
@@ -67,6 +71,7 @@ mod days;
 pub(crate) mod load;
 pub(crate) mod names;
 
+pub use crate::row::category_word;
 pub use crate::runs::Run;
 pub use ask::{Date, Table, Walk};
 pub use days::BitField;

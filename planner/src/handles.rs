@@ -14,7 +14,8 @@ use crate::by_number::Table;
 use crate::date::Date;
 use crate::layout::{
     ADMINISTRATION_AT, ARRIVAL, CALLS_AT, CALL_WORDS, CATEGORIES_AT, CATEGORY_WORDS, DAYS_AT, DAYS_WORDS, DEPARTURE,
-    EXTRAS_AT, EXTRA_WORDS, NO_ALIGHTING, NO_BOARDING, NUMBER_AT, OPENING_LINE_AT, ROW_WORDS, SERVICE_WORDS,
+    EXTRAS_AT, EXTRA_WORDS, NO_ALIGHTING, NO_BOARDING, NUMBER_AT, OPENING_LINE_AT, ROW_CATEGORY_AT, ROW_WORDS,
+    SERVICE_WORDS,
 };
 use crate::refusal::Refusal;
 use crate::row::{six_bytes, three_bytes, Row};
@@ -68,6 +69,15 @@ impl<'t> Opened<'t> {
         self.table().bit_field_records().map(move |record| self.bit_field(record[0]))
     }
 
+    /// All categories that a service may have, in ZUGART's order.
+    pub fn categories(self) -> impl Listed<ServiceCategory<'t>> + 't {
+        self.table().class_records().map(|record| ServiceCategory {
+            mark: PhantomData,
+            code: record[0],
+            class: record[1],
+        })
+    }
+
     /// All interchange records, in UMSTEIGB's order: the first is that of every stop without its own.
     pub fn interchanges(self) -> impl Listed<Interchange<'t>> + 't {
         self.table().interchange_records().map(move |record| Interchange {
@@ -101,6 +111,17 @@ impl<'t> Opened<'t> {
             Ok(days) => Some(BitField { opened: self, number: Some(number), days }),
             Err(_) => None,
         }
+    }
+
+    /// The category with this code, three bytes as they stand in ZUGART.
+    #[must_use]
+    pub fn category_by_code(self, code: [u8; 3]) -> Option<ServiceCategory<'t>> {
+        self.categories().find(|category| category.code() == code)
+    }
+
+    /// A category that the table names. That each category of a service is in ZUGART is proved.
+    fn category(self, code: [u8; 3]) -> ServiceCategory<'t> {
+        self.category_by_code(code).unwrap_or_else(|| panic!("the timetable does not list category {:?}", code))
     }
 
     /// A bit field that the table names.
@@ -183,9 +204,9 @@ impl<'t> Service<'t> {
     }
 
     /// Its categories, from its *G lines.
-    pub fn categories(self) -> impl Listed<Category> + 't {
-        self.records(1).chunks_exact(CATEGORY_WORDS).map(|record| Category {
-            code: three_bytes(record[0]),
+    pub fn categories(self) -> impl Listed<Category<'t>> + 't {
+        self.records(1).chunks_exact(CATEGORY_WORDS).map(move |record| Category {
+            category: self.opened.category(three_bytes(record[0])),
             from: record[1] as usize,
             to: record[2] as usize,
         })
@@ -255,9 +276,9 @@ impl Hash for Service<'_> {
 /// A category on a part of a service's route.
 #[derive(Clone, Copy, Debug, PartialEq, Eq, Hash)]
 #[non_exhaustive]
-pub struct Category {
-    /// Columns 4-6 of the *G line.
-    pub code: [u8; 3],
+pub struct Category<'t> {
+    /// The category, columns 4-6 of the *G line.
+    pub category: ServiceCategory<'t>,
     /// The index of the first call in [`Service::route`].
     pub from: usize,
     /// The index of the last call.
@@ -410,7 +431,9 @@ impl<'t> Run<'t> {
         (0..self.calls).map(move |at| {
             let mut row = [0; ROW_WORDS];
             row.copy_from_slice(&words[at * ROW_WORDS..][..ROW_WORDS]);
-            Call { opened, words: row }
+            // The leg that arrives is the one that leaves the call before.
+            let before = at.checked_sub(1).map(|before| words[before * ROW_WORDS + ROW_CATEGORY_AT]);
+            Call { opened, words: row, arriving: before.map(three_bytes) }
         })
     }
 }
@@ -445,6 +468,7 @@ impl Hash for Run<'_> {
 pub struct Call<'t> {
     opened: Opened<'t>,
     words: [u32; ROW_WORDS],
+    arriving: Option<[u8; 3]>,
 }
 
 impl<'t> Call<'t> {
@@ -493,6 +517,30 @@ impl<'t> Call<'t> {
     #[must_use]
     pub fn category(&self) -> Option<[u8; 3]> {
         self.row().category()
+    }
+
+    /// The category of the leg that leaves; `None` at the last call.
+    #[must_use]
+    pub fn departing_category(&self) -> Option<ServiceCategory<'t>> {
+        self.category().map(|code| self.opened.category(code))
+    }
+
+    /// The category of the leg that arrives; `None` at the first call.
+    #[must_use]
+    pub fn arriving_category(&self) -> Option<ServiceCategory<'t>> {
+        self.arriving.map(|code| self.opened.category(code))
+    }
+
+    /// The minutes to change from the run of this call to the run of another call at the same stop, by the categories of the leg that arrives here and of the one
+    /// that leaves there. `None` if it is another stop, or this is the first call of its run, or the other is the last of its own. Whether one may alight and
+    /// board, and whether there is so much time, the calls say.
+    #[must_use]
+    pub fn interchange_to(&self, departing: &Call<'t>) -> Option<u32> {
+        let (arriving, leaving) = (self.arriving_category()?, departing.departing_category()?);
+        if self.stop() != departing.stop() {
+            return None;
+        }
+        Some(self.stop().interchange_between(arriving, leaving))
     }
 
     /// The row as the walk gave it.
@@ -552,6 +600,25 @@ impl<'t> Stop<'t> {
     pub fn interchange(self, arriving: u32, departing: u32) -> Result<u32, Refusal> {
         self.opened.table().interchange(self.number, arriving, departing)
     }
+
+    /// The minutes to change here from a service of one category to a service of another, by their classes.
+    ///
+    /// ```
+    /// # fn main() -> Result<(), Box<dyn std::error::Error>> {
+    /// # let timetable = estelunya_planner::Timetable::read("../crates/ferry/data")?;
+    /// timetable.open(|timetable| {
+    ///     let (quay, boat) = (timetable.stops().next().unwrap(), timetable.category_by_code(*b"BAT").unwrap());
+    ///     assert_eq!((boat.class(), quay.interchange_between(boat, boat)), (4, 3));
+    /// });
+    /// # Ok(())
+    /// # }
+    /// ```
+    #[must_use]
+    pub fn interchange_between(self, arriving: ServiceCategory<'t>, departing: ServiceCategory<'t>) -> u32 {
+        let answer = self.opened.table().interchange_between(self.number, arriving.code, departing.code);
+        // A stop and categories of the table are never refused.
+        answer.unwrap_or_else(|refusal| panic!("{:?}, {:?} to {:?}: {}", self, arriving, departing, refusal))
+    }
 }
 
 impl fmt::Debug for Stop<'_> {
@@ -572,6 +639,50 @@ impl Eq for Stop<'_> {}
 impl Hash for Stop<'_> {
     fn hash<H: Hasher>(&self, state: &mut H) {
         self.number.hash(state);
+    }
+}
+
+/// A category of services (or means of transport), as ZUGART lists it: `IC `, `BAT`.
+#[derive(Clone, Copy)]
+#[must_use]
+pub struct ServiceCategory<'t> {
+    mark: PhantomData<fn(&'t ()) -> &'t ()>,
+    code: u32,
+    class: u32,
+}
+
+impl ServiceCategory<'_> {
+    /// Its code, columns 1-3 of its line.
+    #[must_use]
+    pub fn code(self) -> [u8; 3] {
+        three_bytes(self.code)
+    }
+
+    /// Its class, 0 to 13: see [what a class is](crate::a_day_in_the_host#what-a-class-is).
+    #[must_use]
+    pub fn class(self) -> u32 {
+        self.class
+    }
+}
+
+impl fmt::Debug for ServiceCategory<'_> {
+    fn fmt(&self, f: &mut fmt::Formatter<'_>) -> fmt::Result {
+        write!(f, "ServiceCategory({:?}, class {})", String::from_utf8_lossy(&self.code()), self.class)
+    }
+}
+
+/// The same category: a timetable has one of a code.
+impl PartialEq for ServiceCategory<'_> {
+    fn eq(&self, other: &Self) -> bool {
+        self.code == other.code
+    }
+}
+
+impl Eq for ServiceCategory<'_> {}
+
+impl Hash for ServiceCategory<'_> {
+    fn hash<H: Hasher>(&self, state: &mut H) {
+        self.code.hash(state);
     }
 }
 

@@ -2,7 +2,7 @@
 //! stands in it, counted from 0. `tools/drift.sh` holds the two together.
 
 /// Words of the header.
-pub const HEADER_WORDS: usize = 8;
+pub const HEADER_WORDS: usize = 9;
 /// Header: words used.
 pub const USED_AT: usize = 0;
 /// Header: first day of the period; 01.01.1900 is 0.
@@ -19,6 +19,8 @@ pub const INTERCHANGES_AT: usize = 5;
 pub const SERVICES_AT: usize = 6;
 /// Header: place of the first service.
 pub const FIRST_SERVICE_AT: usize = 7;
+/// Header: how many categories have a class.
+pub const CLASSES_AT: usize = 8;
 
 /// Words of a bit field: number, then its bits.
 pub const BIT_FIELD_WORDS: usize = 13;
@@ -28,6 +30,8 @@ pub const BIT_WORDS: usize = 12;
 pub const STOP_WORDS: usize = 3;
 /// Words of an interchange record: number of the stop, two times.
 pub const INTERCHANGE_WORDS: usize = 3;
+/// Words of a category's class: its code in three bytes, its class.
+pub const CLASS_WORDS: usize = 2;
 
 /// Words of a service's head.
 pub const SERVICE_WORDS: usize = 12;

@@ -1,7 +1,7 @@
 //! The planner's side of Estelunya: safe functions over the proved archive `libestelunya.a`.
 //!
 //! A delivery is loaded once, into a [`Timetable`], which is then asked all day. Nothing is asked of the caller: whatever the files and
-//! numbers say, the answer is document 01's. Services, stops, bit fields and runs are handles of their timetable: one that is asked of another
+//! numbers say, the answer is document 01's. Services, stops, bit fields, categories and runs are handles of their timetable: one that is asked of another
 //! timetable, or kept past its own, [does not compile](Timetable::open).
 //!
 //! The sample delivery, read from this crate's directory, loaded and walked:
@@ -22,7 +22,10 @@
 //!         assert_eq!(quays, [1_000_011, 1_000_022, 1_000_033, 1_000_022]);
 //!         let first = run.calls().next().expect("two calls or more");
 //!         assert_eq!(first.stop().name(Language::GERMAN, NameType::ANY)?, b"Quay A");
-//!         assert_eq!((first.departure(), first.stop().interchange(1, 1)?), (Some(8 * 60), 2));
+//!         assert_eq!(first.departure(), Some(8 * 60));
+//!         // from this boat to itself, where it calls a second time: boats are of class 4
+//!         let [_, second, _, last] = [0, 1, 2, 3].map(|at| run.calls().nth(at).expect("four calls"));
+//!         assert_eq!((second.departing_category().map(|boat| boat.class()), last.interchange_to(&second)), (Some(4), Some(3)));
 //!     }
 //!     assert_eq!(ferry.runs(saturday)?.len(), 0);
 //!
@@ -41,7 +44,7 @@
 //! ```
 //! use estelunya_planner::{Files, Offence, Timetable};
 //!
-//! let files = Files { eckdaten: b"01.12.2025\n", bitfeld: b"", bahnhof: b"", umsteigb: b"", fplan: b"" };
+//! let files = Files { eckdaten: b"01.12.2025\n", bitfeld: b"", bahnhof: b"", umsteigb: b"", fplan: b"", zugart: b"" };
 //! let refusal = Timetable::load(&files).unwrap_err();
 //! assert_eq!((refusal.offence, refusal.line), (Offence::LineMissing, 2));
 //! assert!(refusal.to_string().starts_with("refused 2 file 1 line 2 column 0: ECKDATEN: "));
@@ -74,7 +77,8 @@ pub use by_number::load::Files;
 pub use by_number::names::{Language, NameType};
 pub use date::{Date, Month, NoSuchDate};
 pub use handles::{
-    Attribute, BitField, Call, Category, Interchange, Listed, Opened, OperatingDays, RouteCall, Run, Service, Stop,
+    Attribute, BitField, Call, Category, Interchange, Listed, Opened, OperatingDays, RouteCall, Run, Service,
+    ServiceCategory, Stop,
 };
 pub use layout::{MOST_ROW_WORDS, ROW_WORDS};
 pub use refusal::{File, LoadRefusal, Offence, Refusal};

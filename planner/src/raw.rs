@@ -5,9 +5,9 @@
 #[repr(C)]
 #[derive(Clone, Copy, Debug, PartialEq, Eq)]
 pub struct LoadResult {
-    /// 0: accepted; else the refusal, 1 to 20, 39 or 51.
+    /// 0: accepted; else the refusal, 1 to 20, 37, 38, 39 or 51.
     pub number: u32,
-    /// 1 ECKDATEN, 2 BITFELD, 3 BAHNHOF, 4 UMSTEIGB, 5 FPLAN; 0 if accepted, and for 20 and 51.
+    /// 1 ECKDATEN, 2 BITFELD, 3 BAHNHOF, 4 UMSTEIGB, 5 FPLAN, 6 ZUGART; 0 if accepted, and for 20 and 51.
     pub file: u32,
     /// The line, counted from 1; 0 if accepted, and for 1, 20 and 51.
     pub line: u32,
@@ -27,11 +27,11 @@ pub struct DayResult {
     pub runs: u32,
 }
 
-/// The answer of [`estelunya_interchange`].
+/// The answer of [`estelunya_interchange`] and [`estelunya_interchange_between`].
 #[repr(C)]
 #[derive(Clone, Copy, Debug, PartialEq, Eq)]
 pub struct InterchangeResult {
-    /// 0: answered; else the refusal: 21, 26, 27.
+    /// 0: answered; else the refusal: 21, 26, 27; between categories 21, 27, 38.
     pub number: u32,
     /// The interchange time; 0 if refused.
     pub minutes: u32,
@@ -83,7 +83,7 @@ pub struct DayCountResult {
 // The contract of all: each pointer is good for its length (reads, and writes for `table` and `helper` of the load, `rows` and `result`);
 // the words lent overlap no other argument. Nothing is asked of what the bytes, words and numbers say.
 extern "C" {
-    /// Loads the five files into the words lent. Accepted: the first `words` of them are the table, later words stay.
+    /// Loads the six files into the words lent. Accepted: the first `words` of them are the table, later words stay.
     /// Refused: all words stay. The helper words needed hold 0 afterwards, later ones stay; after 1 and 51 all stay.
     pub fn estelunya_load(
         eckdaten: *const u8,
@@ -96,6 +96,8 @@ extern "C" {
         umsteigb_len: usize,
         fplan: *const u8,
         fplan_len: usize,
+        zugart: *const u8,
+        zugart_len: usize,
         table: *mut u32,
         table_len: usize,
         helper: *mut u32,
@@ -108,6 +110,15 @@ extern "C" {
 
     /// The interchange time at a stop between two classes.
     pub fn estelunya_interchange(
+        table: *const u32,
+        table_len: usize,
+        stop: u32,
+        arriving: u32,
+        departing: u32,
+    ) -> InterchangeResult;
+
+    /// The interchange time at a stop between two categories, each three bytes in a word, the first highest.
+    pub fn estelunya_interchange_between(
         table: *const u32,
         table_len: usize,
         stop: u32,

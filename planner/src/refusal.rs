@@ -17,14 +17,17 @@ pub enum File {
     Umsteigb = 4,
     /// File 5: services with their calls, categories and operating days.
     Fplan = 5,
+    /// File 6: the categories that services may have, each with its class. It is checked before FPLAN.
+    Zugart = 6,
 }
 
-const FILES: [(File, &str); 5] = [
+const FILES: [(File, &str); 6] = [
     (File::Eckdaten, "ECKDATEN"),
     (File::Bitfeld, "BITFELD"),
     (File::Bahnhof, "BAHNHOF"),
     (File::Umsteigb, "UMSTEIGB"),
     (File::Fplan, "FPLAN"),
+    (File::Zugart, "ZUGART"),
 ];
 
 /// The text beside a value; every value is listed.
@@ -33,12 +36,12 @@ fn text_of<T: Copy + PartialEq>(texts: &[(T, &'static str)], value: T) -> &'stat
 }
 
 impl File {
-    /// The file's number, 1 to 5.
+    /// The file's number, 1 to 6.
     pub fn number(self) -> u32 {
         self as u32
     }
 
-    /// The file of a number; `None` unless 1 to 5.
+    /// The file of a number; `None` unless 1 to 6.
     pub fn from_number(number: u32) -> Option<File> {
         FILES.iter().map(|(file, _)| *file).find(|file| file.number() == number)
     }
@@ -69,7 +72,7 @@ pub enum Offence {
     Form = 4,
     /// 5: no such date from 01.01.1900 to 31.12.2199, an end before the start, or more than 380 days.
     NoSuchDate = 5,
-    /// 6: an earlier line of the same file, BITFELD, BAHNHOF or UMSTEIGB, has this number.
+    /// 6: an earlier line of the same file, BITFELD, BAHNHOF, UMSTEIGB or ZUGART, has this number or code.
     NumberSeenEarlier = 6,
     /// 7: bit field 000000, a stop 9999999 or ending 00000, or a first record of UMSTEIGB that is not 9999999.
     NumberNotAllowed = 7,
@@ -99,19 +102,23 @@ pub enum Offence {
     TwoStretches = 19,
     /// 20: the delivery is right, but its table needs more words than were lent.
     TableTooShort = 20,
+    /// 37: a category of ZUGART has a tariff group where the first has none, or none where the first has one.
+    TariffGroup = 37,
+    /// 38: the category of a *G line is not in ZUGART.
+    CategoryUnknown = 38,
     /// 39: the name field of a stop is no list of names with their patterns.
     NameList = 39,
     /// 51: the load needs more helper words than were lent. [`Timetable::load`](crate::Timetable::load) lends enough.
     HelperTooShort = 51,
 }
 
-const OFFENCES: [(Offence, &str); 22] = [
+const OFFENCES: [(Offence, &str); 24] = [
     (Offence::FileTooLong, "the file has more than 16,777,216 bytes"),
     (Offence::LineMissing, "a line is missing: ECKDATEN needs three lines, UMSTEIGB at least the record of 9999999"),
     (Offence::FourthLine, "ECKDATEN has more than three lines"),
     (Offence::Form, "the line does not have its form"),
     (Offence::NoSuchDate, "there is no such date, or the period ends before it starts or has more than 380 days"),
-    (Offence::NumberSeenEarlier, "an earlier line of the same file has this number"),
+    (Offence::NumberSeenEarlier, "an earlier line of the same file has this number, or this code"),
     (
         Offence::NumberNotAllowed,
         "this number cannot stand here: 000000, a stop 9999999 or ending 00000, or a first record that is not 9999999",
@@ -129,17 +136,19 @@ const OFFENCES: [(Offence, &str); 22] = [
     (Offence::OperatingDays, "a leg of the service does not have exactly one *A VE line"),
     (Offence::TwoStretches, "on some day the service runs on two or more separate stretches"),
     (Offence::TableTooShort, "the delivery is right, but the table lent is too short for it"),
+    (Offence::TariffGroup, "a tariff group is missing or alone: all categories have one, or none"),
+    (Offence::CategoryUnknown, "the category is not in ZUGART"),
     (Offence::NameList, "the name field is no list of names with their patterns, such as Genf$<d>$Geneva$<e>"),
     (Offence::HelperTooShort, "the helper words lent are too few for the lines of BITFELD, BAHNHOF and UMSTEIGB"),
 ];
 
 impl Offence {
-    /// Its number, 1 to 20, 39 or 51.
+    /// Its number, 1 to 20, 37 to 39 or 51.
     pub fn number(self) -> u32 {
         self as u32
     }
 
-    /// The offence of a number; `None` unless 1 to 20, 39 or 51.
+    /// The offence of a number; `None` unless 1 to 20, 37 to 39 or 51.
     pub fn from_number(number: u32) -> Option<Offence> {
         OFFENCES.iter().map(|(offence, _)| *offence).find(|offence| offence.number() == number)
     }
@@ -183,7 +192,7 @@ impl fmt::Display for LoadRefusal {
 impl Error for LoadRefusal {}
 
 /// Why a question, or arithmetic on operating days, is refused. 31 to 36 cannot occur on the
-/// unaltered table of an accepted delivery, nor 39 and 41 with its own BAHNHOF: that is proved.
+/// unaltered table of an accepted delivery, nor 38 for categories of its own runs, nor 39 and 41 with its own BAHNHOF: that is proved.
 #[derive(Clone, Copy, Debug, PartialEq, Eq)]
 #[non_exhaustive]
 pub enum Refusal {
@@ -221,6 +230,8 @@ pub enum Refusal {
     TwoStretches,
     /// 36: a call has no time where the run needs one, or one that is earlier than the one needed before.
     Times,
+    /// 38: a category is not in the table.
+    CategoryUnknown,
     /// 39: the stop's name field is no list of names with their patterns, or longer than the 50 columns that it can have.
     NameList,
     /// 40: the language or the type is neither 0 nor in the standard's list.
@@ -231,7 +242,7 @@ pub enum Refusal {
     NotAField,
 }
 
-const REFUSALS: [(u32, Refusal, &str); 19] = [
+const REFUSALS: [(u32, Refusal, &str); 20] = [
     (21, Refusal::NotATable, "the words are not a table"),
     (22, Refusal::NoSuchDate, "there is no such date"),
     (23, Refusal::OutsidePeriod, "the date is outside the period"),
@@ -247,6 +258,7 @@ const REFUSALS: [(u32, Refusal, &str); 19] = [
     (34, Refusal::OperatingDays, "a leg does not have exactly one range of operating days"),
     (35, Refusal::TwoStretches, "on that day the service runs on two or more separate stretches"),
     (36, Refusal::Times, "a time that the run needs is missing, or earlier than the one before it"),
+    (38, Refusal::CategoryUnknown, "the category is not in the table"),
     (39, Refusal::NameList, "the name field of the stop is no list of names"),
     (40, Refusal::NoSuchLanguageOrType, "there is no such language or type"),
     (41, Refusal::NameOutside, "the names of the stop are not inside the bytes of BAHNHOF given"),
@@ -254,12 +266,12 @@ const REFUSALS: [(u32, Refusal, &str); 19] = [
 ];
 
 impl Refusal {
-    /// Its number, 21 to 29, 31 to 36 or 39 to 42.
+    /// Its number, 21 to 29, 31 to 36 or 38 to 42.
     pub fn number(self) -> u32 {
         self.entry().0
     }
 
-    /// The refusal of a number, with the words needed if it is 29; `None` unless 21 to 29, 31 to 36 or 39 to 42.
+    /// The refusal of a number, with the words needed if it is 29; `None` unless 21 to 29, 31 to 36 or 38 to 42.
     pub fn from_number(number: u32, needed: u32) -> Option<Refusal> {
         match REFUSALS.iter().find(|entry| entry.0 == number)?.1 {
             Refusal::RowsTooShort { .. } => Some(Refusal::RowsTooShort { needed }),

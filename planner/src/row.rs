@@ -89,6 +89,11 @@ pub(crate) fn six_bytes(words: &[u32]) -> [u8; 6] {
     [a, b, c, d, e, f]
 }
 
+/// The word of a category's three bytes, the first highest: as a table and a row have it, and as a question takes it.
+pub fn category_word([first, second, third]: [u8; 3]) -> u32 {
+    u32::from_be_bytes([0, first, second, third])
+}
+
 /// The three bytes that share a word, the first highest.
 pub(crate) fn three_bytes(word: u32) -> [u8; 3] {
     let [_, first, second, third] = word.to_be_bytes();

@@ -9,8 +9,8 @@ use crate::by_number::{load, Table};
 use crate::date::Date;
 use crate::handles::Opened;
 use crate::layout::{
-    BIT_FIELD_WORDS, FIRST_DAY_AT, FIRST_SERVICE_AT, HEADER_WORDS, INTERCHANGE_WORDS, SERVICE_WORDS, SIZE_AT,
-    STOP_WORDS,
+    BIT_FIELD_WORDS, CLASS_WORDS, FIRST_DAY_AT, FIRST_SERVICE_AT, HEADER_WORDS, INTERCHANGE_WORDS, SERVICE_WORDS,
+    SIZE_AT, STOP_WORDS,
 };
 use crate::refusal::{File, LoadRefusal, Offence};
 
@@ -18,7 +18,7 @@ use crate::refusal::{File, LoadRefusal, Offence};
 /// to stand in an [`Arc`](std::sync::Arc) all day: [`a day in the host`](crate::a_day_in_the_host).
 ///
 /// What it holds is asked through handles ([`Service`](crate::Service), [`Stop`](crate::Stop), [`BitField`](crate::BitField),
-/// [`Run`](crate::Run)), which [`Timetable::open`] gives.
+/// [`ServiceCategory`](crate::ServiceCategory), [`Run`](crate::Run)), which [`Timetable::open`] gives.
 pub struct Timetable {
     words: Box<[u32]>,
     bahnhof: Box<[u8]>,
@@ -54,7 +54,7 @@ impl Timetable {
         Ok(Timetable { words: words.into(), bahnhof: files.bahnhof.into(), services })
     }
 
-    /// Reads the five files of a delivery in a directory, each under its name in capitals, and loads them.
+    /// Reads the six files of a delivery in a directory, each under its name in capitals, and loads them.
     ///
     /// # Errors
     ///
@@ -69,6 +69,7 @@ impl Timetable {
             bahnhof: &read(File::Bahnhof)?,
             umsteigb: &read(File::Umsteigb)?,
             fplan: &read(File::Fplan)?,
+            zugart: &read(File::Zugart)?,
         };
         Timetable::load(&files).map_err(ReadError::Refused)
     }
@@ -268,10 +269,12 @@ impl Period {
     }
 }
 
-/// The bytes that a line which makes a record has at least, with its LF: up to the last bit, the first byte of a name, the second time, "%".
+/// The bytes that a line which makes a record has at least, with its LF: up to the last bit, the first byte of a name, the second time, the
+/// supplement, "%".
 const BIT_FIELD_LINE: usize = 104;
 const STOP_LINE: usize = 14;
 const INTERCHANGE_LINE: usize = 14;
+const CATEGORY_LINE: usize = 22;
 const SERVICE_LINE: usize = 60;
 
 /// Words for the table of a delivery with files of these lengths, if each file were full of the shortest lines, of the kind that takes most
@@ -283,6 +286,7 @@ fn likely_words(files: &Files<'_>) -> usize {
         + BIT_FIELD_WORDS * lines(files.bitfeld, BIT_FIELD_LINE)
         + STOP_WORDS * lines(files.bahnhof, STOP_LINE)
         + INTERCHANGE_WORDS * lines(files.umsteigb, INTERCHANGE_LINE)
+        + CLASS_WORDS * lines(files.zugart, CATEGORY_LINE)
         + SERVICE_WORDS * lines(files.fplan, SERVICE_LINE)
 }
 

@@ -14,6 +14,7 @@ fn one_day() -> Vec<u32> {
         bahnhof: b"",
         umsteigb: b"9999999  2  3",
         fplan: b"",
+        zugart: b"",
     };
     Timetable::load(&files).unwrap().by_number().words().to_vec()
 }

@@ -10,6 +10,7 @@ fn trial_week() -> Vec<u32> {
         bahnhof: include_bytes!("../../crates/ferry/data/BAHNHOF"),
         umsteigb: include_bytes!("../../crates/ferry/data/UMSTEIGB"),
         fplan: include_bytes!("../../crates/ferry/data/FPLAN"),
+        zugart: include_bytes!("../../crates/ferry/data/ZUGART"),
     };
     let mut words = vec![7; 100];
     load(&files, &mut words).unwrap();
@@ -47,13 +48,13 @@ fn refused() {
         assert_eq!(table.bit_field_from(wrong), Err(Refusal::NotAField));
     }
     assert_eq!(Table::new(&[]).bit_field(0), Err(Refusal::NotAField));
-    assert_eq!(Table::new(&[8, 0, u32::MAX, 0, 0, 0, 0, 8]).bit_field(0), Err(Refusal::NotAField));
+    assert_eq!(Table::new(&[9, 0, u32::MAX, 0, 0, 0, 0, 9, 0]).bit_field(0), Err(Refusal::NotAField));
 }
 
 /// A whole year and more: each of the 380 days.
 #[test]
 fn longest_period() {
-    let table = Table::new(&[8, 0, 380, 0, 0, 0, 0, 8]);
+    let table = Table::new(&[9, 0, 380, 0, 0, 0, 0, 9, 0]);
     let daily = table.bit_field(0).unwrap();
     assert_eq!((daily.words(), daily.day_count(), (!daily).day_count()), ([u32::MAX; 12], 380, 0));
 }

@@ -38,6 +38,7 @@ fn two_days() -> Result<Timetable, estelunya_planner::LoadRefusal> {
         bahnhof: b"1000022     B$<d>$Bee$<e>\n1000011     A\n1000033     C",
         umsteigb: b"9999999  2  3\n1000022  4 15",
         fplan: FPLAN.as_bytes(),
+        zugart: b"% ships and trains\nBAT  4 A 0 BAT      0 B\nSCH 13 A 0 SCH      0\nIC   2 B 0 IC       1\n",
     })
 }
 
@@ -96,7 +97,7 @@ fn ranges() {
     let timetable = two_days().unwrap();
     timetable.open(|timetable| {
         let service = timetable.services().next().unwrap();
-        let categories: Vec<_> = service.categories().map(|part| (part.code, part.from, part.to)).collect();
+        let categories: Vec<_> = service.categories().map(|part| (part.category.code(), part.from, part.to)).collect();
         assert_eq!(categories, [(*b"BAT", 0, 1), (*b"SCH", 1, 2)]);
         let days: Vec<_> = service.operating_days().map(|part| (part.field.number(), part.from, part.to)).collect();
         assert_eq!(days, [(Some(0), 0, 1), (Some(3), 1, 2)]);
@@ -177,6 +178,36 @@ fn stops() {
     });
 }
 
+/// Categories with their classes, and the change between two services: the leg that arrives is that of the call before.
+#[test]
+fn categories() {
+    let timetable = two_days().unwrap();
+    timetable.open(|timetable| {
+        let listed: Vec<_> = timetable.categories().map(|category| (category.code(), category.class())).collect();
+        assert_eq!(listed, [(*b"BAT", 4), (*b"SCH", 13), (*b"IC ", 2)]);
+        let of = |code: &[u8; 3]| timetable.category_by_code(*code);
+        let (boat, train) = (of(b"BAT").unwrap(), of(b"IC ").unwrap());
+        assert_eq!((of(b"bat"), of(b"IC\0")), (None, None));
+        assert_eq!(format!("{:?}", boat), "ServiceCategory(\"BAT\", class 4)");
+        let stop = timetable.stop_by_number(1_000_022).unwrap();
+        let minutes = [(train, train), (train, boat), (boat, train)].map(|(a, b)| stop.interchange_between(a, b));
+        assert_eq!(minutes, [4, 15, 15]);
+        let [night, day] =
+            [0, 1].map(|at| timetable.services().nth(at).unwrap().runs(first()).unwrap().next().unwrap());
+        let calls: Vec<_> = night.calls().collect();
+        let legs: Vec<_> = calls
+            .iter()
+            .map(|call| [call.arriving_category(), call.departing_category()].map(|leg| leg.map(|leg| leg.code())))
+            .collect();
+        assert_eq!(legs, [[None, Some(*b"BAT")], [Some(*b"BAT"), Some(*b"SCH")], [Some(*b"SCH"), None]]);
+        let board: Vec<_> = day.calls().collect();
+        assert_eq!((calls[1].interchange_to(&board[0]), calls[1].interchange_to(&calls[1])), (Some(15), Some(15)));
+        // another stop; the first call of its run; the last call of the other
+        assert_eq!((calls[2].interchange_to(&board[0]), calls[0].interchange_to(&board[0])), (None, None));
+        assert_eq!(board[1].interchange_to(&board[1]), None);
+    });
+}
+
 #[test]
 fn days() {
     let timetable = two_days().unwrap();
@@ -219,15 +250,17 @@ fn empty_but_accepted() {
         bahnhof: b"",
         umsteigb: b"9999999  2  3",
         fplan: b"",
+        zugart: b"",
     };
     let timetable = Timetable::load(&files).unwrap();
-    assert_eq!((timetable.service_count(), timetable.by_number().words().len()), (0, 11));
+    assert_eq!((timetable.service_count(), timetable.by_number().words().len()), (0, 12));
+    assert_eq!(timetable.open(|timetable| timetable.categories().len()), 0);
 }
 
 #[test]
 fn refused() {
-    let refusal =
-        Timetable::load(&Files { eckdaten: b"", bitfeld: b"", bahnhof: b"", umsteigb: b"", fplan: b"" }).unwrap_err();
+    let none = Files { eckdaten: b"", bitfeld: b"", bahnhof: b"", umsteigb: b"", fplan: b"", zugart: b"" };
+    let refusal = Timetable::load(&none).unwrap_err();
     assert_eq!(refusal.offence, Offence::LineMissing);
     match Timetable::read(Path::new("no such directory")) {
         Err(ReadError::Unread { file: File::Eckdaten, .. }) => {}

@@ -11,6 +11,7 @@ const TRIAL_WEEK: Files<'static> = Files {
     bahnhof: include_bytes!("../../crates/ferry/data/BAHNHOF"),
     umsteigb: include_bytes!("../../crates/ferry/data/UMSTEIGB"),
     fplan: include_bytes!("../../crates/ferry/data/FPLAN"),
+    zugart: include_bytes!("../../crates/ferry/data/ZUGART"),
 };
 
 const NEEDED: usize = HELPER_HEAD_WORDS + 5 * HELPER_LINE_WORDS;

@@ -4,8 +4,8 @@ use std::thread::Builder;
 
 use estelunya_planner::by_number::{load, Date, Table, Walk};
 use estelunya_planner::layout::{
-    CALL_WORDS, CATEGORY_WORDS, DAYS_WORDS, EXTRA_WORDS, HEADER_WORDS, INTERCHANGE_WORDS, MOST_CALLS, SERVICE_WORDS,
-    STOP_WORDS,
+    CALL_WORDS, CATEGORY_WORDS, CLASS_WORDS, DAYS_WORDS, EXTRA_WORDS, HEADER_WORDS, INTERCHANGE_WORDS, MOST_CALLS,
+    SERVICE_WORDS, STOP_WORDS,
 };
 use estelunya_planner::{Files, MOST_ROW_WORDS};
 
@@ -13,10 +13,11 @@ const STACK_BYTES: usize = 64 * 1024;
 
 const CALLS: usize = MOST_CALLS;
 
-/// Header, two stops, an interchange record and the service.
+/// Header, two stops, an interchange record, a category and the service.
 const WORDS: usize = HEADER_WORDS
     + 2 * STOP_WORDS
     + INTERCHANGE_WORDS
+    + CLASS_WORDS
     + SERVICE_WORDS
     + CALL_WORDS * CALLS
     + CATEGORY_WORDS * 50
@@ -70,6 +71,7 @@ fn in_64_kib() {
             bahnhof: b"1000011     A\n1000022     B\n",
             umsteigb: b"9999999  2  3\n",
             fplan: fplan.as_bytes(),
+            zugart: b"BAT  4   0 BAT      0 B",
         };
         let used = load(&files, &mut words).map(|loaded| loaded.words);
         let date = Date { day: 5, month: 12, year: 2025 };

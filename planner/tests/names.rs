@@ -15,6 +15,7 @@ fn loaded(bahnhof: &[u8]) -> Result<Vec<u32>, LoadRefusal> {
         bahnhof,
         umsteigb: b"9999999  2  3\n",
         fplan: b"",
+        zugart: b"",
     };
     let mut words = vec![0; 100];
     let loaded = load(&files, &mut words)?;

@@ -20,6 +20,7 @@ const ONE_NIGHT: Files<'static> = Files {
     bahnhof: b"1000011     A\n1000022     B\n1000033     C",
     umsteigb: b"9999999  2  3\n1000022  4 15",
     fplan: FPLAN.as_bytes(),
+    zugart: b"BAT  4   0 BAT      0 B",
 };
 
 fn table_of(files: &Files<'_>) -> Result<Vec<u32>, LoadRefusal> {

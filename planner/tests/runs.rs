@@ -28,6 +28,7 @@ fn words() -> Vec<u32> {
         bahnhof: b"1000011     A\n1000022     B",
         umsteigb: b"9999999  2  3",
         fplan: fplan.as_bytes(),
+        zugart: b"BAT  4   0 BAT      0 B",
     };
     let mut words = vec![0; 200];
     let loaded = load(&files, &mut words).unwrap();

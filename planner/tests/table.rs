@@ -1,8 +1,8 @@
 //! The trial week's table: what it answers and lists; and what any words list.
 
-use estelunya_planner::by_number::{load, Date, Table, Walk};
+use estelunya_planner::by_number::{category_word, load, Date, Table, Walk};
 use estelunya_planner::layout::HEADER_WORDS;
-use estelunya_planner::{Files, MOST_ROW_WORDS};
+use estelunya_planner::{Files, Refusal, MOST_ROW_WORDS};
 
 const BAHNHOF: &[u8] = include_bytes!("../../crates/ferry/data/BAHNHOF");
 
@@ -13,9 +13,10 @@ fn trial_week() -> Vec<u32> {
         bahnhof: BAHNHOF,
         umsteigb: include_bytes!("../../crates/ferry/data/UMSTEIGB"),
         fplan: include_bytes!("../../crates/ferry/data/FPLAN"),
+        zugart: include_bytes!("../../crates/ferry/data/ZUGART"),
     };
     let mut words = vec![7; 100];
-    assert_eq!(load(&files, &mut words).unwrap().words, 79);
+    assert_eq!(load(&files, &mut words).unwrap().words, 82);
     words
 }
 
@@ -42,6 +43,7 @@ fn two_services() -> Vec<u32> {
         bahnhof: b"1000022     B\n1000011     A\n",
         umsteigb: b"9999999  2  3\n",
         fplan: FPLAN.as_bytes(),
+        zugart: b"BAT  4   0 BAT      0 B\n",
     };
     let mut words = vec![11; 100];
     load(&files, &mut words).unwrap();
@@ -79,6 +81,24 @@ fn asked() {
     }
     let minutes = |a, b| table.interchange(1_000_011, a, b);
     assert_eq!((minutes(1, 1), minutes(2, 2), minutes(2, 3)), (Ok(2), Ok(2), Ok(3)));
+}
+
+/// Document 02, No. 1: "The new question takes a stop and two categories"; 21, 27, 38.
+#[test]
+fn between_categories() {
+    let words = trial_week();
+    let (table, boat) = (Table::new(&words), category_word(*b"BAT"));
+    assert_eq!((table.categories(), table.class_of(boat), table.class_of(boat | 0x20)), (1, Some(4), None));
+    assert_eq!(table.interchange_between(1_000_011, boat, boat), Ok(3));
+    for (arriving, departing) in [(boat, 0), (0, boat), (category_word(*b"bat"), boat), (boat, boat | 1 << 24)] {
+        assert_eq!(table.interchange_between(1_000_011, arriving, departing), Err(Refusal::CategoryUnknown));
+        assert_eq!(table.interchange_between(9_999_999, arriving, departing), Err(Refusal::StopUnknown));
+    }
+    assert_eq!(Table::new(&words[1..]).interchange_between(1, boat, boat), Err(Refusal::NotATable));
+    // a class over 13 is no table
+    let mut over = words.clone();
+    over[35] = 14;
+    assert_eq!(Table::new(&over).interchange_between(1_000_011, boat, boat), Err(Refusal::NotATable));
 }
 
 /// "three stops of R", "service 00042".
@@ -124,6 +144,7 @@ fn all_read(words: &[u32]) {
         }
         let stop = table.stop_number(index).unwrap_or(index);
         table.stop_name(stop, BAHNHOF);
+        table.class_of(index);
     }
     assert!(table.service_numbers().count() <= words.len());
 }
@@ -135,12 +156,12 @@ fn any_words() {
     for length in 0..words.len() {
         all_read(&words[..length]);
     }
-    for at in 0..79 {
-        for value in [0, 1, 8, 77, 78, 79, 80, 1 << 31, u32::MAX] {
+    for at in 0..82 {
+        for value in [0, 1, 8, 9, 80, 81, 82, 83, 1 << 31, u32::MAX] {
             let mut changed = words.clone();
             changed[at] = value;
             all_read(&changed);
-            all_read(&[value; 13]);
+            all_read(&[value; 14]);
         }
     }
     assert_eq!((Table::new(&[]).services(), Table::new(&words[..HEADER_WORDS - 1]).stops()), (0, 0));

@@ -19,12 +19,13 @@ macro_rules! layout {
 
 include!(env!("DRIFT_SIDE"));
 
-const FILES: [&[u8]; 5] = [
+const FILES: [&[u8]; 6] = [
     include_bytes!("../../crates/ferry/data/ECKDATEN"),
     include_bytes!("../../crates/ferry/data/BITFELD"),
     include_bytes!("../../crates/ferry/data/BAHNHOF"),
     include_bytes!("../../crates/ferry/data/UMSTEIGB"),
     include_bytes!("../../crates/ferry/data/FPLAN"),
+    include_bytes!("../../crates/ferry/data/ZUGART"),
 ];
 
 fn main() {
@@ -38,8 +39,10 @@ fn main() {
     println!("drift: layouts, prototypes and calls of C and Rust agree");
 }
 
-/// The five files, the table and the helper words, each with its length.
+/// The six files, the table and the helper words, each with its length.
 type Load = unsafe extern "C" fn(
+    *const u8,
+    usize,
     *const u8,
     usize,
     *const u8,
@@ -71,13 +74,12 @@ macro_rules! both {
 
 /// The trial week loaded, by C or not: the answer, the table's words and the helper words, two of them further ones.
 fn loaded_by(load: Load) -> (raw::LoadResult, [u32; 100], [u32; 86]) {
-    let [a, b, c, d, e] = FILES.map(|file| (file.as_ptr(), file.len()));
+    let [a, b, c, d, e, f] = FILES.map(|file| (file.as_ptr(), file.len()));
     let (mut table, mut helper) = ([9; 100], [9; 86]);
     let (words, helps) = ((table.as_mut_ptr(), table.len()), (helper.as_mut_ptr(), helper.len()));
     // SAFETY: pointers and lengths are those of slices that do not overlap.
-    let answer = unsafe {
-        load(a.0, a.1, b.0, b.1, c.0, c.1, d.0, d.1, e.0, e.1, words.0, words.1, helps.0, helps.1)
-    };
+    let answer =
+        unsafe { load(a.0, a.1, b.0, b.1, c.0, c.1, d.0, d.1, e.0, e.1, f.0, f.1, words.0, words.1, helps.0, helps.1) };
     (answer, table, helper)
 }
 
@@ -99,6 +101,17 @@ fn handed_on() {
         assert_eq!((name, &FILES[2][name.start..][..name.length]), (same, &b"Quay B"[..]));
         let change = drift_estelunya_interchange(words, length, 1_000_011, 3, 1);
         assert_eq!((change, change.minutes), (raw::estelunya_interchange(words, length, 1_000_011, 3, 1), 3));
+        let (bat, cat) = (0x42_4154, 0x43_4154);
+        let between = drift_estelunya_interchange_between(words, length, 1_000_011, bat, bat);
+        assert_eq!(
+            (between, between.minutes),
+            (raw::estelunya_interchange_between(words, length, 1_000_011, bat, bat), 3)
+        );
+        let unlisted = drift_estelunya_interchange_between(words, length, 1_000_011, bat, cat);
+        assert_eq!(
+            (unlisted, unlisted.number),
+            (raw::estelunya_interchange_between(words, length, 1_000_011, bat, cat), 38)
+        );
     }
 }
 

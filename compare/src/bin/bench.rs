@@ -48,8 +48,8 @@ fn main() {
 
 fn bench(mib: f64) {
     let files = national(&mut Rng::new(1), &National::of_bytes((mib * MIB as f64) as usize));
-    let [a, b, c, d, e] = &files;
-    let files: [&[u8]; 5] = [a, b, c, d, e];
+    let [a, b, c, d, e, f] = &files;
+    let files: [&[u8]; 6] = [a, b, c, d, e, f];
     let needed = helper_needed(files);
     let [number, _, line, words, _] = Reader.load(files, &mut [], &mut vec![0; needed]);
     assert_eq!((number, line), (20, 0));

@@ -22,6 +22,7 @@ const DELIVERY: Program = Program {
         "load",
         "day",
         "interchange",
+        "between",
         "name",
         "walk",
         "run",

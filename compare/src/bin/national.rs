@@ -57,7 +57,7 @@ fn run(words: &[&str]) -> Result<(), Box<dyn Error>> {
 }
 
 /// The delivery of a size as it is written.
-fn delivery(size: &str) -> Result<[Vec<u8>; 5], Box<dyn Error>> {
+fn delivery(size: &str) -> Result<[Vec<u8>; 6], Box<dyn Error>> {
     let rng = &mut Rng::new(1);
     let words: Vec<&str> = size.split(':').collect();
     Ok(match words[..] {
@@ -85,9 +85,9 @@ fn bytes_of(mib: &str) -> Result<usize, Box<dyn Error>> {
 }
 
 /// A loader, with words for the table and helper words: the words used, or a refusal's number.
-type Load = fn([&[u8]; 5], &mut [u32], &mut [u32]) -> Result<u32, u32>;
+type Load = fn([&[u8]; 6], &mut [u32], &mut [u32]) -> Result<u32, u32>;
 
-fn archive_load(files: [&[u8]; 5], table: &mut [u32], helper: &mut [u32]) -> Result<u32, u32> {
+fn archive_load(files: [&[u8]; 6], table: &mut [u32], helper: &mut [u32]) -> Result<u32, u32> {
     match Archive.load(files, table, helper) {
         [0, _, _, words, _] => Ok(words),
         [number, ..] => Err(number),
@@ -97,17 +97,17 @@ fn archive_load(files: [&[u8]; 5], table: &mut [u32], helper: &mut [u32]) -> Res
 /// By a name of its own, so that its instructions can be told from the rest. It has maps of its own.
 #[no_mangle]
 #[inline(never)]
-fn ordinary_load(files: [&[u8]; 5], table: &mut [u32], _: &mut [u32]) -> Result<u32, u32> {
-    let [eckdaten, bitfeld, bahnhof, umsteigb, fplan] = files;
-    let files = ordinary_loader::Files { eckdaten, bitfeld, bahnhof, umsteigb, fplan };
+fn ordinary_load(files: [&[u8]; 6], table: &mut [u32], _: &mut [u32]) -> Result<u32, u32> {
+    let [eckdaten, bitfeld, bahnhof, umsteigb, fplan, zugart] = files;
+    let files = ordinary_loader::Files { eckdaten, bitfeld, bahnhof, umsteigb, fplan, zugart };
     ordinary_loader::load(&files, table).map_err(|refusal| refusal.number)
 }
 
 /// The table of a delivery, and the thread's time for it. The words lent are written before, and are enough: each record
 /// has more bytes in its file than in the table.
-fn loaded(files: &[Vec<u8>; 5], load: Load) -> (Vec<u32>, Duration) {
-    let [a, b, c, d, e] = files;
-    let files: [&[u8]; 5] = [a, b, c, d, e];
+fn loaded(files: &[Vec<u8>; 6], load: Load) -> (Vec<u32>, Duration) {
+    let [a, b, c, d, e, f] = files;
+    let files: [&[u8]; 6] = [a, b, c, d, e, f];
     let mut table = vec![u32::MAX; 16 + files.iter().map(|file| file.len()).sum::<usize>() / 4];
     let mut helper = vec![u32::MAX; helper_needed(files)];
     let start = thread_time();
@@ -120,7 +120,7 @@ fn loaded(files: &[Vec<u8>; 5], load: Load) -> (Vec<u32>, Duration) {
     (table, time)
 }
 
-fn show_times(files: &[Vec<u8>; 5]) {
+fn show_times(files: &[Vec<u8>; 6]) {
     let (mut archive, mut ordinary, mut turns) = (Duration::MAX, Duration::MAX, 0);
     let start = thread_time();
     while turns < LEAST_TURNS || (turns < MOST_TURNS && thread_time() - start < TURNS_BEGUN_IN) {

@@ -20,11 +20,11 @@ fn helper_words(files: &[&[u8]]) -> usize {
 
 /// It has maps of its own. What a loader does with helper words is said here, so that the reader has somebody to differ from.
 impl Boundary for Ordinary {
-    fn load(&self, files: [&[u8]; 5], table: &mut [u32], helper: &mut [u32]) -> [u32; 5] {
+    fn load(&self, files: [&[u8]; 6], table: &mut [u32], helper: &mut [u32]) -> [u32; 5] {
         let needed = helper_words(&files[1..4]);
         let is_short = helper.len() < needed;
-        let [eckdaten, bitfeld, bahnhof, umsteigb, fplan] = files;
-        let files = Files { eckdaten, bitfeld, bahnhof, umsteigb, fplan };
+        let [eckdaten, bitfeld, bahnhof, umsteigb, fplan, zugart] = files;
+        let files = Files { eckdaten, bitfeld, bahnhof, umsteigb, fplan, zugart };
         let answer = match load(&files, if is_short { &mut [] } else { table }) {
             Ok(words) => [0, 0, 0, words, 0],
             Err(Refusal { number, file, line, column, needed }) => [number, file, line, needed, column],
@@ -44,6 +44,10 @@ impl Boundary for Ordinary {
     }
 
     fn interchange(&self, _: &[u32], _: u32, _: [u32; 2]) -> [u32; 2] {
+        unreachable!()
+    }
+
+    fn interchange_between(&self, _: &[u32], _: u32, _: [u32; 2]) -> [u32; 2] {
         unreachable!()
     }
 

@@ -2,6 +2,7 @@
 
 use crate::generate::{counted_helper, mixed, oversized, some_helper, Case, Rng};
 use crate::layout::ROW_WORDS;
+use crate::reader::load::MOST_BYTES;
 
 /// Once in so many cases a file has 16,777,216 bytes or more.
 pub const OVERSIZED_EVERY: u64 = 2_500;
@@ -20,13 +21,15 @@ pub fn delivery(rng: &mut Rng, index: u64) -> Case {
     mixed(rng, (index % 1_000_000) as u32)
 }
 
-/// "First, lengths in file order": a file at or over the limit, now and then beside a broken or a second long file.
+/// "First, lengths in file order": a file at or over the limit, now and then beside a broken or a second long file; FPLAN and ZUGART, whose order is not that
+/// of their numbers, more often.
 fn over_length(rng: &mut Rng) -> Case {
     let mut case = oversized(rng);
-    let beside = rng.index(5);
-    match rng.below(4) {
+    let beside = rng.index(6);
+    match rng.below(5) {
         0 => case.files[beside] = b"broken".to_vec(),
         1 => case.files[beside] = oversized(rng).files[beside].clone(),
+        2 => case.files[4..].iter_mut().for_each(|file| file.resize(MOST_BYTES + 1, b' ')),
         _ => return case,
     }
     case.helper = some_helper(rng, counted_helper(&case.files), 2);

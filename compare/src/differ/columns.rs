@@ -9,9 +9,9 @@ use crate::reader::lines::lines;
 /// BITFELD's columns from here on are counted as one.
 const ON: u32 = 111;
 
-/// The kinds of lines, and the columns that a refusal 4 can name there, from document 01's table and document 02, No. 8: where a
+/// The kinds of lines, and the columns that a refusal 4 can name there, from document 01's table and document 02, No. 1 and 8: where a
 /// field starts that can break, and the columns that no field names.
-static KINDS: [(&str, &[(u32, u32)]); 9] = [
+static KINDS: [(&str, &[(u32, u32)]); 10] = [
     ("ECKDATEN", &[(1, 1)]),
     ("BITFELD", &[(1, 1), (7, 8), (104, ON)]),
     ("BAHNHOF", &[(1, 1), (8, 8), (12, 13)]),
@@ -20,6 +20,7 @@ static KINDS: [(&str, &[(u32, u32)]); 9] = [
     ("*T", &[(4, 4), (9, 10), (16, 17), (21, 22), (26, 59)]),
     ("*G", &[(4, 4), (7, 8), (15, 16), (23, 24), (30, 31), (37, 59)]),
     ("*A", &[(4, 4), (6, 7), (14, 15), (22, 23), (29, 30), (36, 37), (43, 59)]),
+    ("ZUGART", &[(1, 1), (4, 5), (7, 11), (20, 24)]),
     ("schedule", &[(1, 1), (8, 8), (30, 30), (36, 37), (43, 44), (49, 50), (56, 59)]),
 ];
 
@@ -34,7 +35,7 @@ pub struct Columns {
 
 impl Columns {
     /// Counts the column of a load's answer: number, file, line, words, column.
-    pub fn count(&mut self, files: &[Vec<u8>; 5], answer: &[u32]) {
+    pub fn count(&mut self, files: &[Vec<u8>; 6], answer: &[u32]) {
         if let [4, file, line, _, column] = answer {
             let (file, line) = (*file as usize - 1, *line as usize - 1);
             let name = match (file, kind(lines(&files[file])[line].text)) {
@@ -43,6 +44,7 @@ impl Columns {
                 (4, LineKind::G) => "*G",
                 (4, LineKind::A) => "*A",
                 (4, _) => "schedule",
+                (5, _) => "ZUGART",
                 (file, _) => KINDS[file].0,
             };
             *self.counts.entry((name, (*column).min(ON))).or_insert(0) += 1;

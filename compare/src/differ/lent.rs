@@ -11,7 +11,7 @@ const GUARD: usize = 16;
 pub enum Call {
     /// `helper` has the helper words as they are lent.
     Load {
-        files: [Vec<u8>; 5],
+        files: [Vec<u8>; 6],
         room: usize,
         helper: Vec<u32>,
     },
@@ -96,10 +96,10 @@ impl Call {
     }
 }
 
-fn loaded(boundary: &dyn Boundary, files: &[Vec<u8>; 5], lent: &mut [u32], helper: &mut [u32]) -> (Vec<u32>, bool) {
+fn loaded(boundary: &dyn Boundary, files: &[Vec<u8>; 6], lent: &mut [u32], helper: &mut [u32]) -> (Vec<u32>, bool) {
     let given = files.clone();
-    let [a, b, c, d, e] = &given;
-    let answer = boundary.load([a, b, c, d, e], lent, helper);
+    let [a, b, c, d, e, f] = &given;
+    let answer = boundary.load([a, b, c, d, e, f], lent, helper);
     (answer.to_vec(), given == *files)
 }
 
@@ -108,6 +108,7 @@ fn asked(boundary: &dyn Boundary, table: &[u32], question: Question, lent: &mut 
     let answer = match question {
         Question::Day { date, bitfield } => boundary.day(&given, date, bitfield).to_vec(),
         Question::Interchange { stop, classes } => boundary.interchange(&given, stop, classes).to_vec(),
+        Question::Between { stop, categories } => boundary.interchange_between(&given, stop, categories).to_vec(),
         Question::Walk { service, repeat, date, .. } => boundary.walk(&given, service, repeat, date, lent).to_vec(),
     };
     (answer, given == table)

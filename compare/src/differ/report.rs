@@ -49,13 +49,16 @@ fn question_text(question: Question) -> String {
     match question {
         Question::Day { date: [d, m, y], bitfield } => format!("day {}.{}.{} of bit field {}", d, m, y, bitfield),
         Question::Interchange { stop, classes: [a, b] } => format!("interchange at {} from class {} to {}", stop, a, b),
+        Question::Between { stop, categories: [a, b] } => {
+            format!("interchange at {} from category {:#08x} to {:#08x}", stop, a, b)
+        }
         Question::Walk { service, repeat, date: [d, m, y], room } => {
             format!("walk of service {} repeat {} on {}.{}.{} into {} words", service, repeat, d, m, y, room)
         }
     }
 }
 
-/// The five files under their names, and the helper words as decimal numbers in HELPER; the words asked in the same way in TABLE, with BAHNHOF;
+/// The files under their names, and the helper words as decimal numbers in HELPER; the words asked in the same way in TABLE, with BAHNHOF;
 /// or fields in FIRST, SECOND.
 fn write_given(call: &Call, directory: &Path) -> io::Result<()> {
     if directory.exists() {

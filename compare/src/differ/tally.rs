@@ -9,19 +9,20 @@ use crate::generate::questions::{head_of, last_run};
 use crate::generate::{Arithmetic, Question};
 use crate::layout::{BIT_FIELDS_AT, BIT_FIELD_WORDS, HEADER_WORDS, KIND_AT, KIND_T, OFFSET_AT, REPEATS_AT, STOP_WORDS};
 use crate::reader::fields::{self, LineKind};
-use crate::reader::lines::lines;
+use crate::reader::lines::{lines, skipped};
 use crate::reader::Combination;
 
 /// Every kind of answer that there is, by call: what it is called without a refusal, and its refusals. A "run" is a walk that was not
 /// refused before 25, by the run that was asked for.
-const ANSWERS: [(&str, &[&str], &[u32]); 11] = [
+const ANSWERS: [(&str, &[&str], &[u32]); 12] = [
     (
         "load",
-        &["accepted", "accepted *T", "accepted both"],
-        &[1, 2, 3, 4, 5, 6, 7, 8, 9, 10, 11, 12, 13, 14, 15, 16, 17, 18, 19, 20, 39, 51],
+        &["accepted", "accepted *T", "accepted both", "accepted, ZUGART empty"],
+        &[1, 2, 3, 4, 5, 6, 7, 8, 9, 10, 11, 12, 13, 14, 15, 16, 17, 18, 19, 20, 37, 38, 39, 51],
     ),
     ("day", &["runs", "rests"], &[21, 22, 23, 28]),
     ("interchange", &["minutes"], &[21, 26, 27]),
+    ("between", &["minutes"], &[21, 27, 38]),
     ("name", &["first", "later"], &[21, 27, 39, 40, 41]),
     ("walk", &["rows", "not running"], &[21, 22, 23, 24, 25, 29, 31, 32, 33, 34, 35, 36]),
     ("run", &RUNS, &[]),
@@ -116,8 +117,11 @@ fn run_asked(call: &Call, answer: &[u32]) -> Option<&'static str> {
     Some(RUNS[at[usize::from(head[KIND_AT] == KIND_T)]])
 }
 
-/// An accepted delivery, by the kinds of its services.
-fn accepted(fplan: &[u8]) -> &'static str {
+/// An accepted delivery, by the kinds of its services. Without categories it has none.
+fn accepted(fplan: &[u8], zugart: &[u8]) -> &'static str {
+    if lines(zugart).iter().all(|line| skipped(line.text)) {
+        return "accepted, ZUGART empty";
+    }
     let has = |kind: LineKind| lines(fplan).iter().any(|line| fields::kind(line.text) == kind);
     match (has(LineKind::T), has(LineKind::Z)) {
         (false, _) => "accepted",
@@ -129,9 +133,10 @@ fn accepted(fplan: &[u8]) -> &'static str {
 fn kind(call: &Call, answer: &[u32]) -> (&'static str, String) {
     let (name, plain) = match call {
         Call::Load { .. } if answer[0] > 0 => ("load", ""),
-        Call::Load { files, .. } => ("load", accepted(&files[4])),
+        Call::Load { files, .. } => ("load", accepted(&files[4], &files[5])),
         Call::Ask { question: Question::Day { .. }, .. } => ("day", if answer[1] == 1 { "runs" } else { "rests" }),
         Call::Ask { question: Question::Interchange { .. }, .. } => ("interchange", "minutes"),
+        Call::Ask { question: Question::Between { .. }, .. } => ("between", "minutes"),
         Call::Ask { question: Question::Walk { .. }, .. } => {
             ("walk", if answer[1] > 0 { "rows" } else { "not running" })
         }
@@ -156,7 +161,7 @@ impl fmt::Display for Tally {
             writeln!(f, "{}: {} calls", of, self.calls(of))?;
             for ((call, answer), times) in &self.counts {
                 if call == of {
-                    writeln!(f, "  {:<13} {:>9}", answer, times)?;
+                    writeln!(f, "  {:<22} {:>9}", answer, times)?;
                 }
             }
         }

@@ -7,9 +7,9 @@ use super::plan::random_frequency;
 use super::raw_table::{parts, RawService, RawTable};
 use super::rng::Rng;
 use crate::layout::{
-    BIT_FIELDS_AT, BIT_FIELD_WORDS, BIT_WORDS, CALLS_AT, CALL_WORDS, EXTRAS_AT, EXTRA_WORDS, FIRST_SERVICE_AT,
-    HEADER_WORDS, KIND_AT, KIND_T, KIND_Z, OFFSET_AT, REPEATS_AT, SERVICES_AT, SERVICE_WORDS, SIZE_AT, STOPS_AT,
-    STOP_WORDS, USED_AT,
+    BIT_FIELDS_AT, BIT_FIELD_WORDS, BIT_WORDS, CALLS_AT, CALL_WORDS, CLASSES_AT, EXTRAS_AT, EXTRA_WORDS,
+    FIRST_SERVICE_AT, HEADER_WORDS, INTERCHANGES_AT, KIND_AT, KIND_T, KIND_Z, OFFSET_AT, REPEATS_AT, SERVICES_AT,
+    SERVICE_WORDS, SIZE_AT, STOPS_AT, STOP_WORDS, USED_AT,
 };
 
 /// A damage to a table; `None` where the table has no place for it.
@@ -18,7 +18,7 @@ pub type Bend = fn(&mut Rng, &mut RawTable) -> Option<()>;
 /// A damage to the words of a table; `None` where they have no place for it.
 pub type Poke = fn(&mut Rng, &mut Vec<u32>) -> Option<()>;
 
-/// Damages that leave a table: for 28, 31 to 36, and for lookups that take the first match.
+/// Damages that leave a table: for 28, 31 to 36 and 38, and for lookups that take the first match.
 pub const BENDS: &[Bend] = &[
     leg_on_other_bitfield,
     bitfield_renamed,
@@ -29,6 +29,10 @@ pub const BENDS: &[Bend] = &[
     call_elsewhere,
     record_twice,
     one_record,
+    class_renamed,
+    class_twice,
+    other_class,
+    category_elsewhere,
     other_flags,
     other_number,
     other_time,
@@ -46,6 +50,7 @@ pub const NO_TABLES: &[Bend] = &[
     days_out_of_bounds,
     last_day_too_late,
     no_records,
+    class_over_13,
     under_two_calls,
     over_200_calls,
     over_50_categories,
@@ -164,6 +169,38 @@ fn record_twice(rng: &mut Rng, table: &mut RawTable) -> Option<()> {
 fn one_record(rng: &mut Rng, table: &mut RawTable) -> Option<()> {
     table.records.truncate(1);
     some(rng, &mut table.records)?[0] = rng.pick(&[0, 9_999_999, 5]);
+    Some(())
+}
+
+fn class_renamed(rng: &mut Rng, table: &mut RawTable) -> Option<()> {
+    let code = &mut some(rng, &mut table.classes)?[0];
+    *code = rng.pick(&[0, *code ^ 0x20, *code ^ 0x2000, *code | 1 << 24, u32::MAX]);
+    Some(())
+}
+
+/// A code that is listed again, before or behind where it was, with another class.
+fn class_twice(rng: &mut Rng, table: &mut RawTable) -> Option<()> {
+    let [code, class] = *some(rng, &mut table.classes)?;
+    let at = rng.index(table.classes.len() + 1);
+    table.classes.insert(at, [code, if class <= 2 { 3 } else { 2 }]);
+    Some(())
+}
+
+fn other_class(rng: &mut Rng, table: &mut RawTable) -> Option<()> {
+    some(rng, &mut table.classes)?[1] = rng.below(14);
+    Some(())
+}
+
+/// A *G whose category is not listed, or not by these bytes; no condition of 21 is about this.
+fn category_elsewhere(rng: &mut Rng, table: &mut RawTable) -> Option<()> {
+    let service = some_service(rng, table)?;
+    let code = &mut some(rng, &mut service.categories)?[0];
+    *code = rng.pick(&[0, *code ^ 0x20, u32::MAX]);
+    Some(())
+}
+
+fn class_over_13(rng: &mut Rng, table: &mut RawTable) -> Option<()> {
+    some(rng, &mut table.classes)?[1] = rng.pick(&[14, 14, 15, 256, u32::MAX]);
     Some(())
 }
 
@@ -423,15 +460,19 @@ fn place_off(rng: &mut Rng, words: &mut Vec<u32>) -> Option<()> {
     Some(())
 }
 
-/// One more bit field and these stops are 2^32 words together: the first service's place is right modulo 2^32 only.
-fn right_modulo_2_to_32(_: &mut Rng, words: &mut Vec<u32>) -> Option<()> {
+/// One more bit field and these stops, or these categories, are 2^32 words together: the first service's place is right modulo 2^32 only.
+fn right_modulo_2_to_32(rng: &mut Rng, words: &mut Vec<u32>) -> Option<()> {
+    if rng.coin() {
+        words[CLASSES_AT] += 1 << 31;
+        return Some(());
+    }
     words[BIT_FIELDS_AT] += 1;
     words[STOPS_AT] += (((1_u64 << 32) - BIT_FIELD_WORDS as u64) / STOP_WORDS as u64) as u32;
     Some(())
 }
 
 fn header_count_off(rng: &mut Rng, words: &mut Vec<u32>) -> Option<()> {
-    let which = rng.between(BIT_FIELDS_AT as u32, SERVICES_AT as u32) as usize;
+    let which = rng.pick(&[BIT_FIELDS_AT, STOPS_AT, INTERCHANGES_AT, SERVICES_AT, CLASSES_AT]);
     words[which] = rng.pick(&[words[which].wrapping_sub(1), words[which] + 1, 1 << 31]);
     Some(())
 }

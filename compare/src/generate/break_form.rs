@@ -15,6 +15,11 @@ enum Field {
     Name,
     CountTo60,
     Count,
+    CountTo13,
+    Group,
+    Control,
+    Supplement,
+    Flag,
     NoBlank,
     NotBlank,
     Mismatch,
@@ -44,6 +49,21 @@ const BITFIELD: &[Part] = &[(1, 6, Digits), (7, 7, Unnamed), (8, 103, Hex), (104
 const STOP: &[Part] = &[(1, 7, Digits), (8, 8, Unnamed), (12, 12, Unnamed), (13, 62, Name)];
 const RECORD: &[Part] =
     &[(1, 7, Digits), (8, 8, Unnamed), (9, 10, CountTo60), (11, 11, Unnamed), (12, 13, Count), (14, 14, Unnamed)];
+const CATEGORY: &[Part] = &[
+    (1, 1, NotBlank),
+    (4, 4, Unnamed),
+    (5, 6, CountTo13),
+    (7, 7, Unnamed),
+    (8, 8, Group),
+    (9, 9, Unnamed),
+    (10, 10, Control),
+    (11, 11, Unnamed),
+    (20, 20, Unnamed),
+    (21, 21, Supplement),
+    (22, 22, Unnamed),
+    (23, 23, Flag),
+    (24, 24, Unnamed),
+];
 const Z: &[Part] = &[
     (4, 8, Digits),
     (9, 9, Unnamed),
@@ -121,6 +141,7 @@ fn parts(tag: Tag) -> &'static [Part] {
         Tag::BitField(_) => BITFIELD,
         Tag::Stop(_) => STOP,
         Tag::Record(_) => RECORD,
+        Tag::Category(_) => CATEGORY,
         Tag::Z(_) => Z,
         Tag::T(_) => T,
         Tag::G(..) => G,
@@ -136,7 +157,10 @@ pub fn break_form(rng: &mut Rng, sheet: &mut Sheet) -> Option<(u32, usize, usize
             return Some(broken);
         }
     }
-    let file = rng.pick(&[0, 1, 2, 3, 4, 4, 4, 4, 4]);
+    if rng.once_in(20) {
+        return Some(further_text(rng, sheet));
+    }
+    let file = rng.pick(&[0, 1, 2, 3, 5, 4, 4, 4, 4, 4, 4]);
     let rows = &mut sheet.files[file];
     let mut kinds: Vec<&[Part]> = Vec::new();
     for kind in rows.iter().map(|row| parts(row.tag)) {
@@ -166,6 +190,23 @@ fn break_density(rng: &mut Rng, sheet: &mut Sheet) -> Option<(u32, usize, usize)
     Some((5, at, 22))
 }
 
+/// "Section 5.5.1's extra lines answer 4": one of them somewhere in ZUGART.
+fn further_text(rng: &mut Rng, sheet: &mut Sheet) -> (u32, usize, usize) {
+    let rows = &mut sheet.files[5];
+    let text = rng.pick(&[
+        "<text>",
+        "<German>",
+        "<Irish>",
+        "class00 ICE",
+        "class13",
+        "option00 direct only",
+        "tariff07 Ships",
+    ]);
+    let at = rng.index(rows.len() + 1);
+    rows.insert(at, Row { tag: Tag::Free, text: text.as_bytes().to_vec() });
+    (6, at, 4)
+}
+
 /// One part for each column that can be told: every unnamed column stands by itself. What can break in many ways comes more often.
 fn told(parts: &[Part]) -> Vec<Part> {
     let each = |(a, b, field): Part| match field {
@@ -188,6 +229,12 @@ pub fn pile_on(rng: &mut Rng, row: &mut Row) {
         Tag::Ve(..) | Tag::Other(..) => put(&mut row.text, 23, b"765432"),
         Tag::BitField(_) => put(&mut row.text, 8, &[b'0'; 96]),
         Tag::Stop(_) => put(&mut row.text, 13, &bad_list(rng)),
+        Tag::G(..) => put(&mut row.text, 4, b"~~~"),
+        Tag::Category(_) if rng.coin() => put(&mut row.text, 1, b"BAT"),
+        Tag::Category(_) => {
+            let other = if row.text.get(7) == Some(&b' ') { b'A' } else { b' ' };
+            put(&mut row.text, 8, &[other]);
+        }
         _ => {}
     }
 }
@@ -278,6 +325,11 @@ fn wrong_texts(field: Field, width: usize) -> &'static [&'static [u8]] {
             b"+450", b"045:", b"0 50",
         ],
         (CountTo60, _) => &[b"61", b"99", b"70", b"1 ", b"  ", b"A1", b"1A", b"-1", b"+1", b"\t1"],
+        (CountTo13, _) => &[b"14", b"15", b"20", b"99", b"3 ", b"  ", b"A1", b"1A", b"-1", b"+1", b"\t1"],
+        (Group, _) => &[b"I", b"@", b"a", b"h", b"0", b"\t", b"\xff"],
+        (Control, _) => &[b"8", b"9", b" ", b"/", b"A", b"\t"],
+        (Supplement, _) => &[b"3", b"9", b" ", b"/", b"N", b"\t"],
+        (Flag, _) => &[b"n", b"b", b"f", b"X", b"0", b"C", b"\t"],
         (Count, _) => &[b"1 ", b"  ", b"A1", b"1A", b"-1", b"+1", b"\t1"],
         (End, _) => &[
             b"#      ", b"# 1    ", b"  #1 2 ", b"1#     ", b"123456 ", b" 123456", b"12345-6", b"-123456", b"##1    ",

@@ -2,7 +2,8 @@
 
 use super::ends::{hashed, hours_minutes, padded};
 use super::plan::{
-    add_bitfield, bitfield_of, new_bitfield, new_stop, random_code, set_bit, Call, Given, Plan, Range, Service,
+    add_bitfield, add_category, bitfield_of, new_bitfield, new_code, new_stop, random_code, set_bit, Call, Category,
+    Given, Plan, Range, Service,
 };
 use super::rng::Rng;
 use super::sheet::{opening_tag, Tag};
@@ -26,6 +27,7 @@ pub const DAMAGES: &[(u32, PlanDamage)] = &[
     (6, double_bitfield),
     (6, double_stop),
     (6, double_record),
+    (6, double_code),
     (7, bitfield_zero),
     (7, stop_reserved),
     (7, first_record_other),
@@ -50,6 +52,10 @@ pub const DAMAGES: &[(u32, PlanDamage)] = &[
     (18, bare_days),
     (18, double_days),
     (19, torn),
+    (37, group_missing_or_alone),
+    (37, first_group_missing_or_alone),
+    (38, category_unlisted),
+    (38, no_categories),
 ];
 
 fn later_place(rng: &mut Rng, items: usize) -> Option<(usize, usize)> {
@@ -77,6 +83,65 @@ fn double_record(rng: &mut Rng, plan: &mut Plan) -> Hit {
     let (seen, at) = later_place(rng, plan.interchange.len())?;
     plan.interchange.insert(at, (plan.interchange[seen].0, 1, 2));
     Some((4, At::Tag(Tag::Record(at))))
+}
+
+/// A tariff group where there was none, or none where there was one.
+fn regroup(rng: &mut Rng, group: Option<u8>) -> Option<u8> {
+    match group {
+        None => Some(rng.pick(b"ABCDEFGH")),
+        Some(_) => None,
+    }
+}
+
+/// 6 comes before 37: the later line may be without its tariff group, or alone with one.
+fn double_code(rng: &mut Rng, plan: &mut Plan) -> Hit {
+    let (seen, at) = later_place(rng, plan.categories.len())?;
+    let Category { code, class, group } = plan.categories[seen];
+    let group = if rng.coin() { regroup(rng, group) } else { group };
+    plan.categories.insert(at, Category { code, class, group });
+    Some((6, At::Tag(Tag::Category(at))))
+}
+
+/// At least two categories.
+fn two_categories(rng: &mut Rng, plan: &mut Plan) {
+    while plan.categories.len() < 2 {
+        add_category(rng, plan);
+    }
+}
+
+/// Some categories behind the first are without a tariff group, or alone with one: the first of them is told.
+fn group_missing_or_alone(rng: &mut Rng, plan: &mut Plan) -> Hit {
+    two_categories(rng, plan);
+    let at = rng.between(1, plan.categories.len() as u32 - 1) as usize;
+    plan.categories[at].group = regroup(rng, plan.categories[at].group);
+    for later in at + 1..plan.categories.len() {
+        if rng.coin() {
+            plan.categories[later].group = regroup(rng, plan.categories[later].group);
+        }
+    }
+    Some((6, At::Tag(Tag::Category(at))))
+}
+
+/// Only the first is without one, or has one: the second is told.
+fn first_group_missing_or_alone(rng: &mut Rng, plan: &mut Plan) -> Hit {
+    two_categories(rng, plan);
+    plan.categories[0].group = regroup(rng, plan.categories[0].group);
+    Some((6, At::Tag(Tag::Category(1))))
+}
+
+fn category_unlisted(rng: &mut Rng, plan: &mut Plan) -> Hit {
+    let s = some_service(rng, plan, |_| true)?;
+    let unlisted = new_code(rng, plan);
+    let i = some_range(rng, &plan.services[s], is_category)?;
+    plan.services[s].ranges[i].given = Given::Category(unlisted);
+    Some((5, At::Tag(Tag::G(s, i))))
+}
+
+/// ZUGART without a record is right, and every *G is refused: the first of the first service.
+fn no_categories(_: &mut Rng, plan: &mut Plan) -> Hit {
+    plan.services.first()?;
+    plan.categories.clear();
+    Some((5, At::Nth(Tag::G(0, 0), 0)))
 }
 
 fn bitfield_zero(rng: &mut Rng, plan: &mut Plan) -> Hit {
@@ -224,7 +289,8 @@ fn many(rng: &mut Rng, plan: &mut Plan, most: usize, given: Given, tag: fn(usize
 }
 
 fn many_categories(rng: &mut Rng, plan: &mut Plan) -> Hit {
-    many(rng, plan, 50, Given::Category(*b"BAT"), Tag::G)
+    let category = add_category(rng, plan);
+    many(rng, plan, 50, Given::Category(category), Tag::G)
 }
 
 fn many_days(rng: &mut Rng, plan: &mut Plan) -> Hit {

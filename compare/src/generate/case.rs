@@ -1,4 +1,4 @@
-//! Whole cases: five files, the room of the table, the helper words, and what they must bring if that is known.
+//! Whole cases: six files, the room of the table, the helper words, and what they must bring if that is known.
 
 use super::break_form::{break_form, pile_on};
 use super::break_plan::{self, At};
@@ -8,7 +8,7 @@ use super::rng::Rng;
 use super::sheet::{bytes, sheet, Row, Sheet, Tag};
 use super::Size;
 use crate::layout::{
-    BIT_FIELD_WORDS, CALL_WORDS, CATEGORY_WORDS, DAYS_WORDS, EXTRA_WORDS, HEADER_WORDS, HELPER_HEAD_WORDS,
+    BIT_FIELD_WORDS, CALL_WORDS, CATEGORY_WORDS, CLASS_WORDS, DAYS_WORDS, EXTRA_WORDS, HEADER_WORDS, HELPER_HEAD_WORDS,
     HELPER_LINE_WORDS, INTERCHANGE_WORDS, SERVICE_WORDS, STOP_WORDS,
 };
 
@@ -23,7 +23,7 @@ pub struct Aim {
 
 #[derive(Clone, Debug)]
 pub struct Case {
-    pub files: [Vec<u8>; 5],
+    pub files: [Vec<u8>; 6],
     /// Words of the table to lend.
     pub room: usize,
     /// The helper words to lend, as they are before the load.
@@ -35,9 +35,9 @@ pub struct Case {
 }
 
 impl Case {
-    pub fn slices(&self) -> [&[u8]; 5] {
-        let [a, b, c, d, e] = &self.files;
-        [a, b, c, d, e]
+    pub fn slices(&self) -> [&[u8]; 6] {
+        let [a, b, c, d, e, f] = &self.files;
+        [a, b, c, d, e, f]
     }
 }
 
@@ -56,6 +56,7 @@ pub fn planned_words(plan: &Plan) -> usize {
         + BIT_FIELD_WORDS * plan.bitfields.len()
         + STOP_WORDS * plan.stops.len()
         + INTERCHANGE_WORDS * plan.interchange.len()
+        + CLASS_WORDS * plan.categories.len()
         + services
 }
 
@@ -70,7 +71,7 @@ fn planned_helper(sheet: &Sheet) -> usize {
 }
 
 /// The same of files whose lines are not known: each LF ends one, and what is behind the last LF is one.
-pub fn counted_helper(files: &[Vec<u8>; 5]) -> usize {
+pub fn counted_helper(files: &[Vec<u8>; 6]) -> usize {
     let lines = |file: &Vec<u8>| {
         let ends = file.iter().filter(|byte| **byte == b'\n').count();
         ends + usize::from(file.last().map_or(false, |byte| *byte != b'\n'))
@@ -105,8 +106,8 @@ pub fn some_helper(rng: &mut Rng, needed: usize, rare: u32) -> Vec<u32> {
     }
 }
 
-fn files_of(rng: &mut Rng, sheet: &Sheet) -> [Vec<u8>; 5] {
-    let mut files: [Vec<u8>; 5] = Default::default();
+fn files_of(rng: &mut Rng, sheet: &Sheet) -> [Vec<u8>; 6] {
+    let mut files: [Vec<u8>; 6] = Default::default();
     for (file, rows) in files.iter_mut().zip(&sheet.files) {
         *file = bytes(rng, rows);
     }
@@ -124,7 +125,7 @@ pub fn valid(rng: &mut Rng, size: Size) -> Case {
 }
 
 /// The refusals that a delivery can be damaged for.
-pub const DAMAGES: [u32; 21] = [2, 3, 4, 5, 6, 7, 8, 9, 10, 11, 12, 13, 14, 15, 16, 17, 18, 19, 20, 39, 51];
+pub const DAMAGES: [u32; 23] = [2, 3, 4, 5, 6, 7, 8, 9, 10, 11, 12, 13, 14, 15, 16, 17, 18, 19, 20, 37, 38, 39, 51];
 
 /// (b) A delivery that breaks one clause of one of these refusals, and nothing before it.
 pub fn damaged(rng: &mut Rng, size: Size, number: u32) -> Case {
@@ -241,14 +242,14 @@ pub fn mutated(rng: &mut Rng, size: Size) -> Case {
         _ => valid(rng, size),
     };
     for _ in 0..rng.between(1, 3) {
-        let file = rng.pick(&[0, 1, 2, 3, 4, 4, 4]);
+        let file = rng.pick(&[0, 1, 2, 3, 5, 4, 4, 4]);
         match rng.below(2) {
             0 => mutate_bytes(rng, &mut case.files[file]),
             _ => mutate_lines(rng, &mut case.files[file]),
         }
     }
     if rng.once_in(60) {
-        case.files.swap(rng.index(5), rng.index(5));
+        case.files.swap(rng.index(6), rng.index(6));
     }
     // Else as many as before, which a line more or less makes too few or further ones.
     if !rng.once_in(6) {
@@ -322,7 +323,7 @@ pub fn mixed(rng: &mut Rng, turn: u32) -> Case {
 pub fn oversized(rng: &mut Rng) -> Case {
     const MOST: usize = 16_777_216;
     let mut case = valid(rng, Size::Small);
-    let file = rng.index(5);
+    let file = rng.index(6);
     let bytes = &mut case.files[file];
     if file > 0 && bytes.last() != Some(&b'\n') {
         bytes.extend_from_slice(b"\n%");

@@ -1,4 +1,4 @@
-//! Large deliveries that break no rule: FPLAN of a wanted size, as many stops and bit fields as wanted.
+//! Large deliveries that break no rule: FPLAN of a wanted size, as many stops and bit fields as wanted, some 40 categories.
 
 mod ends;
 mod services;
@@ -13,8 +13,8 @@ use std::iter::once;
 use super::numbers::Numbers;
 use super::plan::{bitfield_of, set_bit};
 use super::rng::Rng;
-use crate::columns::{bit_digits, bitfield, file, text};
-use services::Services;
+use crate::columns::{bit_digits, bitfield, category, file, text};
+use services::{Services, CATEGORIES};
 
 pub const MIB: usize = 1_048_576;
 
@@ -42,8 +42,8 @@ impl National {
     }
 }
 
-/// The five files of such a delivery. Services need two stops or more.
-pub fn national(rng: &mut Rng, size: &National) -> [Vec<u8>; 5] {
+/// The files of such a delivery. Services need two stops or more.
+pub fn national(rng: &mut Rng, size: &National) -> [Vec<u8>; 6] {
     let stops = size.numbers.stops(rng, size.stops);
     let fields = size.numbers.bit_fields(rng, size.bit_fields);
     let own: Vec<u32> = stops.iter().copied().filter(|_| rng.once_in(4)).collect();
@@ -53,6 +53,7 @@ pub fn national(rng: &mut Rng, size: &National) -> [Vec<u8>; 5] {
         file(&stops.iter().map(|stop| stop_line(rng, *stop)).collect::<Vec<_>>()),
         interchange_file(rng, &own),
         plan_file(rng, size.fplan_bytes, &Services { stops: &stops, fields: &fields }),
+        category_file(),
     ]
 }
 
@@ -101,6 +102,12 @@ fn interchange_file(rng: &mut Rng, stops: &[u32]) -> Vec<u8> {
         format!("{:07} {:>2} {:>2}", stop, first, first + rng.below(6))
     });
     file(&once("9999999  2  3".to_string()).chain(own).collect::<Vec<_>>())
+}
+
+/// All categories, each with a tariff group and its name.
+fn category_file() -> Vec<u8> {
+    let line = |(code, class): &(&str, u32)| format!("{}        {}", category(code, *class, "A"), code);
+    file(&CATEGORIES.iter().map(line).collect::<Vec<_>>())
 }
 
 /// As many services as find room, with a comment before every hundredth.

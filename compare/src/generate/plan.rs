@@ -11,7 +11,18 @@ pub struct Plan {
     pub bitfields: Vec<(u32, BitWords)>,
     pub stops: Vec<u32>,
     pub interchange: Vec<(u32, u32, u32)>,
+    pub categories: Vec<Category>,
+    /// Whether categories have tariff groups: all or none.
+    pub grouped: bool,
     pub services: Vec<Service>,
+}
+
+/// A category with its class; a tariff group of `None` is written as a blank.
+#[derive(Clone, Copy, Debug)]
+pub struct Category {
+    pub code: [u8; 3],
+    pub class: u32,
+    pub group: Option<u8>,
 }
 
 #[derive(Clone, Debug)]
@@ -131,6 +142,8 @@ pub fn random(rng: &mut Rng, size: Size) -> Plan {
         bitfields: Vec::new(),
         stops: Vec::new(),
         interchange: Vec::new(),
+        categories: Vec::new(),
+        grouped: rng.coin(),
         services: Vec::new(),
     };
     let stops = match size {
@@ -147,6 +160,9 @@ pub fn random(rng: &mut Rng, size: Size) -> Plan {
         let words = random_days(rng, days);
         add_bitfield(rng, &mut plan, words);
     }
+    for _ in 0..rng.pick(&[0, 0, 1, 2, 5]) {
+        add_category(rng, &mut plan);
+    }
     let services = match size {
         _ if stops == 0 || rng.once_in(40) => 0,
         Size::Small => rng.pick(&[1, 1, 2, 2, 3]),
@@ -158,7 +174,42 @@ pub fn random(rng: &mut Rng, size: Size) -> Plan {
         plan.services.push(service);
     }
     rng.shuffle(&mut plan.bitfields);
+    rng.shuffle(&mut plan.categories);
     plan
+}
+
+/// A code that ZUGART does not hold yet: any three bytes of which the first is neither a blank nor "%", often one that differs from a code there in
+/// one byte alone: in capital or small, or in the second or third.
+pub fn new_code(rng: &mut Rng, plan: &Plan) -> [u8; 3] {
+    loop {
+        let mut code = [rng.byte(false), rng.byte(true), rng.byte(true)];
+        match rng.below(4) {
+            0 => code = *rng.pick(&[b"BAT", b"bat", b"BA ", b"B  ", b"b  ", b"BAS"]),
+            1 | 2 if !plan.categories.is_empty() => {
+                code = rng.pick(&plan.categories).code;
+                let at = rng.index(3);
+                code[at] = match rng.below(3) {
+                    0 if code[at].is_ascii_alphabetic() => code[at] ^ 0x20,
+                    1 if at > 0 => b' ',
+                    _ => rng.byte(at > 0),
+                };
+            }
+            _ => {}
+        }
+        if plan.categories.iter().all(|category| category.code != code) {
+            return code;
+        }
+    }
+}
+
+/// The code of a category that ZUGART then holds, with any class, at and around the limits of both interchange times more often.
+pub fn add_category(rng: &mut Rng, plan: &mut Plan) -> [u8; 3] {
+    let code = new_code(rng, plan);
+    let any = rng.below(14);
+    let class = rng.pick(&[0, 1, 2, 2, 3, 3, 12, 13, any, any]);
+    let group = Some(rng.pick(b"ABCDEFGH")).filter(|_| plan.grouped);
+    plan.categories.push(Category { code, class, group });
+    code
 }
 
 /// A stop number that BAHNHOF may hold and does not hold yet.
@@ -221,7 +272,7 @@ fn random_service(rng: &mut Rng, plan: &mut Plan, size: Size) -> Service {
     };
     let administration = random_administration(rng);
     let calls = random_calls(rng, &plan.stops, calls as usize);
-    let mut ranges = random_categories(rng, calls.len() - 1, size);
+    let mut ranges = random_categories(rng, plan, calls.len() - 1, size);
     ranges.extend(random_operation(rng, plan, calls.len() - 1, size));
     ranges.extend(random_others(rng, plan, calls.len(), size));
     Service { number: rng.below(100_000), administration, runs: random_runs(rng), calls, ranges }
@@ -321,13 +372,15 @@ fn parts(rng: &mut Rng, size: Size) -> usize {
     }
 }
 
-fn random_categories(rng: &mut Rng, legs: usize, size: Size) -> Vec<Range> {
+fn random_categories(rng: &mut Rng, plan: &mut Plan, legs: usize, size: Size) -> Vec<Range> {
     let parts = parts(rng, size);
     let cuts = random_cuts(rng, legs, parts);
     let mut ranges = Vec::new();
     for ends in cuts.windows(2) {
-        let category = [rng.byte(false), rng.byte(true), rng.byte(true)];
-        let category = if rng.coin() { *b"BAT" } else { category };
+        let category = match plan.categories.len() {
+            listed if listed > 0 && !rng.once_in(4) => plan.categories[rng.index(listed)].code,
+            _ => add_category(rng, plan),
+        };
         ranges.push(Range::new(Given::Category(category), ends[0], ends[1]));
     }
     rng.shuffle(&mut ranges);

@@ -3,22 +3,25 @@
 use super::plan::date_of;
 use super::rng::Rng;
 use crate::layout::{
-    BIT_FIELDS_AT, BIT_FIELD_WORDS, FIRST_DAY_AT, FIRST_SERVICE_AT, HEADER_WORDS, KIND_AT, KIND_T, MOST_ROW_WORDS,
-    OFFSET_AT, PERIOD_DAYS_AT, REPEATS_AT, ROW_WORDS, SERVICES_AT, SERVICE_WORDS, SIZE_AT, STOPS_AT, STOP_WORDS,
+    BIT_FIELDS_AT, BIT_FIELD_WORDS, CLASSES_AT, CLASS_WORDS, FIRST_DAY_AT, FIRST_SERVICE_AT, HEADER_WORDS, KIND_AT,
+    KIND_T, MOST_ROW_WORDS, OFFSET_AT, PERIOD_DAYS_AT, REPEATS_AT, ROW_WORDS, SERVICES_AT, SERVICE_WORDS, SIZE_AT,
+    STOPS_AT, STOP_WORDS,
 };
 
 #[derive(Clone, Copy, Debug, PartialEq, Eq)]
 pub enum Question {
     Day { date: [u32; 3], bitfield: u32 },
     Interchange { stop: u32, classes: [u32; 2] },
+    Between { stop: u32, categories: [u32; 2] },
     Walk { service: u32, repeat: u32, date: [u32; 3], room: usize },
 }
 
 /// A question that the words have an answer to more often than not.
 pub fn question(rng: &mut Rng, words: &[u32]) -> Question {
-    match rng.below(6) {
+    match rng.below(8) {
         0 => Question::Day { date: date(rng, words), bitfield: bitfield(rng, words) },
         1 => Question::Interchange { stop: stop(rng, words), classes: [class(rng), class(rng)] },
+        2 | 3 => Question::Between { stop: stop(rng, words), categories: [category(rng, words), category(rng, words)] },
         _ => walk(rng, words),
     }
 }
@@ -65,6 +68,22 @@ pub fn stop(rng: &mut Rng, words: &[u32]) -> u32 {
 
 fn class(rng: &mut Rng) -> u32 {
     rng.pick(&[0, 1, 1, 2, 2, 2, 3, 3, 13, 14, u32::MAX, 0, 1])
+}
+
+/// Mostly a category that is listed; else one of other bytes, or the code of a listed one with a byte or a case changed.
+fn category(rng: &mut Rng, words: &[u32]) -> u32 {
+    let end = word(words, FIRST_SERVICE_AT) as usize;
+    match word(words, CLASSES_AT) {
+        listed @ 1..=1_000 => {
+            let at = end.saturating_sub(CLASS_WORDS * (listed as usize - rng.index(listed as usize)));
+            let code = word(words, at);
+            match rng.below(12) {
+                0 => rng.pick(&[0, code ^ 0x20, code ^ 0x20_0000, code ^ 1, code | 1 << 24, u32::MAX]),
+                _ => code,
+            }
+        }
+        _ => rng.pick(&[0, 0x42_4154, u32::MAX]),
+    }
 }
 
 /// The head of a service, where the words have one so far.

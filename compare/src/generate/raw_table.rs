@@ -1,9 +1,9 @@
 //! A table taken apart and written again, so that a damage to it can be one thing alone.
 
 use crate::layout::{
-    BIT_FIELDS_AT, BIT_FIELD_WORDS, CALLS_AT, CALL_WORDS, CATEGORIES_AT, CATEGORY_WORDS, DAYS_AT, DAYS_WORDS,
-    EXTRAS_AT, EXTRA_WORDS, FIRST_DAY_AT, FIRST_SERVICE_AT, HEADER_WORDS, INTERCHANGES_AT, INTERCHANGE_WORDS,
-    PERIOD_DAYS_AT, SERVICES_AT, SERVICE_WORDS, SIZE_AT, STOPS_AT, STOP_WORDS, USED_AT,
+    BIT_FIELDS_AT, BIT_FIELD_WORDS, CALLS_AT, CALL_WORDS, CATEGORIES_AT, CATEGORY_WORDS, CLASSES_AT, CLASS_WORDS,
+    DAYS_AT, DAYS_WORDS, EXTRAS_AT, EXTRA_WORDS, FIRST_DAY_AT, FIRST_SERVICE_AT, HEADER_WORDS, INTERCHANGES_AT,
+    INTERCHANGE_WORDS, PERIOD_DAYS_AT, SERVICES_AT, SERVICE_WORDS, SIZE_AT, STOPS_AT, STOP_WORDS, USED_AT,
 };
 
 /// A table in its parts; what the header and the services count is counted anew when it is written.
@@ -14,6 +14,7 @@ pub struct RawTable {
     pub bitfields: Vec<[u32; BIT_FIELD_WORDS]>,
     pub stops: Vec<[u32; STOP_WORDS]>,
     pub records: Vec<[u32; INTERCHANGE_WORDS]>,
+    pub classes: Vec<[u32; CLASS_WORDS]>,
     pub services: Vec<RawService>,
 }
 
@@ -46,8 +47,10 @@ pub fn parts(table: &[u32]) -> RawTable {
     let bitfields = take_all(&mut words, header[BIT_FIELDS_AT]);
     let stops = take_all(&mut words, header[STOPS_AT]);
     let records = take_all(&mut words, header[INTERCHANGES_AT]);
+    let classes = take_all(&mut words, header[CLASSES_AT]);
     let services = (0..header[SERVICES_AT]).map(|_| take_service(&mut words)).collect();
-    RawTable { first_day: header[FIRST_DAY_AT], days: header[PERIOD_DAYS_AT], bitfields, stops, records, services }
+    let (first_day, days) = (header[FIRST_DAY_AT], header[PERIOD_DAYS_AT]);
+    RawTable { first_day, days, bitfields, stops, records, classes, services }
 }
 
 fn take_service(words: &mut &[u32]) -> RawService {
@@ -83,6 +86,7 @@ impl RawTable {
         words.extend(self.bitfields.concat());
         words.extend(self.stops.concat());
         words.extend(self.records.concat());
+        words.extend(self.classes.concat());
         let first_service = words.len();
         for service in &self.services {
             words.extend(service.words());
@@ -95,6 +99,7 @@ impl RawTable {
         words[INTERCHANGES_AT] = self.records.len() as u32;
         words[SERVICES_AT] = self.services.len() as u32;
         words[FIRST_SERVICE_AT] = first_service as u32;
+        words[CLASSES_AT] = self.classes.len() as u32;
         words
     }
 }

@@ -15,6 +15,7 @@ pub enum Tag {
     BitField(usize),
     Stop(usize),
     Record(usize),
+    Category(usize),
     Z(usize),
     T(usize),
     Call(usize, usize),
@@ -31,7 +32,7 @@ pub struct Row {
 
 #[derive(Clone, Debug)]
 pub struct Sheet {
-    pub files: [Vec<Row>; 5],
+    pub files: [Vec<Row>; 6],
 }
 
 /// A line of blanks to write fields into by their columns.
@@ -50,8 +51,14 @@ impl Blanks {
 
 /// The lines of a plan, with skipped lines between.
 pub fn sheet(rng: &mut Rng, plan: &Plan) -> Sheet {
-    let mut files =
-        [dates(rng, plan), bitfields(rng, plan), stops(rng, plan), interchange(rng, plan), services(rng, plan)];
+    let mut files = [
+        dates(rng, plan),
+        bitfields(rng, plan),
+        stops(rng, plan),
+        interchange(rng, plan),
+        services(rng, plan),
+        categories(rng, plan),
+    ];
     let rare = rng.pick(&[4, 12, 1_000, 1_000]);
     for rows in &mut files[1..] {
         insert_skipped(rng, rows, rare);
@@ -165,6 +172,27 @@ fn interchange(rng: &mut Rng, plan: &Plan) -> Vec<Row> {
             text.extend(rng.text(length));
         }
         rows.push(Row { tag: Tag::Record(i), text });
+    }
+    rows
+}
+
+/// Code, class and tariff group as planned; what else must be there, and what may be.
+fn categories(rng: &mut Rng, plan: &Plan) -> Vec<Row> {
+    let mut rows = Vec::new();
+    for (i, category) in plan.categories.iter().enumerate() {
+        let class = if rng.coin() { format!("{:02}", category.class) } else { format!("{:>2}", category.class) };
+        let length = rng.index(9);
+        let mut line = Blanks(category.code.to_vec());
+        line.put(5, class.as_bytes()).put(8, &[category.group.unwrap_or(b' ')]);
+        line.put(10, &[rng.pick(b"01234567")]).put(12, &rng.text(length)).put(21, &[rng.pick(b"012")]);
+        if rng.coin() {
+            line.put(23, &[rng.pick(b"NBF ")]);
+        }
+        if rng.once_in(3) {
+            let length = rng.index(30);
+            line.put(25, &rng.text(length));
+        }
+        rows.push(Row { tag: Tag::Category(i), text: line.0 });
     }
     rows
 }

@@ -8,7 +8,7 @@ use crate::reader::fields::{
     LineKind, RangeEnd, Time,
 };
 use crate::reader::forms::{
-    form_a, form_bitfield, form_date, form_g, form_interchange, form_schedule, form_stop, form_t, form_z,
+    form_a, form_bitfield, form_category, form_date, form_g, form_interchange, form_schedule, form_stop, form_t, form_z,
 };
 use crate::reader::lines::{lines, skipped};
 
@@ -154,7 +154,18 @@ fn flat_kind(kind: LineKind) -> u32 {
 }
 
 fn form(line: &[u8], kind: u32) -> Option<usize> {
-    let forms = [form_date, form_bitfield, form_stop, form_interchange, form_z, form_g, form_a, form_schedule, form_t];
+    let forms = [
+        form_date,
+        form_bitfield,
+        form_stop,
+        form_interchange,
+        form_z,
+        form_g,
+        form_a,
+        form_schedule,
+        form_t,
+        form_category,
+    ];
     forms[kind as usize](line)
 }
 

@@ -7,7 +7,7 @@ use crate::generate::sheet::Tag;
 use crate::generate::{valid, Rng, Size};
 
 /// The fields of each line kind that are read after its form: what is asked, columns.
-const READ: [&[(What, u32, u32)]; 9] = [
+const READ: [&[(What, u32, u32)]; 10] = [
     &[(What::Date, 0, 0)],
     &[(What::Number, 1, 6), (What::Bits, 0, 0)],
     &[(What::Number, 1, 7), (What::Column, 13, 0)],
@@ -23,6 +23,7 @@ const READ: [&[(What, u32, u32)]; 9] = [
     ],
     &[(What::Number, 1, 7), (What::Time, 30, 35), (What::Time, 37, 42)],
     &[(What::Number, 4, 8), (What::Number, 17, 20), (What::Number, 22, 25)],
+    &[(What::Column, 1, 0), (What::Column, 3, 0), (What::Number, 5, 6), (What::Column, 8, 0)],
 ];
 
 /// Lines of each kind that meet each byte value in each column.
@@ -40,13 +41,14 @@ fn line_kind(tag: Tag) -> Option<usize> {
         Tag::Ve(..) | Tag::Other(..) => Some(6),
         Tag::Call(..) => Some(7),
         Tag::T(_) => Some(8),
+        Tag::Category(_) => Some(9),
         Tag::Skipped | Tag::Free => None,
     }
 }
 
 /// At least so many lines of each kind, from deliveries that break no rule.
-fn valid_lines(rng: &mut Rng, each: usize) -> [Vec<Vec<u8>>; 9] {
-    let mut found: [Vec<Vec<u8>>; 9] = Default::default();
+fn valid_lines(rng: &mut Rng, each: usize) -> [Vec<Vec<u8>>; 10] {
+    let mut found: [Vec<Vec<u8>>; 10] = Default::default();
     while found.iter().any(|lines| lines.len() < each) {
         if let Some((_, sheet)) = valid(rng, Size::Small).plan {
             for row in sheet.files.into_iter().flatten() {
@@ -93,7 +95,7 @@ fn ask_all_bytes(tally: &mut Tally, line: &[u8], kind: usize) {
 fn telling_byte(rng: &mut Rng) -> u8 {
     match rng.below(3) {
         0 => rng.below(256) as u8,
-        _ => rng.pick(b"00123456789      %*#-XZTGAVE.F\t\r\n"),
+        _ => rng.pick(b"00123456789      %*#-XZTGAVE.FNBHI\t\r\n"),
     }
 }
 

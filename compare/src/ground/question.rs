@@ -73,7 +73,8 @@ pub const WHATS: [(What, &str, &[&str]); 24] = [
 ];
 
 /// The kinds of lines that have a form.
-pub const LINE_KINDS: [&str; 9] = ["date", "bitfield", "stop", "interchange", "*Z", "*G", "*A", "call", "*T"];
+pub const LINE_KINDS: [&str; 10] =
+    ["date", "bitfield", "stop", "interchange", "*Z", "*G", "*A", "call", "*T", "category"];
 
 /// Twelve words of a bit field, or in front: a number; or a case of an enum and its value; or stop, next and number.
 pub type Answer = [u32; 12];

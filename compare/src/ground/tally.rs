@@ -19,7 +19,7 @@ pub struct Draw {
 }
 
 /// The columns of each line kind in which every byte value must be met: the named ones and two more.
-const FORM_COLUMNS: [usize; 9] = [12, 105, 64, 16, 61, 61, 61, 61, 61];
+const FORM_COLUMNS: [usize; 10] = [12, 105, 64, 16, 61, 61, 61, 61, 61, 26];
 
 /// A question of one sort: a name, how often each kind of answer came, and the bytes met in each of its columns.
 struct Sort {

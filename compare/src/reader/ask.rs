@@ -1,4 +1,4 @@
-//! "Questions" on any words: refusals 21 to 36, and 39 to 41 of document 02, No. 3.
+//! "Questions" on any words: refusals 21 to 36, and of document 02 38 (No. 1), and 39 to 41 (No. 3).
 
 use super::bits::{runs_on, BitWords};
 use super::calendar::{day_number, LAST_DAY, MOST_DAYS};
@@ -6,10 +6,10 @@ use super::names::{chosen, names, wanted};
 use super::runs::Runs;
 use super::service::stretches;
 use crate::layout::{
-    ARRIVAL, BIT_FIELDS_AT, BIT_FIELD_WORDS, CALLS_AT, CALL_WORDS, CATEGORIES_AT, CATEGORY_WORDS, DAYS_AT, DAYS_WORDS,
-    DEPARTURE, EXTRAS_AT, EXTRA_WORDS, FIRST_DAY_AT, FIRST_SERVICE_AT, HEADER_WORDS, INTERCHANGES_AT,
-    INTERCHANGE_WORDS, KIND_AT, MOST_CALLS, NO_ALIGHTING, NO_BOARDING, OFFSET_AT, PERIOD_DAYS_AT, REPEATS_AT,
-    ROW_WORDS, SERVICES_AT, SERVICE_WORDS, SIZE_AT, STOPS_AT, STOP_WORDS, USED_AT,
+    ARRIVAL, BIT_FIELDS_AT, BIT_FIELD_WORDS, CALLS_AT, CALL_WORDS, CATEGORIES_AT, CATEGORY_WORDS, CLASSES_AT,
+    CLASS_WORDS, DAYS_AT, DAYS_WORDS, DEPARTURE, EXTRAS_AT, EXTRA_WORDS, FIRST_DAY_AT, FIRST_SERVICE_AT, HEADER_WORDS,
+    INTERCHANGES_AT, INTERCHANGE_WORDS, KIND_AT, MOST_CALLS, NO_ALIGHTING, NO_BOARDING, OFFSET_AT, PERIOD_DAYS_AT,
+    REPEATS_AT, ROW_WORDS, SERVICES_AT, SERVICE_WORDS, SIZE_AT, STOPS_AT, STOP_WORDS, USED_AT,
 };
 
 /// The answer of a day question.
@@ -75,6 +75,7 @@ struct Table<'a> {
     bitfields: usize,
     stops: usize,
     records: usize,
+    classes: usize,
     services: Vec<Service>,
 }
 
@@ -83,9 +84,9 @@ pub fn is_table(words: &[u32]) -> bool {
     table(words).is_some()
 }
 
-/// The conditions of 21 in the paper's order, counted exactly.
+/// The conditions of 21 in the paper's order, counted exactly; document 02, No. 1: "21 reads the new sizes and refuses a class over 13".
 fn table(words: &[u32]) -> Option<Table<'_>> {
-    // "fewer than 8, or words used under 8 or over those lent"
+    // "fewer than 8, or words used under 8 or over those lent", where No. 1 says nine
     let used = *words.get(USED_AT)? as usize;
     if used < HEADER_WORDS || used > words.len() {
         return None;
@@ -96,14 +97,18 @@ fn table(words: &[u32]) -> Option<Table<'_>> {
     if !(1..=MOST_DAYS).contains(&n) || first_day + u64::from(n) - 1 > u64::from(LAST_DAY) {
         return None;
     }
-    // "U is 0; word 7 is not 8 + 13B + 3S + 3U or is beyond words used"
-    let [b, s, u] = [BIT_FIELDS_AT, STOPS_AT, INTERCHANGES_AT].map(|at| u64::from(words[at]));
-    let place = HEADER_WORDS as u64 + BIT_FIELD_WORDS as u64 * b + STOP_WORDS as u64 * s + INTERCHANGE_WORDS as u64 * u;
+    // "U is 0; word 7 is not 8 + 13B + 3S + 3U or is beyond words used", where No. 1 says 9 and adds 2K
+    let [b, s, u, k] = [BIT_FIELDS_AT, STOPS_AT, INTERCHANGES_AT, CLASSES_AT].map(|at| u64::from(words[at]));
+    let records = [(BIT_FIELD_WORDS, b), (STOP_WORDS, s), (INTERCHANGE_WORDS, u), (CLASS_WORDS, k)];
+    let place = HEADER_WORDS as u64 + records.iter().map(|(size, count)| *size as u64 * count).sum::<u64>();
     if u == 0 || u64::from(words[FIRST_SERVICE_AT]) != place || place > used as u64 {
         return None;
     }
+    let [bitfields, stops, records, classes] = [b, s, u, k].map(|count| count as usize);
     let services = services(words)?;
-    Some(Table { words, bitfields: b as usize, stops: s as usize, records: u as usize, services })
+    let table = Table { words, bitfields, stops, records, classes, services };
+    // "a class over 13"
+    Some(table).filter(|table| table.class_records().all(|record| record[1] <= 13))
 }
 
 /// "the V records do not end exactly at words used": the services from word 7 on, or nothing if they do not fit.
@@ -210,6 +215,23 @@ impl<'a> Table<'a> {
         }
     }
 
+    /// "The first time applies when both classes are 0, 1 or 2" (No. 2), else the second.
+    fn minutes(&self, stop: u32, class_a: u32, class_b: u32) -> Changed {
+        let [first, second] = self.interchange_times(stop);
+        Changed::Minutes(if class_a <= 2 && class_b <= 2 { first } else { second })
+    }
+
+    /// Code and class of each category; they end where the services begin.
+    fn class_records(&self) -> impl Iterator<Item = &'a [u32]> {
+        let end = self.words[FIRST_SERVICE_AT] as usize;
+        self.words[end - CLASS_WORDS * self.classes..end].chunks_exact(CLASS_WORDS)
+    }
+
+    /// The class of a category.
+    fn class_of(&self, category: u32) -> Option<u32> {
+        self.class_records().find(|record| record[0] == category).map(|record| record[1])
+    }
+
     /// Whether a bit field runs on a day, "0 always runs"; `None` if there is no such bit field.
     fn bitfield_runs(&self, number: u32, day: u32) -> Option<bool> {
         if number == 0 {
@@ -271,8 +293,22 @@ pub fn interchange(words: &[u32], stop: u32, class_a: u32, class_b: u32) -> Chan
     if !table.stop_known(stop) {
         return Changed::Refused { number: 27 };
     }
-    let [first, second] = table.interchange_times(stop);
-    Changed::Minutes(if class_a <= 2 && class_b <= 2 { first } else { second })
+    table.minutes(stop, class_a, class_b)
+}
+
+/// Document 02, No. 1: "The new question takes a stop and two categories." "38 for a *G category not listed, .. in the question, after 27".
+pub fn interchange_between(words: &[u32], stop: u32, category_a: u32, category_b: u32) -> Changed {
+    let table = match table(words) {
+        Some(table) => table,
+        None => return Changed::Refused { number: 21 },
+    };
+    if !table.stop_known(stop) {
+        return Changed::Refused { number: 27 };
+    }
+    match (table.class_of(category_a), table.class_of(category_b)) {
+        (Some(class_a), Some(class_b)) => table.minutes(stop, class_a, class_b),
+        _ => Changed::Refused { number: 38 },
+    }
 }
 
 /// Document 02, No. 3: "Asked for a stop, a language and a type (0 for any), answer .., as the part of BAHNHOF that holds it.

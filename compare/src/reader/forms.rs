@@ -61,6 +61,26 @@ pub fn form_interchange(line: &[u8]) -> Option<usize> {
     ])
 }
 
+/// ZUGART (document 02, No. 1): "code 1-3 (column 1 not blank), class 5-6 (count to 13), tariff group 8 (A to H or blank), output
+/// control 10 (0 to 7), output text 12-19 (any), supplement 21 (0 to 2), flag 23 (N, B, F or blank), and from 25 free".
+pub fn form_category(line: &[u8]) -> Option<usize> {
+    leftmost(&[
+        field(1, column(line, 1) != b' '),
+        unnamed(line, 4, 4),
+        field(5, count(line, 5, 6).map_or(false, |class| class <= 13)),
+        unnamed(line, 7, 7),
+        field(8, matches!(column(line, 8), b'A'..=b'H' | b' ')),
+        unnamed(line, 9, 9),
+        field(10, matches!(column(line, 10), b'0'..=b'7')),
+        unnamed(line, 11, 11),
+        unnamed(line, 20, 20),
+        field(21, matches!(column(line, 21), b'0'..=b'2')),
+        unnamed(line, 22, 22),
+        field(23, matches!(column(line, 23), b'N' | b'B' | b'F' | b' ')),
+        unnamed(line, 24, 24),
+    ])
+}
+
 /// "In FPLAN column 59 is "%" and anything may follow."
 fn percent(line: &[u8]) -> Option<usize> {
     field(59, column(line, 59) == b'%')

@@ -1,16 +1,16 @@
-//! The load of a delivery: "Order of offences", refusals 1 to 20; and of document 02 39, name lists (No. 3), and 51, helper words
-//! (No. 13).
+//! The load of a delivery: "Order of offences", refusals 1 to 20; and of document 02 37 and 38, ZUGART (No. 1), 39, name lists (No. 3),
+//! and 51, helper words (No. 13).
 
 use std::collections::{HashMap, HashSet};
 
 use super::bits::{frame_ok, BitWords};
 use super::calendar::period;
 use super::fields::{
-    all_blank, count, date, density, detail, digits, digits_or_blank, hex_words, kind, means_days, packed, range_end,
-    repeats_and_offset, running_time, time, Date, Detail, LineKind, RangeEnd,
+    all_blank, column, count, date, density, detail, digits, digits_or_blank, hex_words, kind, means_days, packed,
+    range_end, repeats_and_offset, running_time, time, Date, Detail, LineKind, RangeEnd,
 };
 use super::forms::{
-    form_a, form_bitfield, form_date, form_g, form_interchange, form_schedule, form_stop, form_t, form_z,
+    form_a, form_bitfield, form_category, form_date, form_g, form_interchange, form_schedule, form_stop, form_t, form_z,
 };
 use super::lines::{lines, skipped, Line};
 use super::names::names;
@@ -25,7 +25,7 @@ pub enum Loaded {
     Refused { number: u32, file: u32, line: u32, column: usize, needed: u32 },
 }
 
-/// A refusal 1 to 19 or 39; the column is 0 unless 4.
+/// A refusal 1 to 19 or 37 to 39; the column is 0 unless 4.
 #[derive(Clone, Copy, Debug, PartialEq, Eq)]
 pub struct Offence {
     pub number: u32,
@@ -49,7 +49,14 @@ pub struct Interchange {
     pub times: [u32; 2],
 }
 
-/// A delivery that passed 1 to 19.
+/// A ZUGART record: a category's code in three bytes, and its class.
+#[derive(Clone, Copy, Debug)]
+pub struct Category {
+    pub code: u32,
+    pub class: u32,
+}
+
+/// A delivery that passed 1 to 19 and 37 to 39.
 #[derive(Clone, Debug, Default)]
 pub struct Delivery {
     pub first_day: u32,
@@ -57,6 +64,7 @@ pub struct Delivery {
     pub bitfields: Vec<(u32, BitWords)>,
     pub stops: Vec<Stop>,
     pub interchange: Vec<Interchange>,
+    pub categories: Vec<Category>,
     pub services: Vec<Service>,
 }
 
@@ -73,17 +81,17 @@ const MOST_DAY_RANGES: usize = 50;
 const MOST_OTHERS: usize = 100;
 
 /// No. 13: "helper words are lent: 64, and four for each line of BITFELD, BAHNHOF and UMSTEIGB".
-pub fn helper_needed(files: [&[u8]; 5]) -> usize {
-    let [_, bitfeld, bahnhof, umsteigb, _] = files;
+pub fn helper_needed(files: [&[u8]; 6]) -> usize {
+    let [_, bitfeld, bahnhof, umsteigb, ..] = files;
     64 + [bitfeld, bahnhof, umsteigb].iter().map(|file| 4 * lines(file).len()).sum::<usize>()
 }
 
-/// Loads the five files, ECKDATEN, BITFELD, BAHNHOF, UMSTEIGB, FPLAN. "A refusal returns number, file, line, and the
+/// Loads the files by their numbers, ECKDATEN, BITFELD, BAHNHOF, UMSTEIGB, FPLAN, ZUGART. "A refusal returns number, file, line, and the
 /// words needed (0 unless 20); the table stays as lent. Acceptance returns words used; later words stay." Document 02, No. 6:
 /// "A refusal 4 also returns the column where the leftmost field or unnamed column that breaks the form starts ..; all other
 /// refusals return 0 there." No. 13: "Those words hold 0 afterwards; any further ones stay. Refusals: 51, directly after 1, for
 /// fewer helper words, file 0, line 0, with the words needed; after 1 and 51 all helper words stay."
-pub fn load(files: [&[u8]; 5], lent: &mut [u32], helper: &mut [u32]) -> Loaded {
+pub fn load(files: [&[u8]; 6], lent: &mut [u32], helper: &mut [u32]) -> Loaded {
     if let Err(too_long) = check_lengths(files) {
         return refused(too_long);
     }
@@ -109,23 +117,27 @@ fn refused(Offence { number, file, line, column }: Offence) -> Loaded {
     Loaded::Refused { number, file, line, column, needed: 0 }
 }
 
+/// Document 02, No. 1: "ZUGART is file 6, its lengths and lines checked after UMSTEIGB's".
+const ORDER: [u32; 6] = [1, 2, 3, 4, 6, 5];
+
 /// "First, lengths in file order"
-fn check_lengths(files: [&[u8]; 5]) -> Result<(), Offence> {
-    for (file, bytes) in (1..).zip(files) {
-        if bytes.len() > MOST_BYTES {
+fn check_lengths(files: [&[u8]; 6]) -> Result<(), Offence> {
+    for file in ORDER {
+        if files[file as usize - 1].len() > MOST_BYTES {
             return refuse(1, file, 0);
         }
     }
     Ok(())
 }
 
-/// "then files 1 to 5, each by line". (The fifth file's services come with it.)
-fn read(files: [&[u8]; 5]) -> Result<Delivery, Offence> {
+/// "then files 1 to 5, each by line", the sixth after the fourth. (FPLAN's services come with it.)
+fn read(files: [&[u8]; 6]) -> Result<Delivery, Offence> {
     let mut delivery = Delivery::default();
     read_dates(files[0], &mut delivery)?;
     read_bitfields(files[1], &mut delivery)?;
     read_stops(files[2], &mut delivery)?;
     read_interchange(files[3], &mut delivery)?;
+    read_categories(files[5], &mut delivery)?;
     read_services(files[4], &mut delivery)?;
     Ok(delivery)
 }
@@ -259,9 +271,31 @@ fn read_interchange(file: &[u8], delivery: &mut Delivery) -> Result<(), Offence>
     Ok(())
 }
 
-/// FPLAN while it is read: the stops and bit fields of its own delivery, and the service under way.
+/// ZUGART (document 02, No. 1): within a line 4, "6 for a repeated code, then 37 for a tariff group missing or alone (first line that has one
+/// where the file's first has none, or the other way)". Open point: the file's first is its first line that is not skipped. A file without a
+/// record is right: 2 does not name it.
+fn read_categories(file: &[u8], delivery: &mut Delivery) -> Result<(), Offence> {
+    let mut seen = HashSet::new();
+    let mut first_has_group = None;
+    for line in records(file) {
+        must_hold(form_category(line.text), 6, &line)?;
+        let code = packed(line.text, 1, 3);
+        if !seen.insert(code) {
+            return refuse(6, 6, line.no);
+        }
+        let has_group = column(line.text, 8) != b' ';
+        if *first_has_group.get_or_insert(has_group) != has_group {
+            return refuse(37, 6, line.no);
+        }
+        delivery.categories.push(Category { code, class: count(line.text, 5, 6).unwrap_or(0) });
+    }
+    Ok(())
+}
+
+/// FPLAN while it is read: the stops, bit fields and categories of its own delivery, and the service under way.
 struct Fplan {
     stops: HashSet<u32>,
+    categories: HashSet<u32>,
     bitfields: HashMap<u32, BitWords>,
     days: u32,
     open: Option<Draft>,
@@ -272,6 +306,7 @@ struct Fplan {
 fn read_services(file: &[u8], delivery: &mut Delivery) -> Result<(), Offence> {
     let mut fplan = Fplan {
         stops: delivery.stops.iter().map(|stop| stop.number).collect(),
+        categories: delivery.categories.iter().map(|category| category.code).collect(),
         bitfields: delivery.bitfields.iter().copied().collect(),
         days: delivery.days,
         open: None,
@@ -286,7 +321,7 @@ fn read_services(file: &[u8], delivery: &mut Delivery) -> Result<(), Offence> {
 }
 
 impl Fplan {
-    /// One line: within it 12, 11, 4, 13, 9, 10. A *Z or *T line first closes the service before it.
+    /// One line: within it 12, 11, 4, 13, 9, 10, 38. A *Z or *T line first closes the service before it.
     fn take(&mut self, line: &Line) -> Result<(), Offence> {
         let kind = kind(line.text);
         if let LineKind::Z | LineKind::T = kind {
@@ -301,7 +336,7 @@ impl Fplan {
         };
         match kind {
             LineKind::Schedule => draft.calls.push(self.read_call(line, draft.calls.len())?),
-            LineKind::G => draft.ranges.push(read_g(line, &draft.ranges)?),
+            LineKind::G => draft.ranges.push(self.read_g(line, &draft.ranges)?),
             LineKind::A => draft.ranges.push(self.read_a(line, &draft.ranges)?),
             // 11: "other line kind"
             LineKind::Z | LineKind::T | LineKind::Other => return refuse(11, 5, line.no),
@@ -334,6 +369,20 @@ impl Fplan {
         let administration = if all_blank(line.text, 50, 55) { None } else { Some(administration(line.text, 50)) };
         let (arrival, departure) = (time(line.text, 30), time(line.text, 37));
         Ok(Call { line: line.no, stop, arrival, departure, number, administration })
+    }
+
+    fn read_g(&self, line: &Line, before: &[Range]) -> Result<Range, Offence> {
+        must_hold(form_g(line.text), 5, line)?;
+        let category = packed(line.text, 4, 6);
+        let given = Given::Category(category);
+        if same_kind(before, given) >= MOST_CATEGORIES {
+            return refuse(13, 5, line.no);
+        }
+        // Document 02, No. 1: "38 for a *G category not listed, last in its line"
+        if !self.categories.contains(&category) {
+            return refuse(38, 5, line.no);
+        }
+        Ok(Range { line: line.no, given, from: read_end(line.text, 8, 24), to: read_end(line.text, 16, 31) })
     }
 
     fn read_a(&self, line: &Line, before: &[Range]) -> Result<Range, Offence> {
@@ -389,15 +438,6 @@ fn opened(line: &Line, runs: Runs) -> Draft {
         calls: Vec::new(),
         ranges: Vec::new(),
     }
-}
-
-fn read_g(line: &Line, before: &[Range]) -> Result<Range, Offence> {
-    must_hold(form_g(line.text), 5, line)?;
-    let given = Given::Category(packed(line.text, 4, 6));
-    if same_kind(before, given) >= MOST_CATEGORIES {
-        return refuse(13, 5, line.no);
-    }
-    Ok(Range { line: line.no, given, from: read_end(line.text, 8, 24), to: read_end(line.text, 16, 31) })
 }
 
 /// "with no stop number it is not read"

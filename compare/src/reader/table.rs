@@ -8,7 +8,8 @@ use crate::layout::{
     SERVICE_WORDS,
 };
 
-/// Header, bit fields, stops, interchange records, services, "all in file order".
+/// Header, bit fields, stops, interchange records, and of document 02, No. 1, "a section of two words each (code, class) .. before the services";
+/// services; "all in file order".
 pub fn words(delivery: &Delivery) -> Vec<u32> {
     let mut words = vec![0; HEADER_WORDS];
     for (number, bits) in &delivery.bitfields {
@@ -21,11 +22,15 @@ pub fn words(delivery: &Delivery) -> Vec<u32> {
     for record in &delivery.interchange {
         words.extend_from_slice(&[record.number, record.times[0], record.times[1]]);
     }
+    for category in &delivery.categories {
+        words.extend_from_slice(&[category.code, category.class]);
+    }
     let first_service = words.len();
     for service in &delivery.services {
         words.extend(service_words(service));
     }
-    // "words used, first day, n, bit fields B, stops S, interchange records U, services V, place of first service"
+    // "words used, first day, n, bit fields B, stops S, interchange records U, services V, place of first service"; "The header grows to nine words,
+    // the last being the count of categories"
     let header: [u32; HEADER_WORDS] = [
         words.len() as u32,
         delivery.first_day,
@@ -35,6 +40,7 @@ pub fn words(delivery: &Delivery) -> Vec<u32> {
         delivery.interchange.len() as u32,
         delivery.services.len() as u32,
         first_service as u32,
+        delivery.categories.len() as u32,
     ];
     words[..HEADER_WORDS].copy_from_slice(&header);
     words

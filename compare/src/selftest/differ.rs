@@ -5,10 +5,12 @@ use crate::differ::{compare, Tally, OVERSIZED_EVERY};
 use crate::generate::questions::head_of;
 use crate::generate::raw_table::parts;
 use crate::layout::{
-    ADMINISTRATION_AT, KIND_AT, KIND_T, KIND_Z, NUMBER_AT, OFFSET_AT, REPEATS_AT, ROW_ARRIVAL_AT, ROW_CATEGORY_AT,
-    ROW_DEPARTURE_AT, ROW_NUMBER_AT, ROW_WORDS, SERVICES_AT, USED_AT,
+    ADMINISTRATION_AT, CLASSES_AT, CLASS_WORDS, FIRST_SERVICE_AT, KIND_AT, KIND_T, KIND_Z, NUMBER_AT, OFFSET_AT,
+    REPEATS_AT, ROW_ARRIVAL_AT, ROW_CATEGORY_AT, ROW_DEPARTURE_AT, ROW_NUMBER_AT, ROW_WORDS, SERVICES_AT, USED_AT,
 };
-use crate::reader::lines::{lines, skipped};
+use crate::reader::fields::{column, columns};
+use crate::reader::lines::{lines, skipped, Line};
+use crate::reader::load::MOST_BYTES;
 use crate::reader::names::{fits, names, wanted, Name};
 use crate::reader::runs::Runs;
 use crate::reader::{helper_needed, is_table, Combination};
@@ -81,6 +83,22 @@ slips!(
     RepeatsLimit9999,
     DensityZeroTable,
     AnyKind,
+    ZugartLengthLast,
+    EmptyZugartRefused,
+    GroupsBeforeCodes,
+    GroupsAfterAll,
+    GroupOfFirstLine,
+    CodesInAnyCase,
+    CodesByTwoBytes,
+    CategoriesUnread,
+    UnlistedBefore13,
+    UnlistedAfterService,
+    ClassLost,
+    Class14Table,
+    ArrivingForBoth,
+    LastClass,
+    UnlistedBeforeStop,
+    TwoBytesAsked,
     NamesUnread,
     NamesAfterNumbers,
     LastFittingName,
@@ -117,16 +135,16 @@ fn bump(words: &mut [u32], at: usize) {
 }
 
 impl Boundary for Slip {
-    fn load(&self, files: [&[u8]; 5], table: &mut [u32], helper: &mut [u32]) -> [u32; 5] {
+    fn load(&self, files: [&[u8]; 6], table: &mut [u32], helper: &mut [u32]) -> [u32; 5] {
         if let RefusesAll = self {
             return [4, 1, 1, 0, 1];
         }
         if let NamesUnread = self {
             let plain = without_marks(files[2]);
-            return Reader.load([files[0], files[1], &plain, files[3], files[4]], table, helper);
+            return Reader.load([files[0], files[1], &plain, files[3], files[4], files[5]], table, helper);
         }
         if let Some(fplan) = self.fplan_read(files[4]) {
-            return Reader.load([files[0], files[1], files[2], files[3], &fplan], table, helper);
+            return Reader.load([files[0], files[1], files[2], files[3], &fplan, files[5]], table, helper);
         }
         let (needed, before) = (helper_needed(files), helper.to_vec());
         let asked = self.helper_asked(files, needed);
@@ -141,6 +159,9 @@ impl Boundary for Slip {
             _ if asked > needed && (needed..asked).contains(&helper.len()) => [51, 0, 0, asked as u32, 0],
             _ => Reader.load(files, table, helper),
         };
+        if let Some(other) = self.categories_read(files, answer) {
+            return other;
+        }
         let [number, file, line, words, column] = answer;
         match self {
             HelperWordLeft if number == 0 => bump(helper, needed - 1),
@@ -159,6 +180,7 @@ impl Boundary for Slip {
             WordOutside if number == 0 => unsafe { *table.as_mut_ptr().add(table.len()) ^= 1 },
             WordOnRefusal if number == 19 => bump(table, 0),
             LastWord if number == 0 => bump(table, words as usize - 1),
+            ClassLost if number == 0 && table[CLASSES_AT] > 0 => bump(table, table[FIRST_SERVICE_AT] as usize - 1),
             NeededLost if number == 20 => return [20, 0, 0, 0, 0],
             LineOfRefusal if number == 15 => return [number, file, line - 1, words, column],
             ColumnLost => return [number, file, line, words, 0],
@@ -199,6 +221,29 @@ impl Boundary for Slip {
         let like_third = |class: u32| if class == 2 { 3 } else { class };
         let classes = if let OldClassTwo = self { classes.map(like_third) } else { classes };
         Reader.interchange(&self.seen(table), stop, classes)
+    }
+
+    fn interchange_between(&self, table: &[u32], stop: u32, [arriving, departing]: [u32; 2]) -> [u32; 2] {
+        let seen = self.seen(table);
+        let answer = Reader.interchange_between(&seen, stop, [arriving, departing]);
+        if !is_table(&seen) {
+            return answer;
+        }
+        let mut raw = parts(&seen[..seen[USED_AT] as usize]);
+        let listed = |code: u32| raw.classes.iter().any(|class| class[0] == code);
+        match self {
+            ArrivingForBoth => Reader.interchange_between(&seen, stop, [arriving, arriving]),
+            UnlistedBeforeStop if answer[0] == 27 && !(listed(arriving) && listed(departing)) => [38, 0],
+            LastClass => {
+                raw.classes.reverse();
+                Reader.interchange_between(&raw.words(), stop, [arriving, departing])
+            }
+            TwoBytesAsked => {
+                raw.classes.iter_mut().for_each(|class| class[0] &= !0xFF);
+                Reader.interchange_between(&raw.words(), stop, [arriving & !0xFF, departing & !0xFF])
+            }
+            _ => answer,
+        }
     }
 
     fn stop_name(&self, table: &[u32], bahnhof: &[u8], stop: u32, [language, kind]: [u32; 2]) -> [u32; 3] {
@@ -296,6 +341,16 @@ fn line_of(fplan: &[u8], line: u32) -> &[u8] {
     lines(fplan)[line as usize - 1].text
 }
 
+/// The lines of ZUGART that are not skipped.
+fn category_lines(zugart: &[u8]) -> Vec<Line<'_>> {
+    lines(zugart).into_iter().filter(|line| !skipped(line.text)).collect()
+}
+
+/// Whether a line of ZUGART has a tariff group.
+fn has_group(line: &Line) -> bool {
+    column(line.text, 8) != b' '
+}
+
 /// BAHNHOF with nothing in its columns that parts names or opens and closes patterns.
 fn without_marks(bahnhof: &[u8]) -> Vec<u8> {
     bahnhof.iter().map(|byte| if b"$<>".contains(byte) { b'A' } else { *byte }).collect()
@@ -368,6 +423,57 @@ impl Slip {
         table.copy_from_slice(&raw.words());
     }
 
+    /// What a slip in ZUGART, or in 38, answers where it does not answer as the reader.
+    fn categories_read(&self, files: [&[u8]; 6], answer: [u32; 5]) -> Option<[u32; 5]> {
+        let [number, file, line, ..] = answer;
+        let records = category_lines(files[5]);
+        let other_group = |line: &Line| has_group(line) != has_group(&records[0]);
+        // The category of the *G line that is told, and whether one is listed that fits it.
+        let told = || columns(line_of(files[4], line), 4, 6);
+        let listed = |fits: fn(&[u8], &[u8]) -> bool| records.iter().any(|one| fits(&columns(one.text, 1, 3), &told()));
+        let otherwise = |changed: Vec<u8>| {
+            let [a, b, c, d, e, _] = files;
+            let mut helper = vec![0; helper_needed(files)];
+            Reader.load([a, b, c, d, e, &changed], &mut [], &mut helper)
+        };
+        let is = match (self, number) {
+            (ZugartLengthLast, 1) if file == 6 && files[4].len() > MOST_BYTES => [1, 5, 0, 0, 0],
+            (EmptyZugartRefused, 0) if records.is_empty() => [2, 6, lines(files[5]).len() as u32 + 1, 0, 0],
+            (GroupsBeforeCodes, 6) if file == 6 && other_group(&lines(files[5])[line as usize - 1]) => {
+                [37, 6, line, 0, 0]
+            }
+            (GroupsAfterAll, 37) => {
+                let mut plain = files[5].to_vec();
+                records.iter().filter(|one| has_group(one)).for_each(|one| plain[one.start + 7] = b' ');
+                Some(otherwise(plain)).filter(|later| later[1] == 6)?
+            }
+            (GroupOfFirstLine, 0) if !records.is_empty() && other_group(&lines(files[5])[0]) => {
+                [37, 6, records[0].no, 0, 0]
+            }
+            (CodesInAnyCase, 38) if listed(<[u8]>::eq_ignore_ascii_case) => [0; 5],
+            (CodesByTwoBytes, 38) if listed(|one, other| one[..2] == other[..2]) => [0; 5],
+            (CategoriesUnread, 38) => [0; 5],
+            (UnlistedBefore13, 13)
+                if line_of(files[4], line).starts_with(b"*G ") && !listed(|one, other| one == other) =>
+            {
+                [38, 5, line, 0, 0]
+            }
+            (UnlistedAfterService, 38) => {
+                let mut more = [files[5], b"\n"].concat();
+                for one in lines(files[4]).iter().filter(|one| one.text.starts_with(b"*G ")) {
+                    let code = columns(one.text, 4, 6);
+                    if category_lines(&more).iter().all(|listed| columns(listed.text, 1, 3) != code) {
+                        let group = if records.first().map_or(false, has_group) { b'A' } else { b' ' };
+                        more.extend([&code[..], b"  1 ", &[group], b" 0          0\n"].concat());
+                    }
+                }
+                Some(otherwise(more)).filter(|later| (14..=19).contains(&later[0]))?
+            }
+            _ => return None,
+        };
+        Some(is)
+    }
+
     /// FPLAN as a slip in the lines that open services reads it.
     fn fplan_read(&self, fplan: &[u8]) -> Option<Vec<u8>> {
         if !matches!(self, FrequencyIsOther | FrequencyNeverFirst | DoubleLetterTaken | DensityZeroTaken | SignDropped)
@@ -408,6 +514,14 @@ impl Slip {
     /// The words that a slip in 21 takes these for.
     fn seen(&self, table: &[u32]) -> Vec<u32> {
         let mut seen = table.to_vec();
+        if let Class14Table = self {
+            let end = table.get(FIRST_SERVICE_AT).copied().unwrap_or(0) as usize;
+            let classes = table.get(CLASSES_AT).copied().unwrap_or(0).min(1_000) as usize;
+            let start = end.saturating_sub(CLASS_WORDS * classes);
+            let records = seen.get_mut(start..end).unwrap_or(&mut []);
+            records.chunks_exact_mut(CLASS_WORDS).for_each(|record| record[1] = record[1].min(13));
+            return seen;
+        }
         if !matches!(self, FrequencyLimit999 | RepeatsLimit9999 | DensityZeroTable | AnyKind) {
             return seen;
         }
@@ -490,12 +604,12 @@ impl Slip {
     }
 
     /// The helper words that a slip asks for, where so many are needed.
-    fn helper_asked(&self, files: [&[u8]; 5], needed: usize) -> usize {
+    fn helper_asked(&self, files: [&[u8]; 6], needed: usize) -> usize {
         let of = |at: usize| lines(files[at]);
         match self {
             SkippedLinesFree => needed - 4 * (1..4).flat_map(of).filter(|line| skipped(line.text)).count(),
             LastLineFree => needed - 4 * (1..4).filter(|at| !matches!(files[*at].last(), None | Some(b'\n'))).count(),
-            OtherFilesCounted => needed + 4 * [0, 4].iter().map(|at| of(*at).len()).sum::<usize>(),
+            OtherFilesCounted => needed + 4 * [0, 4, 5].iter().map(|at| of(*at).len()).sum::<usize>(),
             _ => needed,
         }
     }
@@ -520,6 +634,7 @@ fn every_answer_comes() {
         "load",
         "day",
         "interchange",
+        "between",
         "name",
         "walk",
         "run",

@@ -38,7 +38,7 @@ fn route_r_lines() -> Vec<String> {
 const ALL: (&str, &str) = ("", "");
 
 /// The trial week with other FPLAN ranges, bit fields and dates.
-fn trial(dates: [&str; 2], bitfields: &[String], ranges: &[String]) -> [Vec<u8>; 5] {
+fn trial(dates: [&str; 2], bitfields: &[String], ranges: &[String]) -> [Vec<u8>; 6] {
     let mut fplan = vec![z("00042", "FERRY_", "", "")];
     fplan.extend_from_slice(ranges);
     fplan.extend(route_r_lines());
@@ -48,6 +48,7 @@ fn trial(dates: [&str; 2], bitfields: &[String], ranges: &[String]) -> [Vec<u8>;
         text(&["1000011     Alpha", "1000022     Beta", "1000033     Gamma"]),
         text(&["9999999  2  3"]),
         file(&fplan),
+        text(&["BAT  4   0 BAT      0 B"]),
     ]
 }
 
@@ -57,14 +58,14 @@ const RY_: u32 = 0x52_595F;
 
 const WEEK: [&str; 2] = ["01.12.2025", "07.12.2025"];
 
-fn trial_week() -> [Vec<u8>; 5] {
+fn trial_week() -> [Vec<u8>; 6] {
     trial(WEEK, &[bitfield("000001", "FE6")], &[g("BAT", ALL, ALL), a("VE", ALL, ALL, "000001")])
 }
 
-fn load_in(files: &[Vec<u8>; 5], room: usize) -> (Loaded, Vec<u32>) {
+fn load_in(files: &[Vec<u8>; 6], room: usize) -> (Loaded, Vec<u32>) {
     let (mut table, mut helper) = (vec![7; room], vec![7; 200]);
-    let [a, b, c, d, e] = files;
-    let loaded = load([a, b, c, d, e], &mut table, &mut helper);
+    let [a, b, c, d, e, f] = files;
+    let loaded = load([a, b, c, d, e, f], &mut table, &mut helper);
     (loaded, table)
 }
 
@@ -127,7 +128,7 @@ fn frames() {
 #[test]
 fn periods_in_files() {
     let daily = [g("BAT", ALL, ALL), a("VE", ALL, ALL, "")];
-    let words = 8 + 9 + 3 + 12 + 28 + 3 + 3;
+    let words = 9 + 9 + 3 + 2 + 12 + 28 + 3 + 3;
     assert_eq!(load_in(&trial(["01.01.2025", "15.01.2026"], &[], &daily), 99).0, Loaded::Accepted { words });
     assert_eq!(load_in(&trial(["01.01.2025", "16.01.2026"], &[], &daily), 99).0, refused(5, 1, 2));
     assert_eq!(load_in(&trial(["01.01.2025", "31.12.2024"], &[], &daily), 99).0, refused(5, 1, 2));
@@ -158,8 +159,8 @@ fn ends_in_files() {
     assert_eq!(load_in(&with(ALL, ("1000022", "#2")), 99).0, refused(16, 5, 4));
     assert_eq!(load_in(&with(("#4", ""), ALL), 99).0, refused(16, 5, 4));
     let (loaded, table) = load_in(&with(("1000022", ""), ("1000022", " 00810")), 99);
-    assert_eq!(loaded, Loaded::Accepted { words: 70 });
-    assert_eq!(table[66..70], [0x4641, 0, 1, 1]);
+    assert_eq!(loaded, Loaded::Accepted { words: 73 });
+    assert_eq!(table[69..73], [0x4641, 0, 1, 1]);
 }
 
 #[test]
@@ -176,59 +177,60 @@ fn stretches_by_days() {
 fn the_trial_week() {
     let files = trial_week();
     let (loaded, table) = load_in(&files, 100);
-    assert_eq!(loaded, Loaded::Accepted { words: 79 });
-    assert_eq!(table[79..], [7; 21]);
+    assert_eq!(loaded, Loaded::Accepted { words: 82 });
+    assert_eq!(table[82..], [7; 18]);
     assert!(is_table(&table));
     let first = day_number(1, 12, 2025).unwrap();
-    assert_eq!(table[..8], [79, first, 7, 1, 3, 1, 1, 33]);
-    assert_eq!(table[8..21], [1, 0xFE60_0000, 0, 0, 0, 0, 0, 0, 0, 0, 0, 0, 0]);
-    assert_eq!(table[21..30], [1_000_011, 12, 5, 1_000_022, 30, 4, 1_000_033, 47, 5]);
-    assert_eq!(table[30..33], [9_999_999, 2, 3]);
-    assert_eq!(table[33..45], [46, 42, FER, RY_, 0, 0, 4, 1, 1, 0, 1, 0]);
-    assert_eq!(table[45..59], [1_000_011, 0, 480, 2, 42, FER, RY_, 1_000_022, 490, 492, 3, 42, FER, RY_]);
-    assert_eq!(table[59..73], [1_000_033, 510, 515, 3, 42, FER, RY_, 1_000_022, 535, 0, 1, 42, FER, RY_]);
-    assert_eq!(table[73..79], [4_342_100, 0, 3, 1, 0, 3]);
-    assert_eq!(load_in(&files, 78).0, Loaded::Refused { number: 20, file: 0, line: 0, column: 0, needed: 79 });
-    assert_eq!(load_in(&files, 78).1, [7; 78]);
+    assert_eq!(table[..9], [82, first, 7, 1, 3, 1, 1, 36, 1]);
+    assert_eq!(table[9..22], [1, 0xFE60_0000, 0, 0, 0, 0, 0, 0, 0, 0, 0, 0, 0]);
+    assert_eq!(table[22..31], [1_000_011, 12, 5, 1_000_022, 30, 4, 1_000_033, 47, 5]);
+    assert_eq!(table[31..36], [9_999_999, 2, 3, 4_342_100, 4]);
+    assert_eq!(table[36..48], [46, 42, FER, RY_, 0, 0, 4, 1, 1, 0, 1, 0]);
+    assert_eq!(table[48..62], [1_000_011, 0, 480, 2, 42, FER, RY_, 1_000_022, 490, 492, 3, 42, FER, RY_]);
+    assert_eq!(table[62..76], [1_000_033, 510, 515, 3, 42, FER, RY_, 1_000_022, 535, 0, 1, 42, FER, RY_]);
+    assert_eq!(table[76..82], [4_342_100, 0, 3, 1, 0, 3]);
+    assert_eq!(load_in(&files, 81).0, Loaded::Refused { number: 20, file: 0, line: 0, column: 0, needed: 82 });
+    assert_eq!(load_in(&files, 81).1, [7; 81]);
 }
 
 /// Document 02, No. 13: "64, and four for each line of BITFELD, BAHNHOF and UMSTEIGB", which are five lines here. Each refusal
 /// with the helper words that it leaves.
 #[test]
 fn helper_words() {
-    let with = |files: &[Vec<u8>; 5], room: usize, helper: usize| {
+    let with = |files: &[Vec<u8>; 6], room: usize, helper: usize| {
         let (mut table, mut helper) = (vec![7; room], vec![9; helper]);
-        let [a, b, c, d, e] = files;
-        let loaded = load([a, b, c, d, e], &mut table, &mut helper);
+        let [a, b, c, d, e, f] = files;
+        let loaded = load([a, b, c, d, e, f], &mut table, &mut helper);
         (loaded, table == vec![7; room], helper)
     };
     let short = |needed| Loaded::Refused { number: 51, file: 0, line: 0, column: 0, needed };
     let emptied = |needed: usize, further: usize| [vec![0; needed], vec![9; further]].concat();
     let week = trial_week();
-    assert_eq!(with(&week, 79, 84), (Loaded::Accepted { words: 79 }, false, emptied(84, 0)));
-    assert_eq!(with(&week, 79, 90), (Loaded::Accepted { words: 79 }, false, emptied(84, 6)));
-    assert_eq!(with(&week, 79, 83), (short(84), true, vec![9; 83]));
+    assert_eq!(with(&week, 82, 84), (Loaded::Accepted { words: 82 }, false, emptied(84, 0)));
+    assert_eq!(with(&week, 82, 90), (Loaded::Accepted { words: 82 }, false, emptied(84, 6)));
+    assert_eq!(with(&week, 82, 83), (short(84), true, vec![9; 83]));
     assert_eq!(with(&week, 0, 0), (short(84), true, vec![]));
-    assert_eq!(with(&week, 78, 85).2, emptied(84, 1));
-    // skipped lines, and a last one without LF; neither ECKDATEN nor FPLAN
+    assert_eq!(with(&week, 81, 85).2, emptied(84, 1));
+    // skipped lines, and a last one without LF; neither ECKDATEN nor FPLAN nor ZUGART
     let mut more = trial_week();
     more[1].extend_from_slice(b"\n%");
     more[3].extend_from_slice(b"  \r\n\r");
     more[4].extend_from_slice(b"\n\n\n");
-    assert_eq!(with(&more, 79, 99).0, short(100));
-    assert_eq!(with(&more, 79, 101), (Loaded::Accepted { words: 79 }, false, emptied(100, 1)));
+    more[5].extend_from_slice(b"%\n\n");
+    assert_eq!(with(&more, 82, 99).0, short(100));
+    assert_eq!(with(&more, 82, 101), (Loaded::Accepted { words: 82 }, false, emptied(100, 1)));
     more[0] = b"broken".to_vec();
-    assert_eq!(with(&more, 79, 99).0, short(100));
-    assert_eq!(with(&more, 79, 101), (broken(1, 1, 1), true, emptied(100, 1)));
+    assert_eq!(with(&more, 82, 99).0, short(100));
+    assert_eq!(with(&more, 82, 101), (broken(1, 1, 1), true, emptied(100, 1)));
     // "directly after 1"
     more[4].resize(16_777_217, b' ');
-    assert_eq!(with(&more, 79, 99), (refused(1, 5, 0), true, vec![9; 99]));
-    assert_eq!(with(&more, 79, 101), (refused(1, 5, 0), true, vec![9; 101]));
+    assert_eq!(with(&more, 82, 99), (refused(1, 5, 0), true, vec![9; 99]));
+    assert_eq!(with(&more, 82, 101), (refused(1, 5, 0), true, vec![9; 101]));
 }
 
 #[test]
 fn questions_on_the_trial_week() {
-    let table = load_in(&trial_week(), 79).1;
+    let table = load_in(&trial_week(), 82).1;
     let mut rows = vec![9; 42];
     assert_eq!(walk(&table, 0, 0, 5, 12, 2025, &mut rows), Walked::Rows(4));
     assert_eq!(rows[..10], [1_000_011, 0, 480, 2, 42, FER, RY_, 4_342_100, 2, 3]);
@@ -252,7 +254,7 @@ fn questions_on_the_trial_week() {
     assert_eq!(day(&table, 6, 12, 2025, 1), DayAnswer::Rests);
     assert_eq!(day(&table, 6, 12, 2025, 0), DayAnswer::Runs);
     assert_eq!(day(&table, 6, 12, 2025, 2), DayAnswer::Refused { number: 28 });
-    assert_eq!(day(&table[..78], 6, 12, 2025, 2), DayAnswer::Refused { number: 21 });
+    assert_eq!(day(&table[..81], 6, 12, 2025, 2), DayAnswer::Refused { number: 21 });
     assert_eq!(day(&table, 31, 11, 2025, 1), DayAnswer::Refused { number: 22 });
 }
 
@@ -261,7 +263,7 @@ fn repeats() {
     let mut files = trial_week();
     let fplan = String::from_utf8(files[4].clone()).unwrap();
     files[4] = fplan.replace(&z("00042", "FERRY_", "", ""), &z("00042", "FERRY_", "023", "010")).into_bytes();
-    let table = load_in(&files, 79).1;
+    let table = load_in(&files, 82).1;
     let mut rows = [0; 40];
     let runs = (0..100).filter(|repeat| walk(&table, 0, *repeat, 5, 12, 2025, &mut rows) == Walked::Rows(4)).count();
     assert_eq!(runs, 24);

@@ -15,9 +15,9 @@ fn packed(bytes: &[u8]) -> u32 {
 /// The table of a plan whose lines are these; BAHNHOF's bytes say where the names stand.
 pub fn expected_table(plan: &Plan, sheet: &Sheet, bahnhof: &[u8]) -> Vec<u32> {
     let mut words = vec![0, plan.first_day, plan.days];
-    words.extend(
-        [plan.bitfields.len(), plan.stops.len(), plan.interchange.len(), plan.services.len(), 0].map(|n| n as u32),
-    );
+    let counts = [plan.bitfields.len(), plan.stops.len(), plan.interchange.len(), plan.services.len()];
+    words.extend(counts.map(|count| count as u32));
+    words.extend([0, plan.categories.len() as u32]);
     for (number, bits) in &plan.bitfields {
         words.push(*number);
         words.extend(bits);
@@ -25,6 +25,9 @@ pub fn expected_table(plan: &Plan, sheet: &Sheet, bahnhof: &[u8]) -> Vec<u32> {
     words.extend(expected_stops(plan, sheet, bahnhof));
     for (number, same, other) in &plan.interchange {
         words.extend([number, same, other]);
+    }
+    for category in &plan.categories {
+        words.extend([packed(&category.code), category.class]);
     }
     words[FIRST_SERVICE_AT] = words.len() as u32;
     for (s, service) in plan.services.iter().enumerate() {

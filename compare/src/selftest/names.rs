@@ -93,7 +93,7 @@ fn planned() {
 
 /// A table of one stop, whose name field starts at byte 100.
 fn asked(field: &[u8], language: u32, kind: u32) -> Named {
-    let table = [14, 0, 7, 0, 1, 1, 0, 14, 5, 100, field.len() as u32, 9_999_999, 2, 3];
+    let table = [15, 0, 7, 0, 1, 1, 0, 15, 0, 5, 100, field.len() as u32, 9_999_999, 2, 3];
     assert_eq!(table.len(), HEADER_WORDS + 2 * STOP_WORDS);
     stop_name(&table, &[&[b'$'; 100][..], field].concat(), 5, language, kind)
 }
@@ -112,7 +112,7 @@ fn bad_lists() {
 #[test]
 fn at_load() {
     let refusal = |bahnhof: &str| {
-        let files: [&[u8]; 5] = [b"01.12.2025\n07.12.2025\n\n", b"", bahnhof.as_bytes(), b"9999999  2  3", b""];
+        let files: [&[u8]; 6] = [b"01.12.2025\n07.12.2025\n\n", b"", bahnhof.as_bytes(), b"9999999  2  3", b"", b""];
         match load(files, &mut [0; 100], &mut [0; 100]) {
             Loaded::Accepted { .. } => [0; 4],
             Loaded::Refused { number, file, line, column, .. } => [number, file, line, column as u32],
@@ -133,13 +133,13 @@ fn at_load() {
 /// "in order, 21, 40 language or type outside the standard's list, 27, 41 name not inside the bytes given, 39"
 #[test]
 fn refusals_of_the_question() {
-    let table = |place, length| [14, 0, 7, 0, 1, 1, 0, 14, 5, place, length, 9_999_999, 2, 3];
+    let table = |place, length| [15, 0, 7, 0, 1, 1, 0, 15, 0, 5, place, length, 9_999_999, 2, 3];
     let number = |table: &[u32], stop, language, kind| match stop_name(table, b"A$B", stop, language, kind) {
         Named::Refused { number } => number,
         Named::Part { .. } => 0,
     };
     let d = u32::from(b'd');
-    assert_eq!(number(&table(9, 9)[..13], 6, 1, 10), 21);
+    assert_eq!(number(&table(9, 9)[..14], 6, 1, 10), 21);
     assert_eq!([number(&table(9, 9), 6, 1, 0), number(&table(9, 9), 6, 0, 10)], [40; 2]);
     assert_eq!(number(&table(9, 9), 6, d, 9), 27);
     for (place, length) in [(9, 9), (0, 4), (4, 0), (3, 1), (u32::MAX, 1), (1, u32::MAX), (u32::MAX, u32::MAX)] {

@@ -10,11 +10,11 @@ use crate::reader::{load, Loaded};
 const NUMBERS: [Numbers; 3] = [Numbers::Consecutive, Numbers::EqualEnding, Numbers::Random];
 
 /// The table of a delivery that must be accepted.
-fn table_of(files: &[Vec<u8>; 5]) -> Vec<u32> {
-    let [a, b, c, d, e] = files;
+fn table_of(files: &[Vec<u8>; 6]) -> Vec<u32> {
+    let [a, b, c, d, e, f] = files;
     let mut table = vec![0; 8_000_000];
     let mut helper = vec![7; counted_helper(files)];
-    match load([a, b, c, d, e], &mut table, &mut helper) {
+    match load([a, b, c, d, e, f], &mut table, &mut helper) {
         Loaded::Accepted { words } => table.truncate(words as usize),
         refused => panic!("{:?}", refused),
     }

@@ -11,7 +11,7 @@ use crate::generate::{
     counted_helper, damaged_table, mixed, oversized, question, valid, Aim, Case, Question, Rng, Size, DAMAGES,
 };
 use crate::layout::{ROW_CATEGORY_AT, ROW_FLAGS_AT, ROW_NUMBER_AT, ROW_WORDS};
-use crate::reader::{day, interchange, is_table, load, walk, Changed, DayAnswer, Loaded, Walked};
+use crate::reader::{day, interchange, interchange_between, is_table, load, walk, Changed, DayAnswer, Loaded, Walked};
 
 const LENT: u32 = 0xAAAA_AAAA;
 
@@ -223,6 +223,10 @@ fn answer(words: &[u32], question: Question) -> String {
             Changed::Refused { number } => format!("interchange refused {}", number),
             Changed::Minutes(_) => "interchange minutes".to_string(),
         },
+        Question::Between { stop, categories: [a, b] } => match interchange_between(words, stop, a, b) {
+            Changed::Refused { number } => format!("between refused {}", number),
+            Changed::Minutes(_) => "between minutes".to_string(),
+        },
         Question::Walk { service, repeat, date: [d, m, y], room } => {
             let mut rows = vec![LENT; room];
             let walked = walk(words, service, repeat, d, m, y, &mut rows);
@@ -253,7 +257,7 @@ fn questions() {
         }
     });
     show("questions", &histogram);
-    (21..=36).filter(|number| *number != 30).for_each(|number| came_often(&histogram, number));
+    (21..=38).filter(|number| ![30, 37].contains(number)).for_each(|number| came_often(&histogram, number));
 }
 
 /// Each condition of 21 in turn, and each damage that keeps a table.

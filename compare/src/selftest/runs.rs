@@ -1,6 +1,6 @@
 //! Document 02, No. 8: services opened by *T; and the planner's way to their runs beside the reader's.
 
-use super::{a, bitfield, call, file, g, t, text, z};
+use super::{a, bitfield, call, category, file, g, t, text, z};
 use crate::columns::line;
 use crate::layout::{KIND_AT, KIND_T, KIND_Z, OFFSET_AT, REPEATS_AT, SERVICE_WORDS};
 use crate::reader::forms::form_t;
@@ -22,10 +22,11 @@ fn loaded(fplan: &[String]) -> (Loaded, Vec<u32>) {
         text(&["1000011     Alpha", "1000022     Beta"]),
         text(&["9999999  2  3"]),
         file(fplan),
+        file(&[category("BAT", 4, "")]),
     ];
-    let [a, b, c, d, e] = &files;
+    let [a, b, c, d, e, f] = &files;
     let (mut table, mut helper) = (vec![7; 300], vec![7; 200]);
-    (load([a, b, c, d, e], &mut table, &mut helper), table)
+    (load([a, b, c, d, e, f], &mut table, &mut helper), table)
 }
 
 /// A service of two calls.

@@ -84,7 +84,7 @@ const NAMES: &[(u32, char, u32, &str)] = &[
 
 /// 5.4.1: 30.09.1996 to 01.06.1997.
 pub fn period(boundary: &dyn Boundary) -> Vec<Checked> {
-    let (accepted, table) = Paper::new().accepted(boundary, "5.4.1 the period", 11);
+    let (accepted, table) = Paper::new().accepted(boundary, "5.4.1 the period", HEADER_WORDS + INTERCHANGE_WORDS);
     vec![
         accepted,
         Checked::new("5.4.1 first day 35,336, 245 days", &[35_336, 245], &table[FIRST_DAY_AT..=PERIOD_DAYS_AT]),

@@ -3,10 +3,10 @@
 use super::services::{fplan_1554, paper_1554, WORDS_1554};
 use super::{Checked, Paper};
 use crate::boundary::Boundary;
-use crate::columns::{a, call, g, line, t};
+use crate::columns::{a, call, category, g, line, t};
 use crate::layout::{
-    CALL_WORDS, CATEGORY_WORDS, DAYS_WORDS, HEADER_WORDS, INTERCHANGE_WORDS, KIND_AT, KIND_T, MOST_ROW_WORDS,
-    OFFSET_AT, REPEATS_AT, ROW_ARRIVAL_AT, ROW_DEPARTURE_AT, ROW_WORDS, SERVICE_WORDS, STOP_WORDS,
+    CALL_WORDS, CATEGORY_WORDS, CLASS_WORDS, DAYS_WORDS, HEADER_WORDS, INTERCHANGE_WORDS, KIND_AT, KIND_T,
+    MOST_ROW_WORDS, OFFSET_AT, REPEATS_AT, ROW_ARRIVAL_AT, ROW_DEPARTURE_AT, ROW_WORDS, SERVICE_WORDS, STOP_WORDS,
 };
 
 /// A day of 5.4.1's period.
@@ -99,12 +99,13 @@ pub fn on_call(boundary: &dyn Boundary) -> Vec<Checked> {
     let opened = |opening: String, from: usize| {
         let mut lines = vec![opening];
         lines.extend_from_slice(&on_call_lines()[from..]);
-        Paper::new().with(3, &names).with(5, &lines)
+        Paper::new().with(3, &names).with(5, &lines).with(6, &[category("Ruf", 9, "")])
     };
     let signed = |column: usize, density: &str| line(&[(1, "*T 00001 VGS___ 0720"), (column, density), (59, "%")]);
     let words = HEADER_WORDS
         + 12 * STOP_WORDS
         + INTERCHANGE_WORDS
+        + CLASS_WORDS
         + SERVICE_WORDS
         + 12 * CALL_WORDS
         + CATEGORY_WORDS

@@ -2,11 +2,11 @@
 
 use super::{Checked, Paper};
 use crate::boundary::Boundary;
-use crate::columns::{a, bit_digits, bitfield, call, g, z};
+use crate::columns::{a, bit_digits, bitfield, call, category, g, z};
 use crate::generate::plan::bitfield_of;
 use crate::layout::{
-    BIT_FIELD_WORDS, CALL_WORDS, CATEGORY_WORDS, DAYS_WORDS, EXTRA_WORDS, HEADER_WORDS, INTERCHANGE_WORDS, ROW_WORDS,
-    SERVICE_WORDS, STOP_WORDS,
+    BIT_FIELD_WORDS, CALL_WORDS, CATEGORY_WORDS, CLASS_WORDS, DAYS_WORDS, EXTRA_WORDS, HEADER_WORDS, INTERCHANGE_WORDS,
+    ROW_WORDS, SERVICE_WORDS, STOP_WORDS,
 };
 
 /// The days of 5.4.1's period.
@@ -44,17 +44,19 @@ pub const WORDS_1554: usize = HEADER_WORDS
     + BIT_FIELD_WORDS
     + 8 * STOP_WORDS
     + INTERCHANGE_WORDS
+    + CLASS_WORDS
     + SERVICE_WORDS
     + 9 * CALL_WORDS
     + CATEGORY_WORDS
     + DAYS_WORDS
     + 4 * EXTRA_WORDS;
 
-/// The stops of service 1554, and its bit field, daily.
+/// The stops of service 1554, its bit field, daily, and its category.
 pub(super) fn paper_1554() -> Paper {
     let stops = ["8010085", "8010205", "8010366", "8010101", "8010097", "8000115", "8000105", "8000152"];
     let names: Vec<String> = stops.iter().map(|stop| format!("{}     Stop {}", stop, stop)).collect();
-    Paper::new().with(2, &[bitfield("046149", &hex(|_| true))]).with(3, &names)
+    let categories = [category("ICE", 0, "")];
+    Paper::new().with(2, &[bitfield("046149", &hex(|_| true))]).with(3, &names).with(6, &categories)
 }
 
 /// 5.3.1: "%" in column 55 beside four-digit times is not taken; else the ranges end where the standard says.
@@ -116,7 +118,7 @@ fn without(lines: &[usize]) -> Vec<String> {
     (0..24).filter(|at| !lines.contains(at)).map(|at| FPLAN_114[at].to_string()).collect()
 }
 
-/// The stops of service 114 with their names, and bit field 000001 as "Mo - Sa": 30.09.1996 was a Monday.
+/// The stops of service 114 with their names, its category, and bit field 000001 as "Mo - Sa": 30.09.1996 was a Monday.
 fn paper_114() -> Paper {
     let mut stops: Vec<String> = Vec::new();
     for line in &FPLAN_114[6..] {
@@ -125,7 +127,8 @@ fn paper_114() -> Paper {
             stops.push(format!("{}     {}", number, name));
         }
     }
-    Paper::new().with(2, &[bitfield("000001", &hex(|d| d % 7 != 6))]).with(3, &stops)
+    let categories = [category("BUS", 6, "")];
+    Paper::new().with(2, &[bitfield("000001", &hex(|d| d % 7 != 6))]).with(3, &stops).with(6, &categories)
 }
 
 pub fn service_114_refused(boundary: &dyn Boundary) -> Vec<Checked> {
@@ -193,6 +196,7 @@ pub fn service_114_mended(boundary: &dyn Boundary) -> Vec<Checked> {
         + BIT_FIELD_WORDS
         + 13 * STOP_WORDS
         + INTERCHANGE_WORDS
+        + CLASS_WORDS
         + SERVICE_WORDS
         + 18 * CALL_WORDS
         + CATEGORY_WORDS

@@ -9,7 +9,7 @@ use lib.ListN.{length, replicate}
 use Rattle.timetable.specs.Delivery.{Files, Service, Delivery}
 use Rattle.timetable.specs.Load.{delivered, onto, helperNeeded, loaded, helped}
 use Rattle.timetable.specs.Layout.{rowSize}
-use Rattle.timetable.specs.Questions.{dayAsked, interchangeAsked, walked}
+use Rattle.timetable.specs.Questions.{dayAsked, interchangeAsked, betweenAsked, walked}
 use Rattle.timetable.specs.declared.DayAnswer.{DayAnswer}
 use Rattle.timetable.specs.declared.DayAnswer.the-variants.{Refused as DayRefused}
 use Rattle.timetable.specs.declared.InterchangeAnswer.{InterchangeAnswer}
@@ -23,7 +23,7 @@ use Rattle.whole_runs.specs.Promise.{Walk, not-running, short, runs, TwoRows}
 use Rattle.whole_runs.proofs.Any.{two-rows}
 use Rattle.whole_runs.proofs.Slack.{never-both}
 use Rattle.whole_runs.proofs.Demand3.{demand3-promised}
-use Rattle.whole_runs.proofs.Numbers.{load-numbered, load-columned, helper-stays, helper-zeros, helper-accepted, day-numbered, interchange-numbered, walk-numbered}
+use Rattle.whole_runs.proofs.Numbers.{load-numbered, load-columned, helper-stays, helper-zeros, helper-accepted, day-numbered, interchange-numbered, between-numbered, walk-numbered}
 use Rattle.estelunya.specs.declared.LoadResult.{LoadResult}
 use Rattle.estelunya.specs.declared.WalkResult.{WalkResult}
 use Rattle.estelunya.specs.Answers.{loadResult, dayResult, interchangeResult, walkResult}
@@ -61,6 +61,9 @@ day-answered w d m y field number e q = omega (arith, day-numbered w d m y field
 
 pub interchange-answered : (w : List ℕ) (stop a b number : ℕ) → interchangeResult (interchangeAsked w stop a b) .number ≡ 0 → interchangeAsked w stop a b ≡ InterchangeRefused number → ⊥
 interchange-answered w stop a b number e q = omega (arith, interchange-numbered w stop a b number q, ap (λ (x : InterchangeAnswer). interchangeResult x .number) q, e)
+
+pub between-answered : (w : List ℕ) (stop a b number : ℕ) → interchangeResult (betweenAsked w stop a b) .number ≡ 0 → betweenAsked w stop a b ≡ InterchangeRefused number → ⊥
+between-answered w stop a b number e q = omega (arith, between-numbered w stop a b number q, ap (λ (x : InterchangeAnswer). interchangeResult x .number) q, e)
 
 pub walk-answered : (w : List ℕ) (i r d m y room number needed : ℕ) → walkResult (walked w i r d m y room) .number ≡ 0 → walked w i r d m y room ≡ WalkRefused number needed → ⊥
 walk-answered w i r d m y room number needed e q = omega (arith, walk-numbered w i r d m y room number needed q, ap (λ (a : Walked). walkResult a .number) q, e)

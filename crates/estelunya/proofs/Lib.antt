@@ -2,3 +2,4 @@ pub mod Exported
 pub mod Slack
 pub mod DaySets
 pub mod StopNames
+pub mod Between

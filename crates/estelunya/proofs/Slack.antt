@@ -6,7 +6,7 @@ use Prim.Native.Nat.{ℕ}
 use lib.ListN.{length}
 use Rattle.timetable.specs.Delivery.{Files}
 use Rattle.timetable.specs.Load.{loaded, written, helped}
-use Rattle.timetable.specs.Questions.{dayAsked, interchangeAsked, walked, walkRows}
+use Rattle.timetable.specs.Questions.{dayAsked, interchangeAsked, betweenAsked, walked, walkRows}
 use Rattle.timetable.specs.StopNames.{stopNameAsked}
 use Rattle.estelunya.specs.declared.LoadResult.{LoadResult}
 use Rattle.estelunya.specs.declared.DayResult.{DayResult}
@@ -33,6 +33,10 @@ day-no-slack w d m y field a b = a ∙ sym b
 pub interchange-no-slack : (w : List ℕ) (n x y : ℕ) {a b : InterchangeResult}
     → a ≡ interchangeResult (interchangeAsked w n x y) → b ≡ interchangeResult (interchangeAsked w n x y) → a ≡ b
 interchange-no-slack w n x y a b = a ∙ sym b
+
+pub between-no-slack : (w : List ℕ) (n x y : ℕ) {a b : InterchangeResult}
+    → a ≡ interchangeResult (betweenAsked w n x y) → b ≡ interchangeResult (betweenAsked w n x y) → a ≡ b
+between-no-slack w n x y a b = a ∙ sym b
 
 pub name-no-slack : (w bahnhof : List ℕ) (stop language type : ℕ) {a b : NameResult}
     → a ≡ nameResult (stopNameAsked w bahnhof stop language type) → b ≡ nameResult (stopNameAsked w bahnhof stop language type) → a ≡ b

@@ -28,7 +28,7 @@ pub data Answered (d : Delivery) (s : Service) (r k : ℕ) (lent : List ℕ) : W
 -- of run r of the i-th service, on day k of the period
 pub record Walks (f : Files) (i : ℕ) (s : Service) (r k : ℕ) (lent : List ℕ) (x : WalkResult) (v : List ℕ) : Type 0 where
   pub answered : Answered (delivered f) s r k lent x v
-  -- "The days, calls and categories are those of that same delivery's text": service, days, stops and interchange records
+  -- "The days, calls and categories are those of that same delivery's text": service, days, stops, interchange records and categories
   pub own : OwnRun f i s k
   -- "It never meets a number it cannot resolve": with room for every call of the service it is not refused
   pub never-refused : rowSize * length (s .calls) ≤ length lent → x .number ≡ 0

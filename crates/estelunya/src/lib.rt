@@ -12,7 +12,7 @@ ghost use mathlib.Core.Path.{_≡_};
 ghost use lib.ListN.{length};
 ghost use Rattle.timetable.specs.Delivery.{filesOf};
 ghost use Rattle.timetable.specs.Load.{loaded, written, helped};
-ghost use Rattle.timetable.specs.Questions.{dayAsked, interchangeAsked, walked, walkRows};
+ghost use Rattle.timetable.specs.Questions.{dayAsked, interchangeAsked, betweenAsked, walked, walkRows};
 ghost use Rattle.timetable.specs.StopNames.{stopNameAsked};
 ghost use Rattle.day_sets.specs.declared.Operation.the-variants.{Union, Intersection, Difference};
 ghost use Rattle.day_sets.specs.DaySets.{combineAsked, combineWritten, complementAsked, complementWritten, countAsked};
@@ -80,14 +80,24 @@ pub extern "C" fn estelunya_load(
     bahnhof: &[u8],
     umsteigb: &[u8],
     fplan: &[u8],
+    zugart: &[u8],
     table: &mut [u32],
     helper: &mut [u32],
 ) -> LoadResult
-    ensures answer { λ r. ⌜ r ≡ loadResult (loaded (filesOf (now (eckdaten .entry)) (now (bitfeld .entry)) (now (bahnhof .entry)) (now (umsteigb .entry)) (now (fplan .entry))) (length (now (table .entry))) (length (now (helper .entry)))) ⌝ }
-    ensures words { λ r. ⌜ now (table .exit) ≡ written (filesOf (now (eckdaten .entry)) (now (bitfeld .entry)) (now (bahnhof .entry)) (now (umsteigb .entry)) (now (fplan .entry))) (now (table .entry)) (length (now (helper .entry))) ⌝ }
-    ensures helper { λ r. ⌜ now (helper .exit) ≡ helped (filesOf (now (eckdaten .entry)) (now (bitfeld .entry)) (now (bahnhof .entry)) (now (umsteigb .entry)) (now (fplan .entry))) (now (helper .entry)) ⌝ }
+    ensures answer { λ r. ⌜ r ≡ loadResult (loaded (filesOf (now (eckdaten .entry)) (now (bitfeld .entry)) (now (bahnhof .entry)) (now (umsteigb .entry)) (now (fplan .entry)) (now (zugart .entry))) (length (now (table .entry))) (length (now (helper .entry)))) ⌝ }
+    ensures words { λ r. ⌜ now (table .exit) ≡ written (filesOf (now (eckdaten .entry)) (now (bitfeld .entry)) (now (bahnhof .entry)) (now (umsteigb .entry)) (now (fplan .entry)) (now (zugart .entry))) (now (table .entry)) (length (now (helper .entry))) ⌝ }
+    ensures helper { λ r. ⌜ now (helper .exit) ≡ helped (filesOf (now (eckdaten .entry)) (now (bitfeld .entry)) (now (bahnhof .entry)) (now (umsteigb .entry)) (now (fplan .entry)) (now (zugart .entry))) (now (helper .entry)) ⌝ }
 {
-    load_result(load::load(eckdaten, bitfeld, bahnhof, umsteigb, fplan, table, helper))
+    load_result(load::load(
+        eckdaten,
+        bitfeld,
+        bahnhof,
+        umsteigb,
+        fplan,
+        zugart,
+        table,
+        helper,
+    ))
 }
 
 #[no_mangle]
@@ -113,6 +123,19 @@ pub extern "C" fn estelunya_interchange(
     ensures { λ r. ⌜ r ≡ interchangeResult (interchangeAsked (now (table .entry)) stop arriving departing) ⌝ }
 {
     interchange_result(questions::interchange(table, stop, arriving, departing))
+}
+
+// The same between services of two categories, each as a row of a walk shows it (word 7).
+#[no_mangle]
+pub extern "C" fn estelunya_interchange_between(
+    table: &[u32],
+    stop: u32,
+    arriving: u32,
+    departing: u32,
+) -> InterchangeResult
+    ensures { λ r. ⌜ r ≡ interchangeResult (betweenAsked (now (table .entry)) stop arriving departing) ⌝ }
+{
+    interchange_result(questions::between(table, stop, arriving, departing))
 }
 
 // The language is the byte of its letter in 5.1 of the standard, or 0 for any; the kind is the type, 1 to 9, or 0 for any.

@@ -34,7 +34,7 @@ pub boat-runs : (hasRun (boat .opening) 32 ≡ true) × (hasRun (boat .opening) 
 unfolding computing boat
 boat-runs = (refl, refl, refl)
 
-pub accepted : loaded dial 4096 4096 ≡ Accepted 79
+pub accepted : loaded dial 4096 4096 ≡ Accepted 82
 unfolding computing
 accepted = refl
 
@@ -52,4 +52,4 @@ asked =
     record { service = boat-is; repeat = boat-runs .0; date = friday; from = omega arith; until = omega arith }
 
 pub dial-demand : (t : List ℕ) → length t ≡ 4096 → Demand3 dial 0 boat 32 (45994 - delivered dial .period .start) (walkOf (written dial t 4096) 0 32 5 12 2025)
-dial-demand t lent = demand3 dial t 4096 79 (ap (λ (n : ℕ). loaded dial n 4096) lent ∙ accepted) 0 32 5 12 2025 45994 boat asked
+dial-demand t lent = demand3 dial t 4096 82 (ap (λ (n : ℕ). loaded dial n 4096) lent ∙ accepted) 0 32 5 12 2025 45994 boat asked

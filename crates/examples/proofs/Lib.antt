@@ -1,6 +1,9 @@
 pub mod Naming
+pub mod Classing
 pub mod Computing
 pub mod Rows
 pub mod Trial
 pub mod Names
 pub mod Dial
+pub mod Classes
+pub mod Edges

@@ -1,4 +1,4 @@
--- The trial week: accepted with its 79 words, whatever the 4,096 words lent and the helper words, if they are enough; four rows on 05.12.2025, not running on 06.12.2025. It meets what demand 3
+-- The trial week: accepted with its 82 words, whatever the 4,096 words lent and the helper words, if they are enough; four rows on 05.12.2025, not running on 06.12.2025. It meets what demand 3
 -- asks for, on a day that runs and on one that does not, so the demand is not empty; and demand 3 allows these answers only. Assumes nothing.
 use Prim.Native.Nat.{ℕ, _+_, _-_, _<_, _≤_}
 use native.Mathlib.Omega.{arith}
@@ -30,29 +30,29 @@ use Rattle.examples.proofs.Computing.{computing}
 
 -- ---- accepted, with exactly these words
 
--- "accepted days 7 bitfields 1 stops 3 interchange 1 services 1 words 66"; with document 02's No. 5 and No. 8, 79: three words more for each of four calls, and one for the service; with 64 helper words and four for each of the five lines of BITFELD, BAHNHOF
+-- "accepted days 7 bitfields 1 stops 3 interchange 1 services 1 words 66"; with document 02's No. 5, No. 8 and No. 1, 82: three words more for each of four calls, one for the service, and one of header and two for the category; with 64 helper words and four for each of the five lines of BITFELD, BAHNHOF
 -- and UMSTEIGB
-pub accepted : (helper : ℕ) → 84 ≤ helper → loaded trial 4096 helper ≡ Accepted 79
+pub accepted : (helper : ℕ) → 84 ≤ helper → loaded trial 4096 helper ≡ Accepted 82
 unfolding computing
 accepted helper h = go (ltb helper 84) (le-ltb helper 84 h)
   where
-    go : (t : Bool) → t ≡ false → cond t (LoadRefused 51 0 0 0 84) (Accepted 79) ≡ Accepted 79
+    go : (t : Bool) → t ≡ false → cond t (LoadRefused 51 0 0 0 84) (Accepted 82) ≡ Accepted 82
     go t e = rw e refl
 
 pub words : tableWords (delivered trial) ≡ trialWords
 unfolding computing
 words = refl
 
-words-79 : length trialWords ≡ 79
-words-79 = refl
+words-82 : length trialWords ≡ 82
+words-82 = refl
 
 module _ (t : List ℕ) (lent : length t ≡ 4096) (helper : ℕ) (enough : 84 ≤ helper) where
-  pub week-accepted : loaded trial (length t) helper ≡ Accepted 79
+  pub week-accepted : loaded trial (length t) helper ≡ Accepted 82
   week-accepted = ap (λ (n : ℕ). loaded trial n helper) lent ∙ accepted helper enough
 
   -- "later words stay"
-  pub week-table : written trial t helper ≡ trialWords ++ drop 79 t
-  week-table = written-is trial t helper 79 week-accepted ∙ (ap (λ (w : List ℕ). w ++ drop (length w) t) words ∙ ap (λ (n : ℕ). trialWords ++ drop n t) words-79)
+  pub week-table : written trial t helper ≡ trialWords ++ drop 82 t
+  week-table = written-is trial t helper 82 week-accepted ∙ (ap (λ (w : List ℕ). w ++ drop (length w) t) words ∙ ap (λ (n : ℕ). trialWords ++ drop n t) words-82)
 
 -- "Those words hold 0 afterwards; any further ones stay."
 needed-84 : helperNeeded trial ≡ 84
@@ -62,7 +62,7 @@ needed-84 = refl
 pub week-helper : (t h : List ℕ) → length t ≡ 4096 → 84 ≤ length h → helped trial h ≡ replicate 84 0 ++ drop 84 h
 unfolding onto
 week-helper t h lent enough =
-    helper-accepted trial h (length t) 79 (week-accepted t lent (length h) enough)
+    helper-accepted trial h (length t) 82 (week-accepted t lent (length h) enough)
     ∙ (ap (λ (n : ℕ). replicate {A = ℕ} n 0 ++ drop (length (replicate {A = ℕ} n 0)) h) needed-84 ∙ ap (λ (n : ℕ). replicate 84 0 ++ drop n h) (length-replicate {A = ℕ} 84 0))
 
 -- ---- the walks
@@ -87,10 +87,10 @@ friday-lack room h = (rw (lt-ltb (length room) 40 h), rw (lt-ltb (length room) 4
 
 module _ (t : List ℕ) (lent : length t ≡ 4096) (helper : ℕ) (enough : 84 ≤ helper) where
   friday-walk : walkOf (written trial t helper) 0 0 5 12 2025 ≡ rows fridayRows
-  friday-walk = walk-accepted trial t helper 79 (week-accepted t lent helper enough) 0 0 5 12 2025 ∙ friday-journey
+  friday-walk = walk-accepted trial t helper 82 (week-accepted t lent helper enough) 0 0 5 12 2025 ∙ friday-journey
 
   saturday-walk : walkOf (written trial t helper) 0 0 6 12 2025 ≡ idle
-  saturday-walk = walk-accepted trial t helper 79 (week-accepted t lent helper enough) 0 0 6 12 2025 ∙ saturday-journey
+  saturday-walk = walk-accepted trial t helper 82 (week-accepted t lent helper enough) 0 0 6 12 2025 ∙ saturday-journey
 
   -- "The walk on 05.12.2025 gives four rows"
   pub friday : (room : List ℕ) → 40 ≤ length room → (walked (written trial t helper) 0 0 5 12 2025 (length room) ≡ Listed 4) × (walkRows (written trial t helper) 0 0 5 12 2025 room ≡ fridayRows ++ drop 40 room)
@@ -136,22 +136,22 @@ asked d k e l =
 
 module _ (t : List ℕ) (lent : length t ≡ 4096) (helper : ℕ) (enough : 84 ≤ helper) where
   pub friday-demand : Demand3 trial 0 ferry 0 (45994 - delivered trial .period .start) (walkOf (written trial t helper) 0 0 5 12 2025)
-  friday-demand = demand3 trial t helper 79 (week-accepted t lent helper enough) 0 0 5 12 2025 45994 ferry (asked 5 4 (days-are .0) (omega arith))
+  friday-demand = demand3 trial t helper 82 (week-accepted t lent helper enough) 0 0 5 12 2025 45994 ferry (asked 5 4 (days-are .0) (omega arith))
 
   pub saturday-demand : Demand3 trial 0 ferry 0 (45995 - delivered trial .period .start) (walkOf (written trial t helper) 0 0 6 12 2025)
-  saturday-demand = demand3 trial t helper 79 (week-accepted t lent helper enough) 0 0 6 12 2025 45995 ferry (asked 6 5 (days-are .1) (omega arith))
+  saturday-demand = demand3 trial t helper 82 (week-accepted t lent helper enough) 0 0 6 12 2025 45995 ferry (asked 6 5 (days-are .1) (omega arith))
 
   -- And of a walk on these days demand 3 allows no other answer and no other rows: not "not running" for all, nor rows left as lent.
   pub friday-only : (room : List ℕ) → 40 ≤ length room → {a : Walked} {v : List ℕ} → Walk (delivered trial) ferry 0 (45994 - delivered trial .period .start) room a v → (a ≡ Listed 4) × (v ≡ fridayRows ++ drop 40 room)
   friday-only room h x =
-      let w = demand3-rows trial t helper 79 (week-accepted t lent helper enough) 0 0 5 12 2025 45994 ferry (asked 5 4 (days-are .0) (omega arith)) room in
+      let w = demand3-rows trial t helper 82 (week-accepted t lent helper enough) 0 0 5 12 2025 45994 ferry (asked 5 4 (days-are .0) (omega arith)) room in
       let e = no-slack (delivered trial) ferry 0 (45994 - delivered trial .period .start) room x w in
       let f = friday t lent helper enough room h in
       (e .0 ∙ f .0, e .1 ∙ f .1)
 
   pub saturday-only : (room : List ℕ) → {a : Walked} {v : List ℕ} → Walk (delivered trial) ferry 0 (45995 - delivered trial .period .start) room a v → (a ≡ NotRunning) × (v ≡ room)
   saturday-only room x =
-      let w = demand3-rows trial t helper 79 (week-accepted t lent helper enough) 0 0 6 12 2025 45995 ferry (asked 6 5 (days-are .1) (omega arith)) room in
+      let w = demand3-rows trial t helper 82 (week-accepted t lent helper enough) 0 0 6 12 2025 45995 ferry (asked 6 5 (days-are .1) (omega arith)) room in
       let e = no-slack (delivered trial) ferry 0 (45995 - delivered trial .period .start) room x w in
       let f = saturday t lent helper enough room in
       (e .0 ∙ f .0, e .1 ∙ f .1)

@@ -1,3 +1,5 @@
 pub mod Trial
 pub mod Rows
 pub mod Names
+pub mod Classes
+pub mod Edges

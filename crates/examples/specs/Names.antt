@@ -31,7 +31,7 @@ cccc = line "7654321     CCCC$<12>$DDDD$<34>"
 
 -- the trial week with lines more in BAHNHOF
 abbrev pub withStops : List ℕ → Files
-withStops lines = record { eckdaten = trial .eckdaten; bitfeld = trial .bitfeld; bahnhof = trial .bahnhof ++ lines; umsteigb = trial .umsteigb; fplan = trial .fplan }
+withStops lines = record { eckdaten = trial .eckdaten; bitfeld = trial .bitfeld; bahnhof = trial .bahnhof ++ lines; umsteigb = trial .umsteigb; fplan = trial .fplan; zugart = trial .zugart }
 
 -- the three that are name lists
 abbrev pub three : Files

@@ -83,7 +83,7 @@ rows =
     -- "P FE4 and zeros answers 8": file 2, line 1
     ∷ row (answer (week trialPeriod (bitField "000001" "FE4") (categoryOverAll ++ daysOverAll))) (Refused 8 2 1 0 0)
     -- "P n = 1, D8 and zeros: never."
-    ∷ row (answer oneDay) (Accepted 79)
+    ∷ row (answer oneDay) (Accepted 82)
     ∷ row (days 1 oneDay) (Idle ∷ [])
     -- "P On R, to 1000022 is 3"
     ∷ row (ends (withCategory "*G BAT         1000022                                    %")) (3 ∷ [])
@@ -112,7 +112,7 @@ rows =
     (categoryOverAll
     ++ line "*A VE #0      #1                                          %"
     ++ line "*A VE #1      #3      000001                              %")))
-    (Accepted 82)
+    (Accepted 85)
     -- "P Times 2 and 3: classes 1, 1 give 2"; document 02, No. 2, in place of "classes 2, 2 give 3": "its marked case for classes 2, 2 change (now 2);
     -- classes 2, 3 give 3"
     ∷ row (interchangeAsked (tableWords (delivered trial)) 1000011 1 1) (Minutes 2)
@@ -123,19 +123,19 @@ rows =
     -- No. 13: "helper words are lent: 64, and four for each line of BITFELD, BAHNHOF and UMSTEIGB" (1, 3 and 1 lines): one too few, and enough; then
     -- with a line more of BITFELD, which is skipped and has no LF
     ∷ row (loaded trial 4096 83) (Refused 51 0 0 0 84)
-    ∷ row (loaded trial 4096 84) (Accepted 79)
+    ∷ row (loaded trial 4096 84) (Accepted 82)
     ∷ row (loaded (week trialPeriod (bitField "000001" "FE6" ++ bytes "% skipped") (categoryOverAll ++ daysOverAll)) 4096 87) (Refused 51 0 0 0 88)
     -- "51, directly after 1": before an offence of ECKDATEN's first line, and before 20
     ∷ row (loaded (week [] (bitField "000001" "FE6") (categoryOverAll ++ daysOverAll)) 4096 83) (Refused 51 0 0 0 84)
-    ∷ row (loaded trial 78 83) (Refused 51 0 0 0 84)
-    ∷ row (loaded trial 78 84) (Refused 20 0 0 0 79)
-    -- No. 5: "A blank field repeats the call before; the first call's blanks take the *Z values." 8 words of header, 26 of bit fields, 9 of stops, 3 of
-    -- the interchange record, and 12 + 28 + 3 + 6 of the service
-    ∷ row (answer changing) (Accepted 95)
+    ∷ row (loaded trial 81 83) (Refused 51 0 0 0 84)
+    ∷ row (loaded trial 81 84) (Refused 20 0 0 0 82)
+    -- No. 5: "A blank field repeats the call before; the first call's blanks take the *Z values." 9 words of header, 26 of bit fields, 9 of stops, 3 of
+    -- the interchange record, 2 of the category, and 12 + 28 + 3 + 6 of the service
+    ∷ row (answer changing) (Accepted 98)
     ∷ row (numbers changing) changingCalls
     ∷ row (walkOf (tableWords (delivered changing)) 0 0 5 12 2025) (listed changingRows)
     -- No. 8: 5.3.3's example "0240 0450" has runs 0 to 32; run 1 is 8 minutes late, run 3 is 23, run 32 is 240, and run 33 answers 25
-    ∷ row (answer dial) (Accepted 79)
+    ∷ row (answer dial) (Accepted 82)
     ∷ row (map (leaves dial) (0 ∷ 1 ∷ 3 ∷ 32 ∷ [])) (480 ∷ 488 ∷ 503 ∷ 720 ∷ [])
     ∷ row (walkOf (tableWords (delivered dial)) 0 33 5 12 2025) (refused 25)
     -- "the *Z values of No. 5, may be a *T's" (80_ is 38 30 5F and ___ 5F 5F 5F in hex)

@@ -1,5 +1,5 @@
 -- The trial week of document 01: "Period 01.12.2025 to 07.12.2025, name "Trial week"; bit field 000001 FE6; three stops of R; one record 9999999, 2, 3;
--- service 00042 FERRY_, *G BAT and *A VE 000001 over all, R." Its parts are named, so that the checked examples can change one of them.
+-- service 00042 FERRY_, *G BAT and *A VE 000001 over all, R." By document 02's No. 1 a ZUGART that lists BAT. Its parts are named, so that the checked examples can change one of them.
 -- Assumes nothing.
 use Prim.Native.Nat.{ℕ}
 use Prim.Native.String.{String}
@@ -20,6 +20,13 @@ routeR =
     ++ line "1000033                       00830  00835                %"
     ++ line "1000022                       00855                       %"
 
+-- the line that opens the one service, and ZUGART's one line
+abbrev pub opening : List ℕ
+opening = line "*Z 00042 FERRY_                                           %"
+
+abbrev pub bat : List ℕ
+bat = line "BAT  4   0 BAT      0 B"
+
 -- ECKDATEN, BITFELD, the range lines and the route of the one service, in the place of the trial week's
 unfoldable pub weekAlong : List ℕ → List ℕ → List ℕ → List ℕ → Files
 weekAlong eckdaten bitfeld ranges route = record {
@@ -27,7 +34,8 @@ weekAlong eckdaten bitfeld ranges route = record {
   bitfeld = bitfeld;
   bahnhof = line "1000011     Quay A" ++ line "1000022     Quay B" ++ line "1000033     Quay C";
   umsteigb = line "9999999  2  3";
-  fplan = line "*Z 00042 FERRY_                                           %" ++ ranges ++ route;
+  fplan = opening ++ ranges ++ route;
+  zugart = bat;
 }
 
 abbrev pub week : List ℕ → List ℕ → List ℕ → Files
@@ -97,10 +105,13 @@ changingRows =
     ∷ 1000022 ∷ 535 ∷ 0 ∷ 1 ∷ 43 ∷ 4345665 ∷ 5529439 ∷ 0 ∷ 2 ∷ 3
     ∷ []
 
--- ---- document 02, No. 8: the trial week with another FPLAN
+-- ---- document 02, No. 1 and No. 8: the trial week with another FPLAN and ZUGART, or FPLAN alone
 
-unfoldable pub planned : List ℕ → Files
-planned fplan = record { eckdaten = trial .eckdaten; bitfeld = trial .bitfeld; bahnhof = trial .bahnhof; umsteigb = trial .umsteigb; fplan = fplan }
+unfoldable pub plannedListing : List ℕ → List ℕ → Files
+plannedListing fplan zugart = record { eckdaten = trial .eckdaten; bitfeld = trial .bitfeld; bahnhof = trial .bahnhof; umsteigb = trial .umsteigb; fplan = fplan; zugart = zugart }
+
+abbrev pub planned : List ℕ → Files
+planned fplan = plannedListing fplan (trial .zugart)
 
 -- R, its first line this one
 abbrev pub openedBy : String → Files

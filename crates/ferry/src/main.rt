@@ -1,6 +1,7 @@
-// The program: reads the five files by name from its directory, up to 8,192 bytes each, loads them into a table of 4,096 words, and says what came of it.
+// The program: reads the six files by name from its directory, up to 8,192 bytes each, loads them into a table of 4,096 words, and says what came of it.
 use libc::STDOUT_FILENO;
 use timetable::BIT_FIELDS_AT;
+use timetable::CLASSES_AT;
 use timetable::HELPER_HEAD_WORDS;
 use timetable::HELPER_LINE_WORDS;
 use timetable::INTERCHANGES_AT;
@@ -26,17 +27,20 @@ fn main() {
     let mut bahnhof = room();
     let mut umsteigb = room();
     let mut fplan = room();
+    let mut zugart = room();
     let eckdaten_bytes = read_named(b"ECKDATEN", &mut eckdaten);
     let bitfeld_bytes = read_named(b"BITFELD", &mut bitfeld);
     let bahnhof_bytes = read_named(b"BAHNHOF", &mut bahnhof);
     let umsteigb_bytes = read_named(b"UMSTEIGB", &mut umsteigb);
     let fplan_bytes = read_named(b"FPLAN", &mut fplan);
+    let zugart_bytes = read_named(b"ZUGART", &mut zugart);
     let unread = first_unread(
         eckdaten_bytes,
         bitfeld_bytes,
         bahnhof_bytes,
         umsteigb_bytes,
         fplan_bytes,
+        zugart_bytes,
     );
     if unread != 0 {
         say(b"unread file ", unread);
@@ -51,6 +55,7 @@ fn main() {
         &bahnhof[..bahnhof_bytes],
         &umsteigb[..umsteigb_bytes],
         &fplan[..fplan_bytes],
+        &zugart[..zugart_bytes],
         &mut table,
         &mut helper,
     );
@@ -101,6 +106,7 @@ fn first_unread(
     bahnhof: usize,
     umsteigb: usize,
     fplan: usize,
+    zugart: usize,
 ) -> u32 {
     if eckdaten == ROOM_BYTES {
         return 1;
@@ -117,6 +123,9 @@ fn first_unread(
     if fplan == ROOM_BYTES {
         return 5;
     }
+    if zugart == ROOM_BYTES {
+        return 6;
+    }
     0
 }
 
@@ -129,6 +138,7 @@ fn tell(answer: Loaded, table: &[u32; TABLE_WORDS]) {
             say(b" bitfields ", table[BIT_FIELDS_AT]);
             say(b" stops ", table[STOPS_AT]);
             say(b" interchange ", table[INTERCHANGES_AT]);
+            say(b" categories ", table[CLASSES_AT]);
             say(b" services ", table[SERVICES_AT]);
             say(b" words ", used);
         }

@@ -16,7 +16,7 @@ use Rattle.forms.specs.declared.Kind.the-variants.{Opening, Frequency, C
 use Rattle.forms.specs.Kinds.{kindOf}
 use Rattle.forms.specs.Form.{strayFrom, unnamed, rowForm, formFrom, formOf}
 use Rattle.forms.proofs.Laws.{row-holds}
-use Rattle.forms.specs.Columns.{dateColumns, bitFieldColumns, stopColumns, interchangeColumns, serviceColumns, frequencyColumns, categoryColumns, attributeColumns, callColumns}
+use Rattle.forms.specs.Columns.{dateColumns, bitFieldColumns, stopColumns, interchangeColumns, classColumns, serviceColumns, frequencyColumns, categoryColumns, attributeColumns, callColumns}
 
 abbrev pub kinds : List (Case Kind)
 kinds =
@@ -78,6 +78,35 @@ interchanges =
     ∷ "9999999  2" ⇒ Broken 12
     ∷ "9999999  2 3 " ⇒ Broken 12
     ∷ "9999999  2  3x" ⇒ Broken 14
+    ∷ []
+
+-- 001, 5.5's example in its columns (printed with single blanks) and as it is printed; 5.5.1's lines
+abbrev pub classes : List (Case Form)
+classes =
+    "N    3 A 0 N        0 N Nahverkehrs zug" ⇒ Fits
+    ∷ "BAT 13   7          2 B" ⇒ Fits
+    ∷ "ICE 00 H 0 -        1" ⇒ Fits
+    ∷ "N 3 A 0 N 0 N Nahverkehrs zug" ⇒ Broken 5
+    ∷ "<text>" ⇒ Broken 4
+    ∷ "<German>" ⇒ Broken 4
+    ∷ "class00 Ferries" ⇒ Broken 4
+    ∷ "option00 Boats only" ⇒ Broken 4
+    ∷ "tariff00 Quay" ⇒ Broken 4
+    ∷ "category001 Ferry" ⇒ Broken 4
+    ∷ " AT  3 A 0 N        0 N" ⇒ Broken 1
+    ∷ "BATx 3 A 0 N        0 N" ⇒ Broken 4
+    ∷ "BAT 14 A 0 N        0 N" ⇒ Broken 5
+    ∷ "BAT    A 0 N        0 N" ⇒ Broken 5
+    ∷ "BAT  3xA 0 N        0 N" ⇒ Broken 7
+    ∷ "BAT  3 I 0 N        0 N" ⇒ Broken 8
+    ∷ "BAT  3 a 0 N        0 N" ⇒ Broken 8
+    ∷ "BAT  3 @ 0 N        0 N" ⇒ Broken 8
+    ∷ "BAT  3 A 8 N        0 N" ⇒ Broken 10
+    ∷ "BAT  3 A   N        0 N" ⇒ Broken 10
+    ∷ "BAT  3 A 0 N        3 N" ⇒ Broken 21
+    ∷ "BAT  3 A 0 N          N" ⇒ Broken 21
+    ∷ "BAT  3 A 0 N        0 X" ⇒ Broken 23
+    ∷ "BAT  3 A 0 N        0 Nx" ⇒ Broken 24
     ∷ []
 
 abbrev pub services : List (Case Form)
@@ -157,13 +186,14 @@ pub worked :
     × Says (formOf bitFieldColumns) bitFields
     × Says (formOf stopColumns) stops
     × Says (formOf interchangeColumns) interchanges
+    × Says (formOf classColumns) classes
     × Says (formOf serviceColumns) services
     × Says (formOf frequencyColumns) frequencies
     × Says (formOf categoryColumns) categories
     × Says (formOf attributeColumns) attributes
     × Says (formOf callColumns) calls
 unfolding bytes every kindOf strayFrom unnamed rowForm formFrom C.padTo C.columns C.count C.numberFrom F.hashDigits F.hash F.timeIn F.rangeEndIn F.detailIn
-worked = (refl, refl, refl, refl, refl, refl, refl, refl, refl, refl)
+worked = (refl, refl, refl, refl, refl, refl, refl, refl, refl, refl, refl)
 
 -- a use of `row-holds`: the number of a stop's line is digits
 pub stop-number : (line : List ℕ) → formOf stopColumns line ≡ Fits → C.digits (C.columns 1 7 line) ≡ true

@@ -16,7 +16,7 @@ use Rattle.columns.specs.Columns as C
 use Rattle.forms.specs.declared.Form.{Form}
 use Rattle.forms.specs.declared.Form.the-variants.{Fits, Broken}
 use Rattle.forms.specs.declared.LineKind.{LineKind}
-use Rattle.forms.specs.declared.LineKind.the-variants.{Date, BitField, Stop, Interchange, Opening, Frequency, Category, Attribute, Schedule}
+use Rattle.forms.specs.declared.LineKind.the-variants.{Date, BitField, Stop, Interchange, CategoryClass, Opening, Frequency, Category, Attribute, Schedule}
 use Rattle.forms.specs.Form.{Row, before, strayFrom, unnamed, named, rowForm, formFrom, formOf}
 use Rattle.forms.specs.Columns.{columnsOf}
 use Rattle.forms.specs.Leftmost.{FieldBreaks, here, there, Stray, Breaks, field, stray, Leftmost}
@@ -206,6 +206,7 @@ in-order Date = refl
 in-order BitField = refl
 in-order Stop = refl
 in-order Interchange = refl
+in-order CategoryClass = refl
 in-order Opening = refl
 in-order Frequency = refl
 in-order Category = refl

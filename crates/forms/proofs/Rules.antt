@@ -6,7 +6,7 @@ use Prim.Native.Nat.{ℕ, zero, suc, _+_, _-_, _≤_, _<_}
 use native.Mathlib.Omega.{arith}
 use lib.ListN.{getD, take, drop}
 use lib.Seq.{take-nil, drop-nil}
-use lib.Dec.{eqb}
+use lib.Dec.{leb, eqb}
 use borrow.Author.Tests.{ne-eqb, le-leb, lt-leb}
 use Rattle.base.specs.Lists.{every}
 use Rattle.base.proofs.Laws.{tests}
@@ -21,7 +21,7 @@ use Rattle.fields.specs.declared.Detail.{Detail}
 use Rattle.forms.specs.declared.Kind.{Kind}
 use Rattle.forms.specs.declared.Kind.the-variants.{Schedule, Other}
 use Rattle.forms.specs.Kinds.{starred, kindOf}
-use Rattle.forms.specs.Form.{date, isTime, time, isEnd, rangeEnd, isStop, isDetail, detailOf, offsetOf, fromOne}
+use Rattle.forms.specs.Form.{date, isTime, time, isEnd, rangeEnd, isStop, isDetail, detailOf, offsetOf, fromOne, orBlank, letterTo, transportFlag}
 
 -- ---- one field
 
@@ -60,11 +60,25 @@ module _ (q line : List ℕ) (a b : ℕ) (e : q ≡ take (b - (a - 1)) (drop (a 
   unfolding C.columns
   same-columns i j = rw e (columns-again (j - (i - 1)) (b - (a - 1)) (i - 1) (drop (a - 1) line))
 
-  pub first-filled : (x : ℕ) → x ≡ getD q 0 32 → not (eqb x 32) ≡ not (isBlank (getD (C.columns a b line) 0 32))
-  first-filled x d = rw (d, same-place 0)
+  pub first-byte : (x : ℕ) → x ≡ getD q 0 32 → x ≡ getD (C.columns a b line) 0 32
+  first-byte x d = d ∙ same-place 0
 
   pub date-part : (r : Bool) → r ≡ date q q → r ≡ date line (C.columns a b line)
   date-part r d = rw (d, same-columns 1 2, same-place 2, same-columns 4 5, same-place 5, same-columns 7 10)
+
+pub first-filled : (p : List ℕ) (x : ℕ) → x ≡ getD p 0 32 → not (eqb x 32) ≡ not (isBlank (getD p 0 32))
+first-filled p x d = rw d
+
+-- t: whether the column is blank; x: its byte
+module _ (line p : List ℕ) (t : Bool) (x : ℕ) (et : t ≡ every (isOf (Byte 32)) p) (h : t ≡ false) (ex : x ≡ getD p 0 32) where
+  pub letter-low : (m : ℕ) → x < 65 → false ≡ orBlank (letterTo m) line p
+  letter-low m k = or-other p _ t et false h (rw (← ex, lt-leb 65 x k))
+
+  pub letter-to : (m : ℕ) → 65 ≤ x → leb x m ≡ orBlank (letterTo m) line p
+  letter-to m k = or-other p _ t et _ h (rw (← ex, le-leb 65 x k))
+
+  pub flag-read : (u : Bool) → u ≡ (eqb x 78 || (eqb x 66 || eqb x 70)) → u ≡ orBlank transportFlag line p
+  flag-read u d = or-other p _ t et u h (rw (← ex) d)
 
 module _ (p : List ℕ) (t : Bool) (et : t ≡ every (isOf Digit) (C.columns 1 2 p)) where
   day : C.digits (C.columns 1 2 p) ≡ t
@@ -143,7 +157,9 @@ module _ (line p : List ℕ) (t : Bool) (et : t ≡ every (isOf Digit) p) where
   pub from-one : (y : Bool) → t ≡ true → y ≡ every (isOf (Byte 48)) p → not y ≡ fromOne line p
   from-one y h d = rw (are-digits, h, d)
 
-pub ruleset rules = (tests, from-one-bad, from-one, or-blank, or-other, first-filled, date-part, time-rule, end-rule, detail-unread, detail-read, offset-blank, offset-bad, offset-any, offset-some)
+pub ruleset rules = (tests, from-one-bad, from-one, or-blank, or-other, first-byte, first-filled, date-part, time-rule, end-rule, detail-unread, detail-read, offset-blank, offset-bad, offset-any, offset-some)
+
+pub ruleset letters = (tests, or-blank, letter-low, letter-to, flag-read)
 
 pub ruleset dates = (tests, date-day, date-dot, date-month, date-second-dot, date-year)
 

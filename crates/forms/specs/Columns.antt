@@ -2,8 +2,8 @@
 -- Assumes nothing.
 use mathlib.Core.List.{List, [], _∷_}
 use Rattle.forms.specs.declared.LineKind.{LineKind}
-use Rattle.forms.specs.declared.LineKind.the-variants.{Date, BitField, Stop, Interchange, Opening, Frequency, Category, Attribute, Schedule}
-use Rattle.forms.specs.Form.{Row, columns, column, fromColumn, free, digits, hexDigits, nonBlank, byte, orBlank, notAllBlank, firstNotBlank, count, date, time, rangeEnd, detailOf, offsetOf, fromOne}
+use Rattle.forms.specs.declared.LineKind.the-variants.{Date, BitField, Stop, Interchange, CategoryClass, Opening, Frequency, Category, Attribute, Schedule}
+use Rattle.forms.specs.Form.{Row, columns, column, fromColumn, free, digits, hexDigits, nonBlank, byte, orBlank, notAllBlank, firstNotBlank, count, date, time, rangeEnd, detailOf, offsetOf, fromOne, letterTo, transportFlag}
 
 -- "1 ECKDATEN, lines 1, 2: 1-10 DD.MM.YYYY, rest free"
 abbrev pub dateColumns : List Row
@@ -35,6 +35,21 @@ interchangeColumns =
     ∷ columns 9 10 (count 60)
     ∷ columns 12 13 (count 99)
     ∷ fromColumn 15 free
+    ∷ []
+
+-- document 02, No. 1, "the sixth file by section 5.5: code 1-3 (column 1 not blank), class 5-6 (count to 13), tariff group 8 (A to H or blank), output
+-- control 10 (0 to 7), output text 12-19 (any), supplement 21 (0 to 2), flag 23 (N, B, F or blank), and from 25 free" (H is byte 72; a count of one column is
+-- a digit). "Section 5.5.1's extra lines answer 4": by their own columns.
+abbrev pub classColumns : List Row
+classColumns =
+    columns 1 3 firstNotBlank
+    ∷ columns 5 6 (count 13)
+    ∷ column 8 (orBlank (letterTo 72))
+    ∷ column 10 (count 7)
+    ∷ columns 12 19 free
+    ∷ column 21 (count 2)
+    ∷ column 23 (orBlank transportFlag)
+    ∷ fromColumn 25 free
     ∷ []
 
 -- "5 FPLAN *Z: 4-8 digits, 10-15 six non-blank bytes, 23-25 repeats and 27-29 offset: digits, both or neither blank"
@@ -110,6 +125,7 @@ columnsOf Date = dateColumns
 columnsOf BitField = bitFieldColumns
 columnsOf Stop = stopColumns
 columnsOf Interchange = interchangeColumns
+columnsOf CategoryClass = classColumns
 columnsOf Opening = serviceColumns
 columnsOf Frequency = frequencyColumns
 columnsOf Category = categoryColumns

@@ -4,7 +4,7 @@ use Prim.Native.Nat.{ℕ, zero, suc, _+_, _-_}
 use mathlib.Core.List.{List, [], _∷_}
 use mathlib.Core.Bool.{Bool, true, false, cond, not, _&&_, _||_}
 use lib.ListN.{length, getD, drop}
-use lib.Dec.{eqb}
+use lib.Dec.{leb, eqb}
 use Rattle.base.specs.Lists.{every}
 use Rattle.columns.specs.Columns as C
 use Rattle.fields.specs.Fields as F
@@ -100,6 +100,14 @@ offsetOf c line p =
 -- digits that say at least 1: not all of them are "0" (byte 48)
 abbrev pub fromOne : Rule
 fromOne line p = C.digits p && not (byte 48 line p)
+
+-- of one column, "A to H": a letter from "A" (byte 65) to m
+abbrev pub letterTo : ℕ → Rule
+letterTo m line p = leb 65 (getD p 0 32) && leb (getD p 0 32) m
+
+-- of one column, "N, B, F": bytes 78, 66 and 70
+abbrev pub transportFlag : Rule
+transportFlag line p = eqb (getD p 0 32) 78 || (eqb (getD p 0 32) 66 || eqb (getD p 0 32) 70)
 
 -- ---- the form that a list of rules says
 

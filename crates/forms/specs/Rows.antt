@@ -5,7 +5,7 @@ use Prim.Native.Nat.{ℕ, _/_, _%_}
 use mathlib.Core.List.{List, [], _∷_}
 use mathlib.Core.Bool.{cond}
 use lib.Dec.{eqb}
-use Rattle.forms.specs.Form.{Rule, Row, columns, free, digits, hexDigits, nonBlank, byte, orBlank, notAllBlank, firstNotBlank, count, date, time, rangeEnd, detailOf, offsetOf, fromOne}
+use Rattle.forms.specs.Form.{Rule, Row, columns, free, digits, hexDigits, nonBlank, byte, orBlank, notAllBlank, firstNotBlank, count, date, time, rangeEnd, detailOf, offsetOf, fromOne, letterTo, transportFlag}
 
 unfoldable pub ruleOf : ℕ → ℕ → Rule
 ruleOf k m line p =
@@ -25,7 +25,9 @@ ruleOf k m line p =
     (cond (eqb k 13) (offsetOf m line p)
     (cond (eqb k 14) (orBlank (byte m) line p)
     (cond (eqb k 15) (fromOne line p)
-    (byte m line p))))))))))))))))
+    (cond (eqb k 16) (orBlank (letterTo m) line p)
+    (cond (eqb k 17) (orBlank transportFlag line p)
+    (byte m line p))))))))))))))))))
 
 abbrev pub fromOf : ℕ → ℕ
 fromOf x = x / 281474976710656

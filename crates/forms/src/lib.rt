@@ -8,10 +8,11 @@ ghost use mathlib.Core.Path.{_≡_};
 ghost use mathlib.Core.Bool.{true, not, _||_};
 ghost use Prim.Native.Nat.{_-_, _<_};
 ghost use lib.ListN.{getD};
+ghost use lib.Dec.{eqb};
 ghost use Rattle.base.specs.Lists.{every};
 ghost use Rattle.columns.specs.Columns as C;
 ghost use Rattle.columns.specs.Columns.{isOf, isBlank, blank};
-ghost use Rattle.forms.specs.Form.{date, isTime, isEnd, isStop, isDetail, detailOf, offsetOf, fromOne, unnamed, rowForm, formOf};
+ghost use Rattle.forms.specs.Form.{date, isTime, isEnd, isStop, isDetail, detailOf, offsetOf, fromOne, orBlank, letterTo, transportFlag, unnamed, rowForm, formOf};
 ghost use Rattle.forms.specs.Rows.{ruleOf, toOf, rowOf, rowsOf};
 ghost use Rattle.forms.specs.Columns.{bitFieldColumns, stopColumns, interchangeColumns, columnsOf};
 ghost use Rattle.forms.specs.declared.Form.the-variants.{Fits};
@@ -34,6 +35,7 @@ pub enum LineKind {
     BitField,
     Stop,
     Interchange,
+    CategoryClass,
     Opening,
     Frequency,
     Category,
@@ -98,8 +100,13 @@ const BYTE_OR_BLANK: u64 = 14;
 // at least 1
 const DIGITS_FROM_ONE: u64 = 15;
 
+// with the highest letter
+const LETTER_OR_BLANK: u64 = 16;
+
+const FLAG_OR_BLANK: u64 = 17;
+
 // with the byte
-const BYTE: u64 = 16;
+const BYTE: u64 = 18;
 
 const DATE_LINE: [u64; 2] = [1 * FROM + 10 * TO + DATE, 11 * FROM + END + FREE];
 
@@ -117,6 +124,17 @@ const INTERCHANGE: [u64; 4] = [
     9 * FROM + 10 * TO + COUNT + 60 * WITH,
     12 * FROM + 13 * TO + COUNT + 99 * WITH,
     15 * FROM + END + FREE,
+];
+
+const CATEGORY_CLASS: [u64; 8] = [
+    1 * FROM + 3 * TO + FIRST_NOT_BLANK,
+    5 * FROM + 6 * TO + COUNT + 13 * WITH,
+    8 * FROM + 8 * TO + LETTER_OR_BLANK + b'H' as u64 * WITH,
+    10 * FROM + 10 * TO + COUNT + 7 * WITH,
+    12 * FROM + 19 * TO + FREE,
+    21 * FROM + 21 * TO + COUNT + 2 * WITH,
+    23 * FROM + 23 * TO + FLAG_OR_BLANK,
+    25 * FROM + END + FREE,
 ];
 
 const SERVICE: [u64; 7] = [
@@ -224,6 +242,7 @@ fn tabled_form(kind: LineKind, line: &[u8]) -> Form
         LineKind::BitField => form_of(line, &BIT_FIELD),
         LineKind::Stop => form_of(line, &STOP),
         LineKind::Interchange => form_of(line, &INTERCHANGE),
+        LineKind::CategoryClass => form_of(line, &CATEGORY_CLASS),
         LineKind::Opening => form_of(line, &SERVICE),
         LineKind::Frequency => form_of(line, &FREQUENCY),
         LineKind::Category => form_of(line, &CATEGORY),
@@ -244,6 +263,7 @@ fn usual_form(kind: LineKind, line: &[u8]) -> bool
         LineKind::BitField => usual_bit_field(line),
         LineKind::Stop => usual_stop(line),
         LineKind::Interchange => usual_interchange(line),
+        LineKind::CategoryClass => false,
         LineKind::Opening => false,
         LineKind::Frequency => false,
         LineKind::Category => false,
@@ -441,6 +461,8 @@ fn fits_rule(line: &[u8], a: usize, b: usize, k: u64, m: u32) -> bool
         OFFSET_OF => fits_offset(line, a, b, m),
         BYTE_OR_BLANK => blank_or(line, a, b, Class::Byte(m as u8)),
         DIGITS_FROM_ONE => fits_from_one(line, a, b),
+        LETTER_OR_BLANK => letter_or_blank(line, a, b, m),
+        FLAG_OR_BLANK => flag_or_blank(line, a, b),
         // BYTE
         _ => columns::every_in(line, a, b, Class::Byte(m as u8)),
     }
@@ -460,7 +482,50 @@ fn blank_or(line: &[u8], a: usize, b: usize, class: Class) -> bool
 pub fn first_filled(line: &[u8], a: usize, b: usize) -> bool
     ensures { λ r. ⌜ r ≡ not (C.isBlank (getD (C.columns a b (now (line .entry))) 0 32)) ⌝ }
 {
-    columns::byte_at(columns::part(line, a, b), 0) != b' '
+    first_byte(line, a, b) != b' '
+}
+
+// The first of the columns.
+fn first_byte(line: &[u8], a: usize, b: usize) -> u8
+    ensures { λ r. ⌜ r ≡ getD (C.columns a b (now (line .entry))) 0 32 ⌝ }
+{
+    columns::byte_at(columns::part(line, a, b), 0)
+}
+
+// Whether the column is blank, or a letter from "A" to m.
+fn letter_or_blank(line: &[u8], a: usize, b: usize, m: u32) -> bool
+    ensures { λ r. ⌜ r ≡ orBlank (letterTo m) (now (line .entry)) (C.columns a b (now (line .entry))) ⌝ }
+{
+    if columns::every_in(line, a, b, Class::Byte(b' ')) {
+        return true;
+    }
+    let x = first_byte(line, a, b);
+    if x < b'A' {
+        return false;
+    }
+    x as u32 <= m
+}
+
+// Whether the column is blank, or "N", "B" or "F".
+fn flag_or_blank(line: &[u8], a: usize, b: usize) -> bool
+    ensures { λ r. ⌜ r ≡ orBlank transportFlag (now (line .entry)) (C.columns a b (now (line .entry))) ⌝ }
+{
+    if columns::every_in(line, a, b, Class::Byte(b' ')) {
+        return true;
+    }
+    is_flag(first_byte(line, a, b))
+}
+
+fn is_flag(x: u8) -> bool
+    ensures { λ r. ⌜ r ≡ (eqb x 78 || (eqb x 66 || eqb x 70)) ⌝ }
+{
+    if x == b'N' {
+        return true;
+    }
+    if x == b'B' {
+        return true;
+    }
+    x == b'F'
 }
 
 fn fits_date(line: &[u8], a: usize, b: usize) -> bool

@@ -14,7 +14,7 @@ use Rattle.words.specs.Words.{write}
 use Rattle.words.proofs.Laws.{write-front}
 use Rattle.timetable.specs.Layout.{headerSize}
 use Rattle.timetable.specs.Delivery.{Files, filesOf, Delivery}
-use Rattle.timetable.specs.Files.{periodIn, bitFieldsIn, stopsIn}
+use Rattle.timetable.specs.Files.{periodIn, bitFieldsIn, stopsIn, classesIn}
 use Rattle.timetable.specs.Service.{blocks}
 use Rattle.timetable.specs.Checks.{headFirst}
 use Rattle.timetable.specs.Table.{tableWords}
@@ -34,19 +34,19 @@ use Rattle.load.proofs.Table.{words-needed, words-used, table-is}
 use Rattle.load.proofs.Files.{too-long, none-too-long, all-short, plan-none}
 use Rattle.load.proofs.Helper.{room-small}
 
-module _ (e b s u p : List ℕ) (n : ℕ) (k : n ≡ longIn (length e) (length b) (length s) (length u) (length p)) where
+module _ (e b s u p z : List ℕ) (n : ℕ) (k : n ≡ longIn (length e) (length b) (length s) (length u) (length z) (length p)) where
   abbrev files : Files
-  files = filesOf e b s u p
+  files = filesOf e b s u p z
 
   abbrev whole : Delivery
   whole = delivered files
 
   -- ---- 1
 
-  module _ (z : n ≡ 0 → ⊥) (t h : List ℕ) where
+  module _ (y : n ≡ 0 → ⊥) (t h : List ℕ) where
     pub long-refused : LoadRefused 1 n 0 0 0 ≡ loaded files (length t) (length h)
     unfolding loaded
-    long-refused = rw (too-long e b s u p n k z) refl
+    long-refused = rw (too-long e b s u p z n k y) refl
 
     pub long-table : t ≡ written files t (length h)
     unfolding written
@@ -54,22 +54,22 @@ module _ (e b s u p : List ℕ) (n : ℕ) (k : n ≡ longIn (length e) (length b
 
     pub long-helper : h ≡ helped files h
     unfolding helped
-    long-helper = rw (too-long e b s u p n k z) refl
+    long-helper = rw (too-long e b s u p z n k y) refl
 
-  module _ (z : n ≡ 0) (r : Room) (q : r ≡ roomOf b s u) where
+  module _ (y : n ≡ 0) (r : Room) (q : r ≡ roomOf b s u) where
     words-are : r .words ≡ helperNeeded files
     unfolding helperNeeded
     words-are = ap (λ (x : Room). x .words) q
 
     pub words-fit : r .words < 4294967296
-    words-fit = room-small b s u r q (all-short e b s u p n k z .bitfeld) (all-short e b s u p n k z .bahnhof) (all-short e b s u p n k z .umsteigb)
+    words-fit = room-small b s u r q (all-short e b s u p z n k y .bitfeld) (all-short e b s u p z n k y .bahnhof) (all-short e b s u p z n k y .umsteigb)
 
     -- ---- 51
 
     module _ (t h : List ℕ) (l : length h < r .words) where
       pub few-refused : LoadRefused 51 0 0 0 (r .words) ≡ loaded files (length t) (length h)
       unfolding loaded
-      few-refused = rw (none-too-long e b s u p n k z, ← words-are, lt-ltb (length h) (r .words) l) refl
+      few-refused = rw (none-too-long e b s u p z n k y, ← words-are, lt-ltb (length h) (r .words) l) refl
 
       pub few-table : t ≡ written files t (length h)
       unfolding written
@@ -77,24 +77,24 @@ module _ (e b s u p : List ℕ) (n : ℕ) (k : n ≡ longIn (length e) (length b
 
       pub few-helper : h ≡ helped files h
       unfolding helped
-      few-helper = rw (none-too-long e b s u p n k z, ← words-are, lt-ltb (length h) (r .words) l) refl
+      few-helper = rw (none-too-long e b s u p z n k y, ← words-are, lt-ltb (length h) (r .words) l) refl
 
     module _ (h : List ℕ) (l : r .words ≤ length h) where
       -- ---- the helper words: h′ is left
       pub zeros-left : (h′ : List ℕ) → h′ ≡ replicate (r .words) 0 ++ drop (r .words) h → h′ ≡ helped files h
       unfolding helped onto
-      zeros-left h′ v = v ∙ rw (none-too-long e b s u p n k z, ← words-are, le-ltb (length h) (r .words) l, length-replicate {A = ℕ} (r .words) 0) refl
+      zeros-left h′ v = v ∙ rw (none-too-long e b s u p z n k y, ← words-are, le-ltb (length h) (r .words) l, length-replicate {A = ℕ} (r .words) 0) refl
 
       later : (room : ℕ) → loaded files room (length h) ≡ refusedOr (contentOffence files) (shortOr 20 room (length (tableWords whole)) (Accepted (length (tableWords whole))))
       unfolding loaded
-      later room = rw (none-too-long e b s u p n k z, ← words-are, le-ltb (length h) (r .words) l) refl
+      later room = rw (none-too-long e b s u p z n k y, ← words-are, le-ltb (length h) (r .words) l) refl
 
       module _ (d : Delivered) (v : d ≡ deliveredBy (contentOffence files) (headerOf whole)) where
         -- ---- an offence
 
-        module _ (file : ℕ) (o : Offence) (y : d ≡ Refused file o) where
+        module _ (file : ℕ) (o : Offence) (x : d ≡ Refused file o) where
           offence-is : contentOffence files ≡ some (record { file = file; offence = o })
-          offence-is = go (contentOffence files) (sym v ∙ y)
+          offence-is = go (contentOffence files) (sym v ∙ x)
             where
               go : (w : Option Where) → deliveredBy w (headerOf whole) ≡ Refused file o → w ≡ some (record { file = file; offence = o })
               go none v = apart (cc)
@@ -109,25 +109,25 @@ module _ (e b s u p : List ℕ) (n : ℕ) (k : n ≡ longIn (length e) (length b
 
         -- ---- none: g is the header
 
-        module _ (g : Header) (y : d ≡ Holds g) where
+        module _ (g : Header) (x : d ≡ Holds g) where
           clean : (contentOffence files ≡ none) × (headerOf whole ≡ g)
-          clean = go (contentOffence files) (sym v ∙ y)
+          clean = go (contentOffence files) (sym v ∙ x)
             where
               go : (w : Option Where) → deliveredBy w (headerOf whole) ≡ Holds g → (w ≡ none) × (headerOf whole ≡ g)
               go none v = (refl, cc)
               go (some w) v = apart (cc)
 
           pub none-stray : headFirst (linesOf p) ≡ none
-          none-stray = head-none (bitFieldsIn b) (stopsIn s) (periodIn (linesOf e) .days) (linesOf p) (plan-none e b s u p (clean .0))
+          none-stray = head-none (bitFieldsIn b) (stopsIn s) (classesIn z) (periodIn (linesOf e) .days) (linesOf p) (plan-none e b s u p z (clean .0))
 
           pub none-over : withinLimits (blocks (linesOf p)) ≡ true
-          none-over = plan-within (bitFieldsIn b) (stopsIn s) (periodIn (linesOf e) .days) (linesOf p) (plan-none e b s u p (clean .0))
+          none-over = plan-within (bitFieldsIn b) (stopsIn s) (classesIn z) (periodIn (linesOf e) .days) (linesOf p) (plan-none e b s u p z (clean .0))
 
-          words-known : g .words ≡ headerSize + length (bodyWords b s u p)
-          words-known = ap (λ (x : Header). x .words) (sym (clean .1)) ∙ words-needed e b s u p
+          words-known : g .words ≡ headerSize + length (bodyWords b s u z p)
+          words-known = ap (λ (x : Header). x .words) (sym (clean .1)) ∙ words-needed e b s u p z
 
           size-is : length (tableWords whole) ≡ g .words
-          size-is = words-used e b s u p ∙ ap (λ (x : Header). x .words) (clean .1)
+          size-is = words-used e b s u p z ∙ ap (λ (x : Header). x .words) (clean .1)
 
           module _ (t : List ℕ) where
             -- 20
@@ -140,16 +140,16 @@ module _ (e b s u p : List ℕ) (n : ℕ) (k : n ≡ longIn (length e) (length b
 
             -- room for all
             module _ (m : g .words ≤ length t) where
-              pub room-enough : headerSize + length (bodyWords b s u p) ≤ length t
+              pub room-enough : headerSize + length (bodyWords b s u z p) ≤ length t
               room-enough = omega (arith, words-known)
 
               pub accepted : Accepted (g .words) ≡ loaded files (length t) (length h)
               accepted = rw (later (length t), clean .0, size-is, le-ltb (length t) (g .words) m) refl
 
-              pub filled : (t′ : List ℕ) → t′ ≡ write t 0 (headerWords g ++ bodyWords b s u p) → t′ ≡ written files t (length h)
+              pub filled : (t′ : List ℕ) → t′ ≡ write t 0 (headerWords g ++ bodyWords b s u z p) → t′ ≡ written files t (length h)
               unfolding written onto
               filled t′ v =
-                  let w : headerWords g ++ bodyWords b s u p ≡ tableWords whole = sym (table-is e b s u p ∙ ap (λ (x : Header). headerWords x ++ bodyWords b s u p) (clean .1)) in
+                  let w : headerWords g ++ bodyWords b s u z p ≡ tableWords whole = sym (table-is e b s u p z ∙ ap (λ (x : Header). headerWords x ++ bodyWords b s u z p) (clean .1)) in
                   v ∙ rw (← accepted, w) (write-front t (tableWords whole))
 
 pub ruleset refusing = (tests, long-refused, long-table, long-helper, words-fit, few-refused, few-table, few-helper, zeros-left)

@@ -1,11 +1,11 @@
--- The helper words: their room, and the parts of them that the maps take. Assumes nothing.
+-- The helper words: their room, and the parts of them that the maps and the index take. Assumes nothing.
 use mathlib.Core.Path.{_≡_, refl, sym, ap, subst, _∙_}
-use mathlib.Core.List.{List, _++_}
+use mathlib.Core.List.{List, _++_, append-nil}
 use Prim.Native.Nat.{ℕ, _+_, _*_, _-_, _≤_, _<_}
 use native.Mathlib.Nat.{sub-zero}
 use native.Mathlib.Omega.{arith}
-use lib.ListN.{length, take, drop, replicate, length-replicate, length-drop, replicate-append-replicate}
-use lib.Seq.{length-take-le, length-front, take-all, take-at, drop-at, take-take, take-add, drop-drop, take-append-le, drop-append-le}
+use lib.ListN.{length, take, drop, replicate, length-replicate, length-drop, drop-of-length-le, replicate-append-replicate}
+use lib.Seq.{length-take-le, length-front, take-all, take-at, drop-at, take-take, take-add, drop-drop, take-append-le}
 use borrow.Rule.Slice.PartMut.{same-len-mid, take-put, drop-put}
 use Rattle.base.proofs.Laws.{tests}
 use Rattle.lines.specs.Lines.{linesOf}
@@ -14,9 +14,10 @@ use Rattle.timetable.specs.Layout.{helperHead, helperLine, mostFileBytes}
 use Rattle.timetable.specs.declared.Checked.{Checked}
 use Rattle.timetable.specs.declared.Checked.the-variants.{Holds}
 use Rattle.sections.specs.SectionMap.{MapOf, Lent, MapAfter}
+use Rattle.sections.specs.ClassIndex.{IndexOf, ClassesAfter}
 use Rattle.sections.specs.declared.Section.the-variants.{BitFields, Stops}
-use Rattle.reading.specs.Maps.{FieldMap, StopMap}
-use Rattle.load.specs.Helper.{Short, roomOf, Emptied, LentAt, FieldsAfter, StopsAfter}
+use Rattle.reading.specs.Maps.{FieldMap, StopMap, ClassIndex}
+use Rattle.load.specs.Helper.{Short, roomOf, Emptied, LentAt, IndexLent, FieldsAfter, StopsAfter, IndexAfter}
 use Rattle.load.specs.declared.Room.{Room}
 
 -- ---- the room
@@ -33,9 +34,6 @@ module _ (b s u : List ℕ) (r : Room) (q : r ≡ roomOf b s u) where
 
   pub room-small : length b ≤ mostFileBytes → length s ≤ mostFileBytes → length u ≤ mostFileBytes → r .words < 4294967296
   room-small x y z = omega (arith, words-are, lines-le 1 0 b, lines-le 1 0 s, lines-le 1 0 u)
-
-  pub head-fits : helperHead ≤ r .words
-  head-fits = omega (arith, words-are)
 
 pub room-counted : (b s u : List ℕ) (x y z : ℕ) → x ≡ length (linesOf b) → y ≡ length (linesOf s) → z ≡ length (linesOf u)
     → _≡_ {A = Room} (record { fields = helperLine * x; stops = helperLine * y; words = helperHead + helperLine * (x + y + z) }) (roomOf b s u)
@@ -102,42 +100,88 @@ stops-after s r at words m m′ h l a =
 to-end : (m : List ℕ) (at : ℕ) → take (length m - at) (drop at m) ≡ drop at m
 to-end m at = take-all (length m - at) (drop at m) (omega (arith, length-drop at m))
 
--- the maps, cut from them
+-- the words behind a place, from those before another
+middle : (m : List ℕ) (x y : ℕ) → x ≤ length m → drop x (take (x + y) m) ≡ take y (drop x m)
+middle m x y h = ap (drop x) (take-add x y m) ∙ drop-at (take x m) (take y (drop x m)) x (length-take-le x m h)
+
+-- the maps and the index, cut from them
 pub map-first : (b : List ℕ) (at : ℕ) (m : List ℕ) → FieldMap b (take at m) → FieldMap b (take (at - 0) m)
 map-first b at m h = rw (sub-zero at) h
 
 pub map-part : (s : List ℕ) (at words : ℕ) (m : List ℕ) → StopMap s (take words (drop at m)) → StopMap s (take (at + words - at) (drop at m))
 map-part s at words m h = let e : at + words - at ≡ words = omega arith in rw e h
 
-module _ (u : List ℕ) (at words : ℕ) (m : List ℕ) (h : LentAt u (at + words) (length m - (at + words)) m) where
-  pub split-inside : words ≤ length (take (length m - at) (drop at m))
-  split-inside = let i = h .inside in let n = ap length (to-end m at) ∙ length-drop at m in omega (arith, n)
+pub index-part : (z m : List ℕ) → ClassIndex z (drop (length m - helperHead) m) → ClassIndex z (take (length m - (length m - helperHead)) (drop (length m - helperHead) m))
+index-part z m h = subst (ClassIndex z) (sym (to-end m (length m - helperHead))) h
 
-  pub split-stops : (s : List ℕ) → StopMap s (take words (drop at m)) → MapOf Stops s (take words (take (length m - at) (drop at m)))
+-- the words of UMSTEIGB's map end where the index begins
+module _ (u : List ℕ) (at words : ℕ) (m : List ℕ) (i : at + words + helperHead ≤ length m) where
+  -- how many words stand between
+  abbrev n : ℕ
+  n = length m - helperHead - at
+
+  pub split-inside : words ≤ length (take (length m - helperHead - at) (drop at m))
+  split-inside = omega (arith, length-take-le n (drop at m) (omega (arith, length-drop at m)))
+
+  front-same : take words (take n (drop at m)) ≡ take words (drop at m)
+  front-same = take-take words n (drop at m) (omega arith)
+
+  pub split-stops : (s : List ℕ) → StopMap s (take words (drop at m)) → MapOf Stops s (take words (take (length m - helperHead - at) (drop at m)))
   unfolding StopMap
-  split-stops s g = rw (to-end m at) g
+  split-stops s g = subst (MapOf Stops s) (sym front-same) g
 
-  pub split-lent : Lent u (drop words (take (length m - at) (drop at m)))
-  split-lent = rw (to-end m at, drop-drop words at m) (subst (Lent u) (to-end m (at + words)) (lent u (at + words) (length m - (at + words)) m h))
+  pub split-lent : LentAt u (at + words) (length m - helperHead - (at + words)) m → Lent u (drop words (take (length m - helperHead - at) (drop at m)))
+  split-lent h =
+      let k : ℕ = length m - helperHead - (at + words) in
+      let e : n ≡ words + k = omega arith in
+      let d : drop words (take n (drop at m)) ≡ take k (drop (at + words) m) =
+      ap (λ (j : ℕ). drop words (take j (drop at m))) e ∙ middle (drop at m) words k (omega (arith, length-drop at m)) ∙ ap (take k) (drop-drop words at m) in
+      subst (Lent u) (sym d) (lent u (at + words) k m h)
 
-  -- m′ is what is left of them: the first words, so many, stay
-  pub front-stays : (m′ : List ℕ) → length m′ ≡ length (take (length m - at) (drop at m)) → take words m′ ≡ take words (take (length m - at) (drop at m))
-      → take (at + words) (take at m ++ (m′ ++ drop (length m - at) (drop at m))) ≡ take (at + words) m
-  front-stays m′ l e =
-      let i = h .inside in
-      let after : List ℕ = drop (length m - at) (drop at m) in
-      let long : words ≤ length m′ = let j = split-inside in omega (arith, l) in
-      take-add at words (take at m ++ (m′ ++ after))
-      ∙ (ap (λ (x : List ℕ). x ++ take words (drop at (take at m ++ (m′ ++ after)))) (take-put at (length m - at) m m′ (omega arith))
-      ∙ ap (λ (x : List ℕ). take at m ++ x)
-      (ap (take words) (drop-at (take at m) (m′ ++ after) at (length-take-le at m (omega arith))) ∙ take-append-le words m′ after long ∙ e ∙ ap (take words) (to-end m at))
-      ∙ sym (take-add at words m))
+  -- m′ is what is left of them: the first words, so many, stay, and so does what is behind them
+  module _ (m′ : List ℕ) (l : length m′ ≡ length (take (length m - helperHead - at) (drop at m))) where
+    pub front-stays : take words m′ ≡ take words (take (length m - helperHead - at) (drop at m))
+        → take (at + words) (take at m ++ (m′ ++ drop (length m - helperHead - at) (drop at m))) ≡ take (at + words) m
+    front-stays e =
+        let after : List ℕ = drop n (drop at m) in
+        let long : words ≤ length m′ = let j = split-inside in omega (arith, l) in
+        take-add at words (take at m ++ (m′ ++ after))
+        ∙ (ap (λ (x : List ℕ). x ++ take words (drop at (take at m ++ (m′ ++ after)))) (take-put at n m m′ (omega arith))
+        ∙ ap (λ (x : List ℕ). take at m ++ x)
+        (ap (take words) (drop-at (take at m) (m′ ++ after) at (length-take-le at m (omega arith))) ∙ take-append-le words m′ after long ∙ e ∙ front-same)
+        ∙ sym (take-add at words m))
+
+    pub index-stays : drop (length m - helperHead) (take at m ++ (m′ ++ drop (length m - helperHead - at) (drop at m))) ≡ drop (length m - helperHead) m
+    index-stays = drop-put at (length m - helperHead) m m′ (omega arith) (omega arith) (l ∙ length-take-le n (drop at m) (omega (arith, length-drop at m)))
+
+-- ---- the last words, lent for the index
+
+pub index-zeros : (m : List ℕ) → IndexLent m → take (length m - (length m - helperHead)) (drop (length m - helperHead) m) ≡ replicate helperHead 0
+index-zeros m h = to-end m (length m - helperHead) ∙ h .zeros
+
+-- m′ is what is left in them
+pub index-after : (z : List ℕ) (r : Checked) (m m′ : List ℕ) → IndexLent m → length m′ ≡ length (take (length m - (length m - helperHead)) (drop (length m - helperHead) m)) → ClassesAfter z r m′
+    → IndexAfter z r m (take (length m - helperHead) m ++ (m′ ++ drop (length m - (length m - helperHead)) (drop (length m - helperHead) m)))
+unfolding ClassIndex
+index-after z r m m′ h l a =
+    let at : ℕ = length m - helperHead in
+    let i = h .inside in
+    let after : List ℕ = drop (length m - at) (drop at m) in
+    let same : length (take at m ++ (m′ ++ after)) ≡ length m = same-len-mid at (length m - at) m m′ l in
+    let nothing : m′ ++ after ≡ m′ = ap (λ (x : List ℕ). m′ ++ x) (drop-of-length-le (drop at m) {i = length m - at} (omega (arith, length-drop at m))) ∙ append-nil m′ in
+    let own : drop (length (take at m ++ (m′ ++ after)) - helperHead) (take at m ++ (m′ ++ after)) ≡ m′ =
+    ap (λ (j : ℕ). drop (j - helperHead) (take at m ++ (m′ ++ after))) same ∙ drop-at (take at m) (m′ ++ after) at (length-take-le at m (omega arith)) ∙ nothing in
+    record {
+      held = λ count next e. subst (IndexOf z) (sym own) (a .held count next e);
+      same = same;
+      front = take-put at (length m - at) m m′ (omega arith);
+    }
 
 -- ---- from file to file
 
-module _ (e b s u p : List ℕ) (r : Room) (m : List ℕ) (h : Short e b s u p) (q : Emptied b s u r m) where
-  size : length m ≡ r .words - helperHead
-  size = ap length (q .words) ∙ length-replicate {A = ℕ} (r .words - helperHead) 0
+module _ (e b s u p z : List ℕ) (r : Room) (m : List ℕ) (h : Short e b s u p z) (q : Emptied b s u r m) where
+  size : length m ≡ r .words
+  size = ap length (q .words) ∙ length-replicate {A = ℕ} (r .words) 0
 
   small : r .words < 4294967296
   small = room-small b s u r (q .is) (h .bitfeld) (h .bahnhof) (h .umsteigb)
@@ -149,7 +193,7 @@ module _ (e b s u p : List ℕ) (r : Room) (m : List ℕ) (h : Short e b s u p) 
         room = omega (arith, x);
         inside = omega (arith, x, w, size);
         small = omega (arith, size, small);
-        zeros = ap (take (r .fields)) (q .words) ∙ take-zeros (r .words - helperHead) (r .fields) (omega (arith, x, w));
+        zeros = ap (take (r .fields)) (q .words) ∙ take-zeros (r .words) (r .fields) (omega (arith, x, w));
       }
 
   module _ (x : Checked) (m₁ : List ℕ) (a : FieldsAfter b x (r .fields) m m₁) where
@@ -160,68 +204,86 @@ module _ (e b s u p : List ℕ) (r : Room) (m : List ℕ) (h : Short e b s u p) 
           room = omega (arith, g);
           inside = omega (arith, f, g, w, size, l);
           small = omega (arith, size, small, l);
-          zeros = ap (take (r .stops)) (a .rest ∙ ap (drop (r .fields)) (q .words) ∙ drop-zeros (r .words - helperHead) (r .fields) (omega (arith, f, w)))
-              ∙ take-zeros (r .words - helperHead - r .fields) (r .stops) (omega (arith, f, g, w));
+          zeros = ap (take (r .stops)) (a .rest ∙ ap (drop (r .fields)) (q .words) ∙ drop-zeros (r .words) (r .fields) (omega (arith, f, w)))
+              ∙ take-zeros (r .words - r .fields) (r .stops) (omega (arith, f, g, w));
         }
 
     module _ (y : Checked) (m₂ : List ℕ) (c : StopsAfter s y (r .fields) (r .stops) m₁ m₂) where
-      behind : drop (r .fields + r .stops) m₂ ≡ replicate (r .words - helperHead - (r .fields + r .stops)) 0
+      behind : drop (r .fields + r .stops) m₂ ≡ replicate (r .words - (r .fields + r .stops)) 0
       behind =
           let f = fields-are b s u r (q .is) in let g = stops-are b s u r (q .is) in let w = words-are b s u r (q .is) in
           c .rest ∙ (sym (drop-drop (r .stops) (r .fields) m₁) ∙ ap (drop (r .stops)) (a .rest) ∙ drop-drop (r .stops) (r .fields) m)
-          ∙ ap (drop (r .fields + r .stops)) (q .words) ∙ drop-zeros (r .words - helperHead) (r .fields + r .stops) (omega (arith, f, g, w))
+          ∙ ap (drop (r .fields + r .stops)) (q .words) ∙ drop-zeros (r .words) (r .fields + r .stops) (omega (arith, f, g, w))
 
-      pub lent-interchanges : LentAt u (r .fields + r .stops) (length m₂ - (r .fields + r .stops)) m₂
+      size₂ : length m₂ ≡ r .words
+      size₂ = c .same ∙ a .same ∙ size
+
+      pub stops-inside : r .fields + r .stops + helperHead ≤ length m₂
+      stops-inside =
+          let f = fields-are b s u r (q .is) in let g = stops-are b s u r (q .is) in let w = words-are b s u r (q .is) in
+          omega (arith, f, g, w, size₂)
+
+      pub lent-interchanges : LentAt u (r .fields + r .stops) (length m₂ - helperHead - (r .fields + r .stops)) m₂
       lent-interchanges =
-          let f = fields-are b s u r (q .is) in let g = stops-are b s u r (q .is) in let w = words-are b s u r (q .is) in let l = a .same in let k = c .same in
-          let n : length m₂ ≡ r .words - helperHead = k ∙ l ∙ size in
+          let f = fields-are b s u r (q .is) in let g = stops-are b s u r (q .is) in let w = words-are b s u r (q .is) in let n = size₂ in
+          let k : ℕ = length m₂ - helperHead - (r .fields + r .stops) in
           record {
             room = omega (arith, f, g, w, n);
             inside = omega (arith, f, g, w, n);
             small = omega (arith, small, n);
-            zeros = to-end m₂ (r .fields + r .stops) ∙ behind ∙ ap (λ (j : ℕ). replicate {A = ℕ} (j - (r .fields + r .stops)) 0) (sym n);
+            zeros = ap (take k) behind ∙ take-zeros (r .words - (r .fields + r .stops)) k (omega (arith, f, g, w, n));
           }
 
+      index-empty : drop (length m₂ - helperHead) m₂ ≡ replicate helperHead 0
+      index-empty =
+          let i = stops-inside in let n = size₂ in
+          let k : ℕ = length m₂ - helperHead - (r .fields + r .stops) in
+          let e : r .fields + r .stops + k ≡ length m₂ - helperHead = omega (arith, i) in
+          let d : r .words - (r .fields + r .stops) - k ≡ helperHead = omega (arith, i, n) in
+          sym (drop-drop k (r .fields + r .stops) m₂ ∙ ap (λ (j : ℕ). drop j m₂) e)
+          ∙ ap (drop k) behind ∙ drop-zeros (r .words - (r .fields + r .stops)) k (omega (arith, i, n)) ∙ ap (λ (j : ℕ). replicate {A = ℕ} j 0) d
+
       module _ (m₃ : List ℕ) (l : length m₃ ≡ length m₂) (d : take (r .fields + r .stops) m₃ ≡ take (r .fields + r .stops) m₂) where
-        pub maps-inside : r .fields + r .stops ≤ length m₃
-        maps-inside = let i = lent-interchanges .inside in omega (arith, l)
+        pub lent-index : drop (length m₂ - helperHead) m₃ ≡ drop (length m₂ - helperHead) m₂ → IndexLent m₃
+        lent-index g = let i = stops-inside in record { inside = omega (arith, i, l); zeros = ap (λ (j : ℕ). drop (j - helperHead) m₃) l ∙ g ∙ index-empty }
 
-        pub fields-held : (k j : ℕ) → x ≡ Holds k j → FieldMap b (take (r .fields) m₃)
-        fields-held k j v =
-            let same : take (r .fields) m₃ ≡ take (r .fields) m₁ =
-            sym (take-take (r .fields) (r .fields + r .stops) m₃ (omega arith)) ∙ ap (take (r .fields)) d ∙ take-take (r .fields) (r .fields + r .stops) m₂ (omega arith) ∙ c .front in
-            subst (FieldMap b) (sym same) (a .held k j v)
+        module _ (v : Checked) (m₄ : List ℕ) (t : IndexAfter z v m₃ m₄) where
+          pub maps-inside : r .fields + r .stops + helperHead ≤ length m₄
+          maps-inside = let i = stops-inside in omega (arith, l, t .same)
 
-        -- the words behind a place, from those before the end
-        pub stops-still : (k j : ℕ) → y ≡ Holds k j → StopMap s (take (r .stops) (drop (r .fields) m₃))
-        stops-still k j v =
-            let i = maps-inside in
-            subst (StopMap s) (sym (sym (middle m₃ (r .fields) (r .stops) (omega arith)) ∙ ap (drop (r .fields)) d ∙ middle m₂ (r .fields) (r .stops) (omega (arith, l)))) (c .held k j v)
-          where
-            middle : (m : List ℕ) (x y : ℕ) → x ≤ length m → drop x (take (x + y) m) ≡ take y (drop x m)
-            middle m x y h = ap (drop x) (take-add x y m) ∙ drop-at (take x m) (take y (drop x m)) x (length-take-le x m h)
+          maps-same : take (r .fields + r .stops) m₄ ≡ take (r .fields + r .stops) m₂
+          maps-same =
+              let i = stops-inside in
+              let k : ℕ = length m₃ - helperHead in
+              sym (take-take (r .fields + r .stops) k m₄ (omega (arith, i, l))) ∙ ap (take (r .fields + r .stops)) (t .front) ∙ take-take (r .fields + r .stops) k m₃ (omega (arith, i, l)) ∙ d
+
+          pub fields-held : (k j : ℕ) → x ≡ Holds k j → FieldMap b (take (r .fields) m₄)
+          fields-held k j g =
+              let same : take (r .fields) m₄ ≡ take (r .fields) m₁ =
+              sym (take-take (r .fields) (r .fields + r .stops) m₄ (omega arith)) ∙ ap (take (r .fields)) maps-same ∙ take-take (r .fields) (r .fields + r .stops) m₂ (omega arith) ∙ c .front in
+              subst (FieldMap b) (sym same) (a .held k j g)
+
+          pub stops-still : (k j : ℕ) → y ≡ Holds k j → StopMap s (take (r .stops) (drop (r .fields) m₄))
+          stops-still k j g =
+              let i = maps-inside in let i₂ = stops-inside in
+              subst (StopMap s) (sym (sym (middle m₄ (r .fields) (r .stops) (omega arith)) ∙ ap (drop (r .fields)) maps-same ∙ middle m₂ (r .fields) (r .stops) (omega arith))) (c .held k j g)
 
 -- ---- lent, used and given back: h is lent, h₁ cleared
 
 module _ (b s u : List ℕ) (r : Room) (q : r ≡ roomOf b s u) (h h₁ : List ℕ) (e : h₁ ≡ replicate (r .words) 0 ++ drop (r .words) h) where
-  pub emptied : Emptied b s u r (take (r .words - helperHead) (drop helperHead h₁))
-  emptied =
-      let f = head-fits b s u r q in
-      record {
-        is = q;
-        words = ap (λ (x : List ℕ). take (r .words - helperHead) (drop helperHead x)) e
-            ∙ ap (take (r .words - helperHead)) (drop-append-le helperHead (replicate (r .words) 0) (drop (r .words) h) (omega (arith, length-replicate {A = ℕ} (r .words) 0)) ∙ ap (λ (x : List ℕ). x ++ drop (r .words) h) (drop-zeros (r .words) helperHead f))
-            ∙ take-at (replicate {A = ℕ} (r .words - helperHead) 0) (drop (r .words) h) (r .words - helperHead) (length-replicate {A = ℕ} (r .words - helperHead) 0);
-      }
+  pub emptied : Emptied b s u r (take (r .words - 0) h₁)
+  emptied = record {
+    is = q;
+    words = ap (λ (j : ℕ). take j h₁) (sub-zero (r .words)) ∙ ap (take (r .words)) e ∙ take-at (replicate {A = ℕ} (r .words) 0) (drop (r .words) h) (r .words) (length-replicate {A = ℕ} (r .words) 0);
+  }
 
   -- m′ is what is left of the part, h₃ cleared again
-  pub given-back : (m′ h₃ : List ℕ) → r .words ≤ length h → length h₁ ≡ length h → length m′ ≡ length (take (r .words - helperHead) (drop helperHead h₁))
-      → h₃ ≡ replicate (r .words) 0 ++ drop (r .words) (take helperHead h₁ ++ (m′ ++ drop (r .words - helperHead) (drop helperHead h₁)))
+  pub given-back : (m′ h₃ : List ℕ) → r .words ≤ length h → length h₁ ≡ length h → length m′ ≡ length (take (r .words - 0) h₁)
+      → h₃ ≡ replicate (r .words) 0 ++ drop (r .words) (m′ ++ drop (r .words - 0) h₁)
       → h₃ ≡ replicate (r .words) 0 ++ drop (r .words) h
   given-back m′ h₃ l k n d =
-      let f = head-fits b s u r q in
-      let j : length m′ ≡ r .words - helperHead = n ∙ length-take-le (r .words - helperHead) (drop helperHead h₁) (omega (arith, length-drop helperHead h₁)) in
+      let j : length m′ ≡ r .words = n ∙ ap (λ (i : ℕ). length (take i h₁)) (sub-zero (r .words)) ∙ length-take-le (r .words) h₁ (omega (arith, k, l)) in
       d ∙ ap (λ (x : List ℕ). replicate (r .words) 0 ++ x)
-      (drop-put helperHead (r .words) h₁ m′ f (omega arith) j ∙ ap (drop (r .words)) e ∙ drop-at (replicate {A = ℕ} (r .words) 0) (drop (r .words) h) (r .words) (length-replicate {A = ℕ} (r .words) 0))
+      (drop-at m′ (drop (r .words - 0) h₁) (r .words) j ∙ ap (λ (i : ℕ). drop i h₁) (sub-zero (r .words)) ∙ ap (drop (r .words)) e ∙ drop-at (replicate {A = ℕ} (r .words) 0) (drop (r .words) h) (r .words) (length-replicate {A = ℕ} (r .words) 0))
 
-pub ruleset lends = (tests, head-fits, emptied, given-back)
+pub ruleset lends = (tests, emptied, given-back)

@@ -15,14 +15,25 @@ use Rattle.table_words.specs.declared.Header.{Header}
 use Rattle.load.specs.declared.Delivered.{Delivered}
 use Rattle.load.specs.declared.Delivered.the-variants.{Holds, Refused}
 
--- the first of five files that is too long, by their sizes; 0 where none is
-abbrev pub longIn : ℕ → ℕ → ℕ → ℕ → ℕ → ℕ
-longIn e b s u p =
-    cond (ltb mostFileBytes e) 1 (cond (ltb mostFileBytes b) 2 (cond (ltb mostFileBytes s) 3 (cond (ltb mostFileBytes u) 4 (cond (ltb mostFileBytes p) 5 0))))
+-- the first of six files that is too long, by their sizes, ZUGART's before FPLAN's; 0 where none is
+abbrev pub longIn : ℕ → ℕ → ℕ → ℕ → ℕ → ℕ → ℕ
+longIn e b s u z p =
+    cond (ltb mostFileBytes e) 1 (cond (ltb mostFileBytes b) 2 (cond (ltb mostFileBytes s) 3 (cond (ltb mostFileBytes u) 4
+    (cond (ltb mostFileBytes z) 6 (cond (ltb mostFileBytes p) 5 0)))))
 
 -- the header, from what was counted: so many records, and w words of services
-abbrev pub headerBy : ℕ → ℕ → ℕ → ℕ → ℕ → ℕ → ℕ → Header
-headerBy start days b s u v w = record { words = firstService b s u + w; start = start; days = days; fields = b; stops = s; interchanges = u; services = v; first = firstService b s u }
+abbrev pub headerBy : ℕ → ℕ → ℕ → ℕ → ℕ → ℕ → ℕ → ℕ → Header
+headerBy start days b s u k v w = record {
+  words = firstService b s u k + w;
+  start = start;
+  days = days;
+  fields = b;
+  stops = s;
+  interchanges = u;
+  services = v;
+  first = firstService b s u k;
+  classes = k;
+}
 
 -- the header of a delivery's table
 abbrev pub headerOf : Delivery → Header
@@ -34,7 +45,8 @@ headerOf d = record {
   stops = length (d .stops);
   interchanges = length (d .interchanges);
   services = length (d .services);
-  first = firstService (length (d .fields)) (length (d .stops)) (length (d .interchanges));
+  first = firstService (length (d .fields)) (length (d .stops)) (length (d .interchanges)) (length (d .classes));
+  classes = length (d .classes);
 }
 
 -- the offence of a file that does not hold

@@ -1,5 +1,5 @@
--- The helper words while the files are checked: how many each map takes, and what they hold between the checks. Nobody has to believe this file.
--- Assumes nothing.
+-- The helper words while the files are checked: how many each map and the index take, and what they hold between the checks. Nobody has to believe
+-- this file. Assumes nothing.
 use Prim.Native.Nat.{ℕ, _+_, _*_, _-_, _≤_, _<_}
 use mathlib.Core.Path.{_≡_}
 use mathlib.Core.List.{List}
@@ -8,16 +8,17 @@ use Rattle.lines.specs.Lines.{linesOf}
 use Rattle.timetable.specs.Layout.{helperHead, helperLine, mostFileBytes}
 use Rattle.timetable.specs.declared.Checked.{Checked}
 use Rattle.timetable.specs.declared.Checked.the-variants.{Holds}
-use Rattle.reading.specs.Maps.{FieldMap, StopMap}
+use Rattle.reading.specs.Maps.{FieldMap, StopMap, ClassIndex}
 use Rattle.load.specs.declared.Room.{Room}
 
 -- no file is too long
-pub record Short (e b s u p : List ℕ) : Type 0 where
+pub record Short (e b s u p z : List ℕ) : Type 0 where
   pub eckdaten : length e ≤ mostFileBytes
   pub bitfeld : length b ≤ mostFileBytes
   pub bahnhof : length s ≤ mostFileBytes
   pub umsteigb : length u ≤ mostFileBytes
   pub fplan : length p ≤ mostFileBytes
+  pub zugart : length z ≤ mostFileBytes
 
 -- the words for the lines of BITFELD and of BAHNHOF, and all words needed
 abbrev pub roomOf : List ℕ → List ℕ → List ℕ → Room
@@ -27,10 +28,10 @@ roomOf b s u = record {
   words = helperHead + helperLine * (length (linesOf b) + length (linesOf s) + length (linesOf u));
 }
 
--- the words for the three maps, all 0
+-- the words for the three maps and the index, all 0
 pub record Emptied (b s u : List ℕ) (room : Room) (m : List ℕ) : Type 0 where
   pub is : room ≡ roomOf b s u
-  pub words : m ≡ replicate (room .words - helperHead) 0
+  pub words : m ≡ replicate (room .words) 0
 
 -- so many words of m from a place on are lent for the map of a file: enough, and all 0
 pub record LentAt (f : List ℕ) (at words : ℕ) (m : List ℕ) : Type 0 where
@@ -38,6 +39,11 @@ pub record LentAt (f : List ℕ) (at words : ℕ) (m : List ℕ) : Type 0 where
   pub inside : at + words ≤ length m
   pub small : length m < 4294967296
   pub zeros : take words (drop at m) ≡ replicate words 0
+
+-- the last words of m are lent for the index of ZUGART: all 0
+pub record IndexLent (m : List ℕ) : Type 0 where
+  pub inside : helperHead ≤ length m
+  pub zeros : drop (length m - helperHead) m ≡ replicate helperHead 0
 
 -- what is left of m after the check of BITFELD with its first words, so many
 pub record FieldsAfter (b : List ℕ) (r : Checked) (words : ℕ) (m m′ : List ℕ) : Type 0 where
@@ -51,3 +57,9 @@ pub record StopsAfter (s : List ℕ) (r : Checked) (at words : ℕ) (m m′ : Li
   pub same : length m′ ≡ length m
   pub front : take at m′ ≡ take at m
   pub rest : drop (at + words) m′ ≡ drop (at + words) m
+
+-- what is left of m after the check of ZUGART with its last words
+pub record IndexAfter (z : List ℕ) (r : Checked) (m m′ : List ℕ) : Type 0 where
+  pub held : (count next : ℕ) → r ≡ Holds count next → ClassIndex z (drop (length m′ - helperHead) m′)
+  pub same : length m′ ≡ length m
+  pub front : take (length m - helperHead) m′ ≡ take (length m - helperHead) m

@@ -1,7 +1,8 @@
-// A delivery of five files to the table, or its first offence. Nothing is written into the table before everything is checked; while it is, the helper
-// words hold the maps of BITFELD, BAHNHOF and UMSTEIGB.
+// A delivery of six files to the table, or its first offence. Nothing is written into the table before everything is checked; while it is, the helper
+// words hold the maps of BITFELD, BAHNHOF and UMSTEIGB and the index of ZUGART.
 use table_words::Header;
 use timetable::BIT_FIELD_WORDS;
+use timetable::CLASS_WORDS;
 use timetable::Checked;
 use timetable::HEADER_WORDS;
 use timetable::HELPER_HEAD_WORDS;
@@ -16,17 +17,17 @@ ghost use mathlib.Core.List.{_++_};
 ghost use Prim.Native.Nat.{_+_, _-_, _≤_};
 ghost use lib.ListN.{length, take, drop, replicate};
 ghost use Rattle.lines.specs.Lines.{linesOf};
-ghost use Rattle.timetable.specs.Layout.{mostFileBytes, mostPeriodDays};
+ghost use Rattle.timetable.specs.Layout.{helperHead, mostFileBytes, mostPeriodDays};
 ghost use Rattle.timetable.specs.Delivery.{filesOf};
 ghost use Rattle.timetable.specs.Offences.{checkedBy};
-ghost use Rattle.timetable.specs.Files.{bitFieldsIn, bitFieldsFirst, stopsIn, stopsFirst, interchangesIn, interchangesFirst};
+ghost use Rattle.timetable.specs.Files.{bitFieldsIn, bitFieldsFirst, stopsIn, stopsFirst, interchangesIn, interchangesFirst, classesIn, classesFirst};
 ghost use Rattle.timetable.specs.Service.{blocks};
 ghost use Rattle.timetable.specs.Checks.{planFirst};
 ghost use Rattle.timetable.specs.Load.{delivered, contentOffence, loaded, written, helped};
-ghost use Rattle.reading.specs.Maps.{FieldMap, StopMap};
+ghost use Rattle.reading.specs.Maps.{FieldMap, StopMap, ClassIndex};
 ghost use Rattle.plan.specs.Services.{blockWords, mostPlanWords};
 ghost use Rattle.load.specs.Delivered.{longIn, headerBy, headerOf, refusedIn, deliveredBy};
-ghost use Rattle.load.specs.Helper.{Short, roomOf, Emptied, LentAt, FieldsAfter, StopsAfter};
+ghost use Rattle.load.specs.Helper.{Short, roomOf, Emptied, LentAt, IndexLent, FieldsAfter, StopsAfter, IndexAfter};
 
 // What the checks of the files say: the header of the table, or the first offence and its file.
 pub enum Delivered {
@@ -40,18 +41,20 @@ pub fn load(
     bahnhof: &[u8],
     umsteigb: &[u8],
     fplan: &[u8],
+    zugart: &[u8],
     table: &mut [u32],
     helper: &mut [u32],
 ) -> Loaded
-    ensures { λ r. ⌜ r ≡ loaded (filesOf (now (eckdaten .entry)) (now (bitfeld .entry)) (now (bahnhof .entry)) (now (umsteigb .entry)) (now (fplan .entry))) (length (now (table .entry))) (length (now (helper .entry))) ⌝ }
-    ensures { λ r. ⌜ now (table .exit) ≡ written (filesOf (now (eckdaten .entry)) (now (bitfeld .entry)) (now (bahnhof .entry)) (now (umsteigb .entry)) (now (fplan .entry))) (now (table .entry)) (length (now (helper .entry))) ⌝ }
-    ensures { λ r. ⌜ now (helper .exit) ≡ helped (filesOf (now (eckdaten .entry)) (now (bitfeld .entry)) (now (bahnhof .entry)) (now (umsteigb .entry)) (now (fplan .entry))) (now (helper .entry)) ⌝ }
+    ensures { λ r. ⌜ r ≡ loaded (filesOf (now (eckdaten .entry)) (now (bitfeld .entry)) (now (bahnhof .entry)) (now (umsteigb .entry)) (now (fplan .entry)) (now (zugart .entry))) (length (now (table .entry))) (length (now (helper .entry))) ⌝ }
+    ensures { λ r. ⌜ now (table .exit) ≡ written (filesOf (now (eckdaten .entry)) (now (bitfeld .entry)) (now (bahnhof .entry)) (now (umsteigb .entry)) (now (fplan .entry)) (now (zugart .entry))) (now (table .entry)) (length (now (helper .entry))) ⌝ }
+    ensures { λ r. ⌜ now (helper .exit) ≡ helped (filesOf (now (eckdaten .entry)) (now (bitfeld .entry)) (now (bahnhof .entry)) (now (umsteigb .entry)) (now (fplan .entry)) (now (zugart .entry))) (now (helper .entry)) ⌝ }
 {
     let long = too_long(
         eckdaten.len(),
         bitfeld.len(),
         bahnhof.len(),
         umsteigb.len(),
+        zugart.len(),
         fplan.len(),
     );
     if long != 0 {
@@ -73,7 +76,16 @@ pub fn load(
             needed: room.words as u32,
         };
     }
-    let delivered = check_lent(eckdaten, bitfeld, bahnhof, umsteigb, fplan, room, helper);
+    let delivered = check_lent(
+        eckdaten,
+        bitfeld,
+        bahnhof,
+        umsteigb,
+        fplan,
+        zugart,
+        room,
+        helper,
+    );
     match delivered {
         Delivered::Refused { file, offence } => Loaded::Refused {
             number: offence.number,
@@ -93,7 +105,7 @@ pub fn load(
                     needed: used,
                 };
             }
-            table_words::put_table(header, bitfeld, bahnhof, umsteigb, fplan, table);
+            table_words::put_table(header, bitfeld, bahnhof, umsteigb, fplan, zugart, table);
             Loaded::Accepted(used)
         }
     }
@@ -101,7 +113,7 @@ pub fn load(
 
 // ---- the helper words
 
-// What the maps take of them: the words for the lines of BITFELD and of BAHNHOF; and all words needed.
+// What the maps take of them: the words for the lines of BITFELD and of BAHNHOF; and all words needed, the last of them for the index of ZUGART.
 struct Room {
     pub fields: usize,
     pub stops: usize,
@@ -122,20 +134,21 @@ fn room_for(bitfeld: &[u8], bahnhof: &[u8], umsteigb: &[u8]) -> Room
     }
 }
 
-// The checks with the maps in words that hold 0 before and after.
+// The checks with the maps and the index in words that hold 0 before and after.
 fn check_lent(
     eckdaten: &[u8],
     bitfeld: &[u8],
     bahnhof: &[u8],
     umsteigb: &[u8],
     fplan: &[u8],
+    zugart: &[u8],
     room: Room,
     helper: &mut [u32],
 ) -> Delivered
-    requires { ⌜ Short (now eckdaten) (now bitfeld) (now bahnhof) (now umsteigb) (now fplan) ⌝ }
+    requires { ⌜ Short (now eckdaten) (now bitfeld) (now bahnhof) (now umsteigb) (now fplan) (now zugart) ⌝ }
     requires { ⌜ room ≡ roomOf (now bitfeld) (now bahnhof) (now umsteigb) ⌝ }
     requires { ⌜ room .words ≤ length (now helper) ⌝ }
-    ensures { λ r. ⌜ r ≡ deliveredBy (contentOffence (filesOf (now (eckdaten .entry)) (now (bitfeld .entry)) (now (bahnhof .entry)) (now (umsteigb .entry)) (now (fplan .entry)))) (headerOf (delivered (filesOf (now (eckdaten .entry)) (now (bitfeld .entry)) (now (bahnhof .entry)) (now (umsteigb .entry)) (now (fplan .entry))))) ⌝ }
+    ensures { λ r. ⌜ r ≡ deliveredBy (contentOffence (filesOf (now (eckdaten .entry)) (now (bitfeld .entry)) (now (bahnhof .entry)) (now (umsteigb .entry)) (now (fplan .entry)) (now (zugart .entry)))) (headerOf (delivered (filesOf (now (eckdaten .entry)) (now (bitfeld .entry)) (now (bahnhof .entry)) (now (umsteigb .entry)) (now (fplan .entry)) (now (zugart .entry))))) ⌝ }
     ensures { λ _. ⌜ now (helper .exit) ≡ replicate (room .words) 0 ++ drop (room .words) (now (helper .entry)) ⌝ }
 {
     let words = room.words;
@@ -146,14 +159,16 @@ fn check_lent(
         bahnhof,
         umsteigb,
         fplan,
+        zugart,
         room,
-        &mut helper[HELPER_HEAD_WORDS..words],
+        &mut helper[0..words],
     );
     map::clear(helper, room.words);
     delivered
 }
 
-// ---- the checks: files 1 to 5, with words that hold 0 for the maps of BITFELD, BAHNHOF and UMSTEIGB, in this order
+// ---- the checks: files 1 to 4, 6 and 5 ("ZUGART is file 6, its lengths and lines checked after UMSTEIGB's"), with words that hold 0 for the maps of
+// BITFELD, BAHNHOF and UMSTEIGB and for the index of ZUGART, in this order
 
 fn check_delivery(
     eckdaten: &[u8],
@@ -161,12 +176,13 @@ fn check_delivery(
     bahnhof: &[u8],
     umsteigb: &[u8],
     fplan: &[u8],
+    zugart: &[u8],
     room: Room,
     m: &mut [u32],
 ) -> Delivered
-    requires { ⌜ Short (now eckdaten) (now bitfeld) (now bahnhof) (now umsteigb) (now fplan) ⌝ }
+    requires { ⌜ Short (now eckdaten) (now bitfeld) (now bahnhof) (now umsteigb) (now fplan) (now zugart) ⌝ }
     requires { ⌜ Emptied (now bitfeld) (now bahnhof) (now umsteigb) room (now m) ⌝ }
-    ensures { λ r. ⌜ r ≡ deliveredBy (contentOffence (filesOf (now (eckdaten .entry)) (now (bitfeld .entry)) (now (bahnhof .entry)) (now (umsteigb .entry)) (now (fplan .entry)))) (headerOf (delivered (filesOf (now (eckdaten .entry)) (now (bitfeld .entry)) (now (bahnhof .entry)) (now (umsteigb .entry)) (now (fplan .entry))))) ⌝ }
+    ensures { λ r. ⌜ r ≡ deliveredBy (contentOffence (filesOf (now (eckdaten .entry)) (now (bitfeld .entry)) (now (bahnhof .entry)) (now (umsteigb .entry)) (now (fplan .entry)) (now (zugart .entry)))) (headerOf (delivered (filesOf (now (eckdaten .entry)) (now (bitfeld .entry)) (now (bahnhof .entry)) (now (umsteigb .entry)) (now (fplan .entry)) (now (zugart .entry))))) ⌝ }
 {
     let period = period::check_period(eckdaten);
     let Checked::Holds(start, days) = period else {
@@ -184,11 +200,24 @@ fn check_delivery(
     let Checked::Holds(interchanges, _) = interchange_section else {
         return refused(4, interchange_section);
     };
-    let plan = plan_by(fplan, bitfeld, bahnhof, days, m, room.fields, room.stops);
+    let class_section = classes_in(zugart, m);
+    let Checked::Holds(classes, _) = class_section else {
+        return refused(6, class_section);
+    };
+    let plan = plan_by(fplan, bitfeld, bahnhof, zugart, days, m, room);
     let Checked::Holds(services, words) = plan else {
         return refused(5, plan);
     };
-    Delivered::Holds(header_of(start, days, fields, stops, interchanges, services, words))
+    Delivered::Holds(header_of(
+        start,
+        days,
+        fields,
+        stops,
+        interchanges,
+        classes,
+        services,
+        words,
+    ))
 }
 
 // BITFELD, its map in the first words, so many.
@@ -211,7 +240,7 @@ fn stops_in(bahnhof: &[u8], m: &mut [u32], at: usize, words: usize) -> Checked
     sections::check_stops(bahnhof, &mut m[at..at + words])
 }
 
-// UMSTEIGB, its map behind that of BAHNHOF, which takes so many words from place `at` on.
+// UMSTEIGB, its map behind that of BAHNHOF, which takes so many words from place `at` on, up to the index of ZUGART, which stays.
 fn interchanges_in(
     umsteigb: &[u8],
     bahnhof: &[u8],
@@ -219,36 +248,60 @@ fn interchanges_in(
     at: usize,
     words: usize,
 ) -> Checked
-    requires { ⌜ length (now umsteigb) ≤ mostFileBytes ⌝ }
+    requires { ⌜ (length (now umsteigb) ≤ mostFileBytes) × (at + words + helperHead ≤ length (now m)) ⌝ }
     requires { ⌜ StopMap (now bahnhof) (take words (drop at (now m))) ⌝ }
-    requires { ⌜ LentAt (now umsteigb) (at + words) (length (now m) - (at + words)) (now m) ⌝ }
+    requires { ⌜ LentAt (now umsteigb) (at + words) (length (now m) - helperHead - (at + words)) (now m) ⌝ }
     ensures { λ r. ⌜ r ≡ checkedBy (interchangesFirst (stopsIn (now (bahnhof .entry))) (linesOf (now (umsteigb .entry)))) (length (interchangesIn (now (umsteigb .entry)))) (length (linesOf (now (umsteigb .entry))) + 1) ⌝ }
     ensures { λ _. ⌜ take (at + words) (now (m .exit)) ≡ take (at + words) (now (m .entry)) ⌝ }
+    ensures { λ _. ⌜ drop (length (now (m .entry)) - helperHead) (now (m .exit)) ≡ drop (length (now (m .entry)) - helperHead) (now (m .entry)) ⌝ }
 {
-    let end = m.len();
+    let end = m.len() - HELPER_HEAD_WORDS;
     sections::check_interchanges(umsteigb, bahnhof, &mut m[at..end], words)
 }
 
-// FPLAN, with the maps of BITFELD, in the words before place `at`, and of BAHNHOF, in so many from there on.
+// ZUGART, its index in the last words.
+fn classes_in(zugart: &[u8], m: &mut [u32]) -> Checked
+    requires { ⌜ length (now zugart) ≤ mostFileBytes ⌝ }
+    requires { ⌜ IndexLent (now m) ⌝ }
+    ensures { λ r. ⌜ r ≡ checkedBy (classesFirst (linesOf (now (zugart .entry)))) (length (classesIn (now (zugart .entry)))) (length (linesOf (now (zugart .entry))) + 1) ⌝ }
+    ensures { λ r. ⌜ IndexAfter (now (zugart .entry)) r (now (m .entry)) (now (m .exit)) ⌝ }
+{
+    let end = m.len();
+    sections::check_classes(zugart, &mut m[end - HELPER_HEAD_WORDS..end])
+}
+
+// FPLAN, with the maps of BITFELD, in the first words, and of BAHNHOF, behind them, and the index of ZUGART, in the last words.
 fn plan_by(
     fplan: &[u8],
     bitfeld: &[u8],
     bahnhof: &[u8],
+    zugart: &[u8],
     days: u32,
     m: &[u32],
-    at: usize,
-    words: usize,
+    room: Room,
 ) -> Checked
-    requires { ⌜ (length (now fplan) ≤ mostFileBytes) × (days ≤ mostPeriodDays) × (at + words ≤ length (now m)) ⌝ }
-    requires { ⌜ FieldMap (now bitfeld) (take at (now m)) × StopMap (now bahnhof) (take words (drop at (now m))) ⌝ }
-    ensures { λ r. ⌜ r ≡ checkedBy (planFirst (bitFieldsIn (now (bitfeld .entry))) (stopsIn (now (bahnhof .entry))) days (linesOf (now (fplan .entry)))) (length (blocks (linesOf (now (fplan .entry))))) (length (blockWords (blocks (linesOf (now (fplan .entry)))))) ⌝ }
+    requires { ⌜ (length (now fplan) ≤ mostFileBytes) × (days ≤ mostPeriodDays) × (room .fields + room .stops + helperHead ≤ length (now m)) ⌝ }
+    requires { ⌜ FieldMap (now bitfeld) (take (room .fields) (now m)) × StopMap (now bahnhof) (take (room .stops) (drop (room .fields) (now m))) × ClassIndex (now zugart) (drop (length (now m) - helperHead) (now m)) ⌝ }
+    ensures { λ r. ⌜ r ≡ checkedBy (planFirst (bitFieldsIn (now (bitfeld .entry))) (stopsIn (now (bahnhof .entry))) (classesIn (now (zugart .entry))) days (linesOf (now (fplan .entry)))) (length (blocks (linesOf (now (fplan .entry))))) (length (blockWords (blocks (linesOf (now (fplan .entry)))))) ⌝ }
 {
-    plan::check_plan(fplan, bitfeld, &m[0..at], bahnhof, &m[at..at + words], days)
+    let at = room.fields;
+    let fields = &m[0..at];
+    let stops = &m[at..at + room.stops];
+    let end = m.len();
+    let index = &m[end - HELPER_HEAD_WORDS..end];
+    plan::check_plan(fplan, bitfeld, fields, bahnhof, stops, zugart, index, days)
 }
 
-// The first file of over 16,777,216 bytes, by the sizes of the five; 0 where none is.
-fn too_long(eckdaten: usize, bitfeld: usize, bahnhof: usize, umsteigb: usize, fplan: usize) -> u32
-    ensures { λ r. ⌜ r ≡ longIn eckdaten bitfeld bahnhof umsteigb fplan ⌝ }
+// The first file of over 16,777,216 bytes, by the sizes of the six; 0 where none is.
+fn too_long(
+    eckdaten: usize,
+    bitfeld: usize,
+    bahnhof: usize,
+    umsteigb: usize,
+    zugart: usize,
+    fplan: usize,
+) -> u32
+    ensures { λ r. ⌜ r ≡ longIn eckdaten bitfeld bahnhof umsteigb zugart fplan ⌝ }
 {
     if MOST_FILE_BYTES < eckdaten {
         return 1;
@@ -261,6 +314,9 @@ fn too_long(eckdaten: usize, bitfeld: usize, bahnhof: usize, umsteigb: usize, fp
     }
     if MOST_FILE_BYTES < umsteigb {
         return 4;
+    }
+    if MOST_FILE_BYTES < zugart {
+        return 6;
     }
     if MOST_FILE_BYTES < fplan {
         return 5;
@@ -289,16 +345,18 @@ fn header_of(
     fields: u32,
     stops: u32,
     interchanges: u32,
+    classes: u32,
     services: u32,
     words: u32,
 ) -> Header
-    requires { ⌜ (fields ≤ mostFileBytes) × (stops ≤ mostFileBytes) × (interchanges ≤ mostFileBytes) × (words ≤ mostPlanWords) ⌝ }
-    ensures { λ r. ⌜ r ≡ headerBy start days fields stops interchanges services words ⌝ }
+    requires { ⌜ (fields ≤ mostFileBytes) × (stops ≤ mostFileBytes) × (interchanges ≤ mostFileBytes) × (classes ≤ mostFileBytes) × (words ≤ mostPlanWords) ⌝ }
+    ensures { λ r. ⌜ r ≡ headerBy start days fields stops interchanges classes services words ⌝ }
 {
     let first = HEADER_WORDS as u32
         + BIT_FIELD_WORDS as u32 * fields
         + STOP_WORDS as u32 * stops
-        + INTERCHANGE_WORDS as u32 * interchanges;
+        + INTERCHANGE_WORDS as u32 * interchanges
+        + CLASS_WORDS as u32 * classes;
     Header {
         words: first + words,
         start,
@@ -308,5 +366,6 @@ fn header_of(
         interchanges,
         services,
         first,
+        classes,
     }
 }

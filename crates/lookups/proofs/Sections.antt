@@ -1,4 +1,4 @@
--- The needs of the look-ups in the sections of a whole table, a ruleset for each: `fields`, `stops`, `interchanges`. Assumes nothing.
+-- The needs of the look-ups in the sections of a whole table, a ruleset for each: `fields`, `stops`, `interchanges`, `classes`. Assumes nothing.
 use mathlib.Core.Path.{_≡_, refl, ap, _∙_, sym}
 use mathlib.Core.List.{List}
 use mathlib.Core.Bool.{true, false}
@@ -12,15 +12,15 @@ use borrow.Author.Tests.{eq-eqb, ne-eqb}
 use Rattle.base.specs.Lists.{find}
 use Rattle.base.proofs.Laws.{tests}
 use Rattle.bitfield.specs.BitField.{bit, runsOn}
-use Rattle.timetable.specs.Delivery.{BitField, StopRecord, Interchange}
-use Rattle.timetable.specs.Files.{hasStop}
+use Rattle.timetable.specs.Delivery.{BitField, StopRecord, Interchange, CategoryClass}
+use Rattle.timetable.specs.Files.{hasStop, hasClass}
 use Rattle.timetable.specs.Legs.{fieldKnown, runsBy, fieldRuns}
-use Rattle.timetable.specs.Table.{rowsIn, bitFieldAt, stopAt, interchangeAt, tableOf}
-use Rattle.timetable.specs.Questions.{interchangeBy, interchangeAtStop}
+use Rattle.timetable.specs.Table.{rowsIn, bitFieldAt, stopAt, interchangeAt, classAt, tableOf}
+use Rattle.timetable.specs.Questions.{interchangeBy, interchangeAtStop, classBy, classFor}
 use Rattle.timetable.specs.StopNames.{stopNumbered}
 use Rattle.timetable.proofs.Rows.{one-row}
-use Rattle.table.specs.JustTable.{JustTable}
-use Rattle.table.proofs.JustTable.{whole-says, sections-fit, fields-are, stops-are, interchanges-are}
+use Rattle.table.specs.JustTable.{JustTable, headerSound, classesPlace}
+use Rattle.table.proofs.JustTable.{whole-header, whole-says, sections-fit, fields-are, stops-are, interchanges-are, classes-are}
 use Rattle.lookups.specs.Lookups.{placeOf, namePlace, nameIn, timesOf}
 use Rattle.lookups.specs.declared.Found.{Found}
 use Rattle.lookups.specs.declared.Found.the-variants.{At, Nothing}
@@ -41,26 +41,26 @@ module _ (w : List ℕ) (h : JustTable w) where
   pub word-5 : 5 < length w
   word-5 = omega (arith, whole-says w h .used-low, whole-says w h .used-high)
 
-  pub fields-room : 8 + 13 * getD w 3 0 ≤ length w
+  pub fields-room : 9 + 13 * getD w 3 0 ≤ length w
   fields-room = omega (arith, sections-fit w h)
 
   module _ (s : ℕ) (l : length w < 2 ^ 64) where
     pub stops-scaled : s ≡ getD w 3 0 → 13 * s < 2 ^ 64
     stops-scaled e = omega (arith, sections-fit w h)
 
-    pub stops-fit : s ≡ getD w 3 0 → 8 + 13 * s < 2 ^ 64
+    pub stops-fit : s ≡ getD w 3 0 → 9 + 13 * s < 2 ^ 64
     stops-fit e = omega (arith, sections-fit w h)
 
     pub interchanges-scaled : s ≡ getD w 4 0 → 3 * s < 2 ^ 64
     interchanges-scaled e = omega (arith, sections-fit w h)
 
-    pub interchanges-fit : (p : ℕ) → p ≡ 8 + 13 * getD w 3 0 → s ≡ getD w 4 0 → p + 3 * s < 2 ^ 64
+    pub interchanges-fit : (p : ℕ) → p ≡ 9 + 13 * getD w 3 0 → s ≡ getD w 4 0 → p + 3 * s < 2 ^ 64
     interchanges-fit p q e = omega (arith, sections-fit w h)
 
-  pub stops-room : (p : ℕ) → p ≡ 8 + 13 * getD w 3 0 → p + 3 * getD w 4 0 ≤ length w
+  pub stops-room : (p : ℕ) → p ≡ 9 + 13 * getD w 3 0 → p + 3 * getD w 4 0 ≤ length w
   stops-room p q = omega (arith, sections-fit w h)
 
-  module _ (p : ℕ) (q : p ≡ 8 + 13 * getD w 3 0 + 3 * getD w 4 0) where
+  module _ (p : ℕ) (q : p ≡ 9 + 13 * getD w 3 0 + 3 * getD w 4 0) where
     pub interchanges-room : p + 3 * getD w 5 0 ≤ length w
     interchanges-room = omega (arith, sections-fit w h)
 
@@ -78,13 +78,13 @@ pub zero-days : (b : ℕ) (fs : List BitField) (ws : List ℕ) → b ≡ 0 → (
 unfolding fieldRuns
 zero-days b fs ws e a d h = a (d + 2) (omega arith) ∙ rw (eq-eqb b 0 e)
 
-module _ (w : List ℕ) (h : JustTable w) (b : ℕ) (n : b ≡ 0 → ⊥) (f : Found) (e : f ≡ placeOf w b 13 8 (getD w 3 0)) where
+module _ (w : List ℕ) (h : JustTable w) (b : ℕ) (n : b ≡ 0 → ⊥) (f : Found) (e : f ≡ placeOf w b 13 9 (getD w 3 0)) where
   field-known : fieldKnown b (tableOf w .fields) ≡ isAt f
-  field-known = rw (ne-eqb b 0 n, fields-are w h, e) (some-there bitFieldAt (λ (x : BitField). x .number) (λ u. refl) w b 13 (getD w 3 0) 8)
+  field-known = rw (ne-eqb b 0 n, fields-are w h, e) (some-there bitFieldAt (λ (x : BitField). x .number) (λ u. refl) w b 13 (getD w 3 0) 9)
 
   field-days : (d : ℕ) → fieldRuns (tableOf w .fields) b d ≡ runsBy (readAt bitFieldAt w f) d
   unfolding fieldRuns
-  field-days d = rw (ne-eqb b 0 n, fields-are w h, e) (ap (λ (o : Option BitField). runsBy o d) (find-there bitFieldAt (λ (x : BitField). x .number) (λ u. refl) w b 13 (getD w 3 0) 8))
+  field-days d = rw (ne-eqb b 0 n, fields-are w h, e) (ap (λ (o : Option BitField). runsBy o d) (find-there bitFieldAt (λ (x : BitField). x .number) (λ u. refl) w b 13 (getD w 3 0) 9))
 
   pub unknown-known : f ≡ Nothing → false ≡ fieldKnown b (tableOf w .fields)
   unknown-known g = sym (field-known ∙ ap isAt g)
@@ -94,7 +94,7 @@ module _ (w : List ℕ) (h : JustTable w) (b : ℕ) (n : b ≡ 0 → ⊥) (f : F
 
   module _ (p : ℕ) (g : f ≡ At p) where
     field-end : p + 13 ≤ length w
-    field-end = omega (arith, place-inside w b 13 (getD w 3 0) 8 p (sym e ∙ g), fields-room w h)
+    field-end = omega (arith, place-inside w b 13 (getD w 3 0) 9 p (sym e ∙ g), fields-room w h)
 
     pub field-next : length w < 2 ^ 64 → p + 1 < 2 ^ 64
     field-next l = omega (arith, field-end)
@@ -112,9 +112,9 @@ pub ruleset fields = (tests, word-3, fields-room, zero-known, zero-days, unknown
 
 -- ---- stops, for `search stops`; f is where the search found the stop, from p on
 
-module _ (w : List ℕ) (h : JustTable w) (stop p : ℕ) (q : p ≡ 8 + 13 * getD w 3 0) (f : Found) (e : f ≡ placeOf w stop 3 p (getD w 4 0)) where
+module _ (w : List ℕ) (h : JustTable w) (stop p : ℕ) (q : p ≡ 9 + 13 * getD w 3 0) (f : Found) (e : f ≡ placeOf w stop 3 p (getD w 4 0)) where
   stop-known : hasStop stop (tableOf w .stops) ≡ isAt f
-  stop-known = rw (stops-are w h, e, q) (some-there stopAt (λ (x : StopRecord). x .number) (λ u. refl) w stop 3 (getD w 4 0) (8 + 13 * getD w 3 0))
+  stop-known = rw (stops-are w h, e, q) (some-there stopAt (λ (x : StopRecord). x .number) (λ u. refl) w stop 3 (getD w 4 0) (9 + 13 * getD w 3 0))
 
   pub stop-found : (x : ℕ) → f ≡ At x → true ≡ hasStop stop (tableOf w .stops)
   stop-found x g = sym (stop-known ∙ ap isAt g)
@@ -124,7 +124,7 @@ module _ (w : List ℕ) (h : JustTable w) (stop p : ℕ) (q : p ≡ 8 + 13 * get
 
   -- the record of the stop, and what it says of its name
   stop-read : stopNumbered stop (tableOf w .stops) ≡ readAt stopAt w f
-  stop-read = rw (stops-are w h, e, q) (find-there stopAt (λ (x : StopRecord). x .number) (λ u. refl) w stop 3 (getD w 4 0) (8 + 13 * getD w 3 0))
+  stop-read = rw (stops-are w h, e, q) (find-there stopAt (λ (x : StopRecord). x .number) (λ u. refl) w stop 3 (getD w 4 0) (9 + 13 * getD w 3 0))
 
   module _ (n : StopName) where
     pub name-found : (x : ℕ) → f ≡ At x → n ≡ namePlace (stopAt (drop x w)) → n ≡ nameIn (stopNumbered stop (tableOf w .stops))
@@ -148,7 +148,7 @@ pub ruleset stop-names = (tests, word-4, stops-room, name-found, name-unknown, n
 pub times-are : (w : List ℕ) (p : ℕ) → record { first = getD w (p + 1) 0; second = getD w (p + 2) 0 } ≡ timesOf (interchangeAt (drop p w))
 times-are w p = rw (getD-drop p w 1 0, getD-drop p w 2 0)
 
-module _ (w : List ℕ) (h : JustTable w) (stop p : ℕ) (q : p ≡ 8 + 13 * getD w 3 0 + 3 * getD w 4 0) (f : Found) (e : f ≡ placeOf w stop 3 p (getD w 5 0)) where
+module _ (w : List ℕ) (h : JustTable w) (stop p : ℕ) (q : p ≡ 9 + 13 * getD w 3 0 + 3 * getD w 4 0) (f : Found) (e : f ≡ placeOf w stop 3 p (getD w 5 0)) where
   records-are : tableOf w .interchanges ≡ rowsIn interchangeAt 3 (getD w 5 0) (drop p w)
   records-are = rw (interchanges-are w h, q)
 
@@ -172,3 +172,51 @@ module _ (w : List ℕ) (h : JustTable w) (stop p : ℕ) (q : p ≡ 8 + 13 * get
   interchange-room x g = omega (arith, place-inside w stop 3 (getD w 5 0) p x (sym e ∙ g), interchanges-room w h p q)
 
 pub ruleset interchanges = (tests, word-5, interchanges-room, first-room, times-are, interchange-found, interchange-first, interchange-room)
+
+-- ---- the categories and their classes, for `search classes`; f is where the search found the code, from p on
+
+module _ (w : List ℕ) (h : JustTable w) where
+  pub classes-header : headerSound w ≡ true
+  classes-header = whole-header w h
+
+  pub word-8 : 8 < length w
+  word-8 = omega (arith, whole-says w h .used-low, whole-says w h .used-high)
+
+  module _ (p : ℕ) (q : p ≡ classesPlace w) where
+    pub classes-room : p + 2 * getD w 8 0 ≤ length w
+    classes-room = omega (arith, sections-fit w h)
+
+    module _ (code : ℕ) (f : Found) (e : f ≡ placeOf w code 2 p (getD w 8 0)) where
+      class-known : hasClass code (tableOf w .classes) ≡ isAt f
+      class-known = rw (classes-are w h, e, ← q) (some-there classAt (λ (x : CategoryClass). x .code) (λ u. refl) w code 2 (getD w 8 0) p)
+
+      pub class-listed : (x : ℕ) → f ≡ At x → true ≡ hasClass code (tableOf w .classes)
+      class-listed x g = sym (class-known ∙ ap isAt g)
+
+      pub class-unlisted : f ≡ Nothing → false ≡ hasClass code (tableOf w .classes)
+      class-unlisted g = sym (class-known ∙ ap isAt g)
+
+      class-read : classFor (tableOf w) code ≡ classBy (readAt classAt w f)
+      unfolding classFor
+      class-read = rw (classes-are w h, e, ← q) (ap classBy (find-there classAt (λ (x : CategoryClass). x .code) (λ u. refl) w code 2 (getD w 8 0) p))
+
+      pub class-none : f ≡ Nothing → 0 ≡ classFor (tableOf w) code
+      class-none g = sym (class-read ∙ ap (λ (f : Found). classBy (readAt classAt w f)) g)
+
+      module _ (x : ℕ) (g : f ≡ At x) where
+        pub class-found : getD w (x + 1) 0 ≡ classFor (tableOf w) code
+        class-found = sym (class-read ∙ ap (λ (f : Found). classBy (readAt classAt w f)) g ∙ getD-drop x w 1 0)
+
+        class-end : x + 2 ≤ length w
+        class-end = omega (arith, place-inside w code 2 (getD w 8 0) p x (sym e ∙ g), classes-room)
+
+        pub class-inside : x + 1 < length w
+        class-inside = omega (arith, class-end)
+
+        pub class-next : length w < 2 ^ 64 → x + 1 < 2 ^ 64
+        class-next l = omega (arith, class-end)
+
+        pub class-scaled : length w * 4 < 2 ^ 63 → (x + 1) * 4 < 2 ^ 64
+        class-scaled l = omega (arith, class-end)
+
+pub ruleset classes = (tests, classes-header, word-8, classes-room, class-listed, class-unlisted, class-none, class-found, class-inside, class-next, class-scaled)

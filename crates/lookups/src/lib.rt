@@ -4,6 +4,8 @@ use calendar::Date;
 use timetable::BIT_FIELD_WORDS;
 use timetable::BIT_FIELDS_AT;
 use timetable::BIT_WORDS;
+use timetable::CLASS_WORDS;
+use timetable::CLASSES_AT;
 use timetable::FIRST_DAY_AT;
 use timetable::FIRST_SERVICE_AT;
 use timetable::HEADER_WORDS;
@@ -16,11 +18,11 @@ ghost use mathlib.Core.Path.{_≡_};
 ghost use Prim.Native.Nat.{ℕ, _+_, _*_, _≤_, _<_};
 ghost use lib.ListN.{length, drop};
 ghost use Rattle.bitfield.specs.BitField.{runsOn};
-ghost use Rattle.timetable.specs.Files.{hasStop};
+ghost use Rattle.timetable.specs.Files.{hasStop, hasClass};
 ghost use Rattle.timetable.specs.Legs.{fieldKnown, fieldRuns};
 ghost use Rattle.timetable.specs.Layout.{headerSize, bitFieldSize, stopSize, interchangeSize, mostPeriodDays};
 ghost use Rattle.timetable.specs.Table.{bitFields#, stops#, services#, stopAt, interchangeAt, tableOf};
-ghost use Rattle.timetable.specs.Questions.{datedBy, interchangeAtStop};
+ghost use Rattle.timetable.specs.Questions.{datedBy, interchangeAtStop, classFor};
 ghost use Rattle.timetable.specs.StopNames.{stopNumbered};
 ghost use Rattle.table.specs.JustTable.{JustTable};
 ghost use Rattle.lookups.specs.Lookups.{placeOf, servicePlace, namePlace, nameIn, timesOf, periodDay, datedAsked};
@@ -194,6 +196,31 @@ fn interchanges_place(w: &[u32]) -> usize
     ensures { λ r. ⌜ r ≡ headerSize + bitFieldSize * bitFields# (now (w .entry)) + stopSize * stops# (now (w .entry)) ⌝ }
 {
     stops_place(w) + STOP_WORDS * table::size(w[STOPS_AT])
+}
+
+// ---- the categories and their classes
+
+pub fn class_known(w: &[u32], code: u32) -> bool
+    requires { ⌜ JustTable (now w) ⌝ }
+    ensures { λ r. ⌜ r ≡ hasClass code (tableOf (now (w .entry)) .classes) ⌝ }
+{
+    let found = find(w, table::classes_place(w), w[CLASSES_AT], CLASS_WORDS, code);
+    match found {
+        Found::At(p) => true,
+        Found::Nothing => false,
+    }
+}
+
+// The class of a category, 0 where it is not listed.
+pub fn class_for(w: &[u32], code: u32) -> u32
+    requires { ⌜ JustTable (now w) ⌝ }
+    ensures { λ r. ⌜ r ≡ classFor (tableOf (now (w .entry))) code ⌝ }
+{
+    let found = find(w, table::classes_place(w), w[CLASSES_AT], CLASS_WORDS, code);
+    match found {
+        Found::At(p) => w[p + 1],
+        Found::Nothing => 0,
+    }
 }
 
 // ---- services

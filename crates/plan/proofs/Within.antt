@@ -10,7 +10,7 @@ use Rattle.base.specs.Lists.{every}
 use Rattle.base.proofs.Loops.{and-true}
 use Rattle.lines.specs.Lines.{Line}
 use Rattle.timetable.specs.Layout.{mostCalls, mostCategories, mostDays, mostExtras}
-use Rattle.timetable.specs.Delivery.{BitField, StopRecord}
+use Rattle.timetable.specs.Delivery.{BitField, StopRecord, CategoryClass}
 use Rattle.timetable.specs.Service.{blocks}
 use Rattle.timetable.specs.Checks.{headFirst, serviceFirst, servicesFirst, planFirst}
 use Rattle.timetable.proofs.Offences.{then-none}
@@ -39,15 +39,15 @@ module _ (k : Counts) where
 
 -- ---- all services
 
-module _ (fields : List BitField) (stops : List StopRecord) (n : ℕ) where
-  all-within : (bs : List (List Line)) → servicesFirst fields stops n bs ≡ none → withinLimits bs ≡ true
+module _ (fields : List BitField) (stops : List StopRecord) (classes : List CategoryClass) (n : ℕ) where
+  all-within : (bs : List (List Line)) → servicesFirst fields stops classes n bs ≡ none → withinLimits bs ≡ true
   unfolding servicesFirst serviceFirst withinLimits every
   all-within [] e = refl
   all-within (b ∷ bs) e =
-      let o = then-none (serviceFirst fields stops n b) (servicesFirst fields stops n bs) e in
-      rw (within-holds (countsOf b) (own-within fields stops b (then-none _ _ (o .0) .0))) (all-within bs (o .1))
+      let o = then-none (serviceFirst fields stops classes n b) (servicesFirst fields stops classes n bs) e in
+      rw (within-holds (countsOf b) (own-within fields stops classes b (then-none _ _ (o .0) .0))) (all-within bs (o .1))
 
-  module _ (ls : List Line) (e : planFirst fields stops n ls ≡ none) where
+  module _ (ls : List Line) (e : planFirst fields stops classes n ls ≡ none) where
     pub head-none : headFirst ls ≡ none
     unfolding planFirst
     head-none = then-none (headFirst ls) _ e .0

@@ -11,28 +11,31 @@ ghost use Rattle.lines.specs.Lines.{linesOf, linesAt};
 ghost use Rattle.words.specs.Words.{write};
 ghost use Rattle.timetable.specs.Layout.{mostFileBytes, mostPeriodDays};
 ghost use Rattle.timetable.specs.Offences.{checkedBy};
-ghost use Rattle.timetable.specs.Files.{bitFieldsIn, stopsIn};
+ghost use Rattle.timetable.specs.Files.{bitFieldsIn, stopsIn, classesIn};
 ghost use Rattle.timetable.specs.Service.{blocks, serviceOf};
 ghost use Rattle.timetable.specs.Checks.{headFirst, servicesFirst, planFirst};
 ghost use Rattle.timetable.specs.Table.{serviceWords};
 ghost use Rattle.draft.specs.Draft.{callsLent, rangesLent, countsOf, Within};
-ghost use Rattle.reading.specs.Maps.{FieldMap, StopMap};
+ghost use Rattle.reading.specs.Maps.{FieldMap, StopMap, ClassIndex};
 ghost use Rattle.reading.specs.Reading.{serviceAt, Boundary};
 ghost use Rattle.service.specs.Answers.{ServiceTaken};
 ghost use Rattle.plan.specs.Services.{blockWords, withinLimits};
 
-// The first offence of FPLAN, or how many services it has and how many words they take. `fields` and `stops` are the maps of BITFELD and BAHNHOF.
+// The first offence of FPLAN, or how many services it has and how many words they take. `fields` and `stops` are the maps of BITFELD and BAHNHOF, `index`
+// is the index of ZUGART.
 pub fn check_plan(
     fplan: &[u8],
     bitfeld: &[u8],
     fields: &[u32],
     bahnhof: &[u8],
     stops: &[u32],
+    zugart: &[u8],
+    index: &[u32],
     days: u32,
 ) -> Checked
     requires { ⌜ (length (now fplan) ≤ mostFileBytes) × (days ≤ mostPeriodDays) ⌝ }
-    requires { ⌜ FieldMap (now bitfeld) (now fields) × StopMap (now bahnhof) (now stops) ⌝ }
-    ensures { λ r. ⌜ r ≡ checkedBy (planFirst (bitFieldsIn (now (bitfeld .entry))) (stopsIn (now (bahnhof .entry))) days (linesOf (now (fplan .entry)))) (length (blocks (linesOf (now (fplan .entry))))) (length (blockWords (blocks (linesOf (now (fplan .entry)))))) ⌝ }
+    requires { ⌜ FieldMap (now bitfeld) (now fields) × StopMap (now bahnhof) (now stops) × ClassIndex (now zugart) (now index) ⌝ }
+    ensures { λ r. ⌜ r ≡ checkedBy (planFirst (bitFieldsIn (now (bitfeld .entry))) (stopsIn (now (bahnhof .entry))) (classesIn (now (zugart .entry))) days (linesOf (now (fplan .entry)))) (length (blocks (linesOf (now (fplan .entry))))) (length (blockWords (blocks (linesOf (now (fplan .entry)))))) ⌝ }
 {
     let head = reading::head_end(fplan);
     match head {
@@ -48,6 +51,8 @@ pub fn check_plan(
                 fields,
                 bahnhof,
                 stops,
+                zugart,
+                index,
                 days,
                 &mut calls,
                 &mut ranges,
@@ -65,14 +70,16 @@ fn check_services(
     fields: &[u32],
     bahnhof: &[u8],
     stops: &[u32],
+    zugart: &[u8],
+    index: &[u32],
     days: u32,
     calls: &mut [u32],
     ranges: &mut [u32],
 ) -> Checked
     requires { ⌜ Boundary (now fplan) start first × (days ≤ mostPeriodDays) ⌝ }
-    requires { ⌜ FieldMap (now bitfeld) (now fields) × StopMap (now bahnhof) (now stops) ⌝ }
+    requires { ⌜ FieldMap (now bitfeld) (now fields) × StopMap (now bahnhof) (now stops) × ClassIndex (now zugart) (now index) ⌝ }
     requires { ⌜ (callsLent ≤ length (now calls)) × (rangesLent ≤ length (now ranges)) ⌝ }
-    ensures { λ r. ⌜ r ≡ checkedBy (servicesFirst (bitFieldsIn (now (bitfeld .entry))) (stopsIn (now (bahnhof .entry))) days (blocks (linesAt (now (fplan .entry)) start first))) (length (blocks (linesAt (now (fplan .entry)) start first))) (length (blockWords (blocks (linesAt (now (fplan .entry)) start first)))) ⌝ }
+    ensures { λ r. ⌜ r ≡ checkedBy (servicesFirst (bitFieldsIn (now (bitfeld .entry))) (stopsIn (now (bahnhof .entry))) (classesIn (now (zugart .entry))) days (blocks (linesAt (now (fplan .entry)) start first))) (length (blocks (linesAt (now (fplan .entry)) start first))) (length (blockWords (blocks (linesAt (now (fplan .entry)) start first)))) ⌝ }
 {
     let mut at = start;
     let mut line = first;
@@ -87,6 +94,8 @@ fn check_services(
             fields,
             bahnhof,
             stops,
+            zugart,
+            index,
             days,
             calls,
             ranges,

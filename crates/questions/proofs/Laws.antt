@@ -1,4 +1,4 @@
--- The needs of the questions, a ruleset for each: `days`, `interchanges`. Assumes nothing.
+-- The needs of the questions, a ruleset for each: `days`, `interchanges`, `categories`. Assumes nothing.
 use mathlib.Core.Path.{_≡_, _∙_, sym}
 use mathlib.Core.List.{List}
 use mathlib.Core.Bool.{Bool, true, false, cond, not, _&&_}
@@ -9,10 +9,10 @@ use lib.Dec.{leb}
 use borrow.Author.Tests.{not-true, not-false, le-leb, lt-leb}
 use Rattle.base.proofs.Laws.{tests}
 use Rattle.bitfield.specs.BitField.{runsOn}
-use Rattle.timetable.specs.Files.{hasStop}
+use Rattle.timetable.specs.Files.{hasStop, hasClass}
 use Rattle.timetable.specs.Legs.{fieldKnown, fieldRuns}
 use Rattle.timetable.specs.Table.{used, tableOf, isTable}
-use Rattle.timetable.specs.Questions.{dated, dayBy, dayAsked, interchangeAtStop, interchangeAsked, firstTimeClass}
+use Rattle.timetable.specs.Questions.{dated, dayBy, dayAsked, interchangeAtStop, interchangeAsked, firstTimeClass, minutesFor, classFor, betweenAsked}
 use Rattle.timetable.specs.declared.DayAnswer.{DayAnswer}
 use Rattle.timetable.specs.declared.DayAnswer.the-variants.{Runs, Idle, Refused as DayRefused}
 use Rattle.timetable.specs.declared.InterchangeAnswer.the-variants.{Minutes, Refused as InterchangeRefused}
@@ -100,3 +100,43 @@ module _ (w : List ℕ) (x : Bool) (e : x ≡ isTable w) (n : not x ≡ false) w
   interchange-whole u p = rw p (used-whole w interchange-table)
 
 pub ruleset interchanges = (tests, second-first, second-second, both-first, interchange-no-table, interchange-class, interchange-unknown, interchange-minutes, interchange-table, interchange-whole)
+
+-- ---- between two categories; x says whether the first is listed
+
+module _ (w : List ℕ) (a b : ℕ) (x : Bool) (e : x ≡ hasClass a (tableOf w .classes)) where
+  pub first-unlisted : not x ≡ true → false ≡ (hasClass a (tableOf w .classes) && hasClass b (tableOf w .classes))
+  first-unlisted n = rw (sym e ∙ not-true x n)
+
+  pub second-listed : not x ≡ false → (y : Bool) → y ≡ hasClass b (tableOf w .classes) → y ≡ (hasClass a (tableOf w .classes) && hasClass b (tableOf w .classes))
+  second-listed n y f = f ∙ rw (sym e ∙ not-false x n)
+
+-- i and j are their classes
+pub minutes-are : (w : List ℕ) (stop a b : ℕ) (t : Times) → t ≡ timesOf (interchangeAtStop (tableOf w) stop) → (i j : ℕ) → i ≡ classFor (tableOf w) a → j ≡ classFor (tableOf w) b
+    → (r : ℕ) → r ≡ cond (firstTimeClass i && firstTimeClass j) (t .first) (t .second) → r ≡ minutesFor (interchangeAtStop (tableOf w) stop) (classFor (tableOf w) a) (classFor (tableOf w) b)
+minutes-are w stop a b t f i j g h r k = rw (k, f, g, h)
+
+-- x says whether the words are a table, y whether the stop is known, z whether both are listed
+
+module _ (w : List ℕ) (stop a b : ℕ) (x : Bool) (e : x ≡ isTable w) where
+  pub between-no-table : not x ≡ true → InterchangeRefused 21 ≡ betweenAsked w stop a b
+  unfolding betweenAsked
+  between-no-table n = rw (sym e ∙ not-true x n)
+
+  module _ (n : not x ≡ false) (u : List ℕ) (p : u ≡ used w) (y : Bool) (f : y ≡ hasStop stop (tableOf u .stops)) where
+    same-table : tableOf u ≡ tableOf w
+    same-table = rw p (used-same w (sym e ∙ not-false x n))
+
+    pub between-unknown : y ≡ false → InterchangeRefused 27 ≡ betweenAsked w stop a b
+    unfolding betweenAsked
+    between-unknown o = rw (sym e ∙ not-false x n, ← same-table, sym f ∙ o)
+
+    module _ (o : y ≡ true) (z : Bool) (g : z ≡ (hasClass a (tableOf u .classes) && hasClass b (tableOf u .classes))) where
+      pub between-unlisted : z ≡ false → InterchangeRefused 38 ≡ betweenAsked w stop a b
+      unfolding betweenAsked
+      between-unlisted q = rw (sym e ∙ not-false x n, ← same-table, sym f ∙ o, sym g ∙ q)
+
+      pub between-minutes : z ≡ true → (r : ℕ) → r ≡ minutesFor (interchangeAtStop (tableOf u) stop) (classFor (tableOf u) a) (classFor (tableOf u) b) → Minutes r ≡ betweenAsked w stop a b
+      unfolding betweenAsked
+      between-minutes q r i = rw (sym e ∙ not-false x n, ← same-table, sym f ∙ o, sym g ∙ q, i)
+
+pub ruleset categories = (tests, first-unlisted, second-listed, minutes-are, between-no-table, between-unknown, between-unlisted, between-minutes, interchange-table, interchange-whole)

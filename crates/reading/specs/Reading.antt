@@ -10,13 +10,13 @@ use lib.Dec.{leb}
 use Rattle.lines.specs.Lines.{Line, linesAt, linesOf}
 use Rattle.forms.specs.declared.Form.the-variants.{Broken as BrokenForm}
 use Rattle.timetable.specs.Layout.{mostFileBytes, mostCalls}
-use Rattle.timetable.specs.Delivery.{BitField, StopRecord}
+use Rattle.timetable.specs.Delivery.{BitField, StopRecord, CategoryClass}
 use Rattle.timetable.specs.Offences.{offenceAt, given, formOffence, _<|>_, first}
 use Rattle.timetable.specs.Files.{hasStop}
 use Rattle.timetable.specs.Plan.{toldIn}
 use Rattle.timetable.specs.Service.{headLines, blocks, firstLine, serviceOf}
 use Rattle.timetable.specs.Legs.{fieldKnown}
-use Rattle.timetable.specs.Checks.{most, ownOffence, headFirst}
+use Rattle.timetable.specs.Checks.{most, categoryListed, ownOffence, headFirst}
 use Rattle.timetable.specs.declared.Offence.{Offence}
 use Rattle.timetable.specs.declared.Part.{Part}
 use Rattle.timetable.specs.declared.Part.the-variants.{Category, Days, Extra}
@@ -82,26 +82,30 @@ countOf Category k = k .categories
 countOf Days k = k .days
 countOf Extra k = k .extras
 
-abbrev pub rangeAfter : List BitField → Counts → ℕ → Part → ℕ → Option Offence
-rangeAfter fields k line part field = given (leb (most part) (countOf part k)) 13 line <|> given (not (fieldKnown field fields)) 10 line
+abbrev pub categoryAfter : List CategoryClass → ℕ → Part → ℕ → Option Offence
+categoryAfter classes line part name = given (not (categoryListed part name classes)) 38 line
+
+abbrev pub rangeAfter : List BitField → List CategoryClass → Counts → ℕ → Part → ℕ → ℕ → Option Offence
+rangeAfter fields classes k line part field name =
+    given (leb (most part) (countOf part k)) 13 line <|> given (not (fieldKnown field fields)) 10 line <|> categoryAfter classes line part name
 
 abbrev pub callAfter : List StopRecord → Counts → ℕ → ℕ → Option Offence
 callAfter stops k line stop = given (leb mostCalls (k .calls)) 13 line <|> given (not (hasStop stop stops)) 9 line
 
-abbrev pub offenceAfter : List BitField → List StopRecord → Counts → ℕ → Told → Option Offence
-offenceAfter fields stops k line Skip = none
-offenceAfter fields stops k line Other = some (offenceAt 11 line)
-offenceAfter fields stops k line (Broken c) = formOffence (BrokenForm c) line
-offenceAfter fields stops k line (Opens o) = none
-offenceAfter fields stops k line (Ranges r) = rangeAfter fields k line (r .part) (r .field)
-offenceAfter fields stops k line (Calls c) = callAfter stops k line (c .stop)
+abbrev pub offenceAfter : List BitField → List StopRecord → List CategoryClass → Counts → ℕ → Told → Option Offence
+offenceAfter fields stops classes k line Skip = none
+offenceAfter fields stops classes k line Other = some (offenceAt 11 line)
+offenceAfter fields stops classes k line (Broken c) = formOffence (BrokenForm c) line
+offenceAfter fields stops classes k line (Opens o) = none
+offenceAfter fields stops classes k line (Ranges r) = rangeAfter fields classes k line (r .part) (r .field) (r .name)
+offenceAfter fields stops classes k line (Calls c) = callAfter stops k line (c .stop)
 
 -- ---- a service
 
 -- what reading a service answers: the first own offence of its lines, or its draft
-abbrev pub ReadAs : List BitField → List StopRecord → List ℕ → ℕ → ℕ → Read → List ℕ → List ℕ → Type 0
-ReadAs fields stops f at n (Refused o) calls ranges = first (ownOffence fields stops) [] (serviceAt f at n) ≡ some o
-ReadAs fields stops f at n (Service d) calls ranges = (first (ownOffence fields stops) [] (serviceAt f at n) ≡ none) × ServiceRead f at n d calls ranges
+abbrev pub ReadAs : List BitField → List StopRecord → List CategoryClass → List ℕ → ℕ → ℕ → Read → List ℕ → List ℕ → Type 0
+ReadAs fields stops classes f at n (Refused o) calls ranges = first (ownOffence fields stops classes) [] (serviceAt f at n) ≡ some o
+ReadAs fields stops classes f at n (Service d) calls ranges = (first (ownOffence fields stops classes) [] (serviceAt f at n) ≡ none) × ServiceRead f at n d calls ranges
 
 -- the first service begins at a place, with line n, and nothing stands before it
 pub record HeadClear (f : List ℕ) (at n : ℕ) : Type 0 where

@@ -13,14 +13,14 @@ ghost use lib.ListN.{length};
 ghost use lib.Dec.{leb};
 ghost use Rattle.timetable.specs.Layout.{mostFileBytes, mostCalls};
 ghost use Rattle.timetable.specs.Offences.{verdictBy};
-ghost use Rattle.timetable.specs.Files.{bitFieldsIn, stopsIn};
+ghost use Rattle.timetable.specs.Files.{bitFieldsIn, stopsIn, classesIn};
 ghost use Rattle.timetable.specs.Plan.{asOpening};
 ghost use Rattle.timetable.specs.Service.{firstOpening};
 ghost use Rattle.timetable.specs.Legs.{fieldKnown};
-ghost use Rattle.timetable.specs.Checks.{most};
+ghost use Rattle.timetable.specs.Checks.{most, categoryListed};
 ghost use Rattle.draft.specs.Draft.{callsLent, rangesLent, countsOf, Within};
-ghost use Rattle.reading.specs.Maps.{FieldMap, StopMap};
-ghost use Rattle.reading.specs.Reading.{serviceAt, Boundary, ServiceRead, ReadAs, HeadAs, NextAs, countOf, rangeAfter, callAfter, offenceAfter};
+ghost use Rattle.reading.specs.Maps.{FieldMap, StopMap, ClassIndex};
+ghost use Rattle.reading.specs.Reading.{serviceAt, Boundary, ServiceRead, ReadAs, HeadAs, NextAs, countOf, categoryAfter, rangeAfter, callAfter, offenceAfter};
 
 // A service as it was read and drafted, or the first own offence of its lines.
 pub enum Read {
@@ -64,8 +64,8 @@ pub fn head_end(f: &[u8]) -> Head
     Head::Clear(at, no)
 }
 
-// Reads the service that begins at a place, with line `no`, checks each of its lines (11, 4, 13, 9, 10) and drafts it. Bit fields are looked
-// up in BITFELD, stops in BAHNHOF: `fields` and `stops` are the maps of the two.
+// Reads the service that begins at a place, with line `no`, checks each of its lines (11, 4, 13, 9, 10, 38) and drafts it. Bit fields are looked
+// up in BITFELD, stops in BAHNHOF, categories in ZUGART: `fields` and `stops` are the maps of the first two, `index` is the index of the third.
 pub fn read_checked(
     fplan: &[u8],
     at: usize,
@@ -74,13 +74,15 @@ pub fn read_checked(
     fields: &[u32],
     bahnhof: &[u8],
     stops: &[u32],
+    zugart: &[u8],
+    index: &[u32],
     calls: &mut [u32],
     ranges: &mut [u32],
 ) -> Read
     requires { ⌜ Boundary (now fplan) at no × (at < length (now fplan)) ⌝ }
-    requires { ⌜ FieldMap (now bitfeld) (now fields) × StopMap (now bahnhof) (now stops) ⌝ }
+    requires { ⌜ FieldMap (now bitfeld) (now fields) × StopMap (now bahnhof) (now stops) × ClassIndex (now zugart) (now index) ⌝ }
     requires { ⌜ (callsLent ≤ length (now calls)) × (rangesLent ≤ length (now ranges)) ⌝ }
-    ensures { λ r. ⌜ ReadAs (bitFieldsIn (now (bitfeld .entry))) (stopsIn (now (bahnhof .entry))) (now (fplan .entry)) at no r (now (calls .exit)) (now (ranges .exit)) ⌝ }
+    ensures { λ r. ⌜ ReadAs (bitFieldsIn (now (bitfeld .entry))) (stopsIn (now (bahnhof .entry))) (classesIn (now (zugart .entry))) (now (fplan .entry)) at no r (now (calls .exit)) (now (ranges .exit)) ⌝ }
 {
     let cut = reader::line_from(fplan, at, no);
     let stop = cut.stop;
@@ -94,6 +96,8 @@ pub fn read_checked(
         fields,
         bahnhof,
         stops,
+        zugart,
+        index,
     ) {
         return Read::Refused(offence);
     }
@@ -118,6 +122,8 @@ pub fn read_checked(
             fields,
             bahnhof,
             stops,
+            zugart,
+            index,
         ) {
             return Read::Refused(offence);
         }
@@ -205,9 +211,11 @@ fn offence_after(
     fields: &[u32],
     bahnhof: &[u8],
     stops: &[u32],
+    zugart: &[u8],
+    index: &[u32],
 ) -> Verdict
-    requires { ⌜ FieldMap (now bitfeld) (now fields) × StopMap (now bahnhof) (now stops) ⌝ }
-    ensures { λ r. ⌜ r ≡ verdictBy (offenceAfter (bitFieldsIn (now (bitfeld .entry))) (stopsIn (now (bahnhof .entry))) counts line said) ⌝ }
+    requires { ⌜ FieldMap (now bitfeld) (now fields) × StopMap (now bahnhof) (now stops) × ClassIndex (now zugart) (now index) ⌝ }
+    ensures { λ r. ⌜ r ≡ verdictBy (offenceAfter (bitFieldsIn (now (bitfeld .entry))) (stopsIn (now (bahnhof .entry))) (classesIn (now (zugart .entry))) counts line said) ⌝ }
 {
     match said {
         Told::Skip => Verdict::Fine,
@@ -220,30 +228,55 @@ fn offence_after(
         Told::Opens(opening) => Verdict::Fine,
         Told::Ranges(range) => {
             let part = range.part;
-            range_offence(counts, part, range.field, line, bitfeld, fields)
+            range_offence(
+                counts,
+                part,
+                range.field,
+                range.name,
+                line,
+                bitfeld,
+                fields,
+                zugart,
+                index,
+            )
         }
         Told::Calls(call) => call_offence(counts, call.stop, line, bahnhof, stops),
     }
 }
 
+// 13, 10, and last in its line 38.
 fn range_offence(
     counts: Counts,
     part: Part,
     field: u32,
+    name: u32,
     line: u32,
     bitfeld: &[u8],
     fields: &[u32],
+    zugart: &[u8],
+    index: &[u32],
 ) -> Verdict
-    requires { ⌜ FieldMap (now bitfeld) (now fields) ⌝ }
-    ensures { λ r. ⌜ r ≡ verdictBy (rangeAfter (bitFieldsIn (now (bitfeld .entry))) counts line part field) ⌝ }
+    requires { ⌜ FieldMap (now bitfeld) (now fields) × ClassIndex (now zugart) (now index) ⌝ }
+    ensures { λ r. ⌜ r ≡ verdictBy (rangeAfter (bitFieldsIn (now (bitfeld .entry))) (classesIn (now (zugart .entry))) counts line part field name) ⌝ }
 {
     if full(counts, part) {
         return timetable::offends(13, line);
     }
     if field_known(bitfeld, fields, field) {
-        return Verdict::Fine;
+        return category_offence(part, name, line, zugart, index);
     }
     timetable::offends(10, line)
+}
+
+// 38: a *G line's category is not listed.
+fn category_offence(part: Part, name: u32, line: u32, zugart: &[u8], index: &[u32]) -> Verdict
+    requires { ⌜ ClassIndex (now zugart) (now index) ⌝ }
+    ensures { λ r. ⌜ r ≡ verdictBy (categoryAfter (classesIn (now (zugart .entry))) line part name) ⌝ }
+{
+    if category_listed(part, name, zugart, index) {
+        return Verdict::Fine;
+    }
+    timetable::offends(38, line)
 }
 
 fn call_offence(counts: Counts, stop: u32, line: u32, bahnhof: &[u8], stops: &[u32]) -> Verdict
@@ -279,4 +312,16 @@ fn field_known(bitfeld: &[u8], fields: &[u32], field: u32) -> bool
         return true;
     }
     sections::known_field(bitfeld, fields, field)
+}
+
+// Whether a range's category is in ZUGART; a range of another kind has none.
+fn category_listed(part: Part, name: u32, zugart: &[u8], index: &[u32]) -> bool
+    requires { ⌜ ClassIndex (now zugart) (now index) ⌝ }
+    ensures { λ r. ⌜ r ≡ categoryListed part name (classesIn (now (zugart .entry))) ⌝ }
+{
+    match part {
+        Part::Category => sections::known_class(zugart, index, name),
+        Part::Days => true,
+        Part::Extra => true,
+    }
 }

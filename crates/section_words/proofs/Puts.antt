@@ -14,11 +14,11 @@ use Rattle.lines.proofs.Laws.{cutting, lines-none, walk}
 use Rattle.bitfield.specs.BitField.{bitsIn}
 use Rattle.words.specs.Words.{write}
 use Rattle.words.proofs.Laws.{write-none, write-one, write-write}
-use Rattle.timetable.specs.Layout.{mostFileBytes, bitFieldSize, stopSize, interchangeSize}
+use Rattle.timetable.specs.Layout.{mostFileBytes, bitFieldSize, stopSize, interchangeSize, classSize}
 use Rattle.timetable.specs.Files.{nameLength}
 use Rattle.sections.specs.Sections.{numberOn}
 use Rattle.sections.specs.declared.Section.{Section}
-use Rattle.sections.specs.declared.Section.the-variants.{BitFields, Stops, Interchanges}
+use Rattle.sections.specs.declared.Section.the-variants.{BitFields, Stops, Interchanges, Classes}
 use Rattle.sections.specs.declared.Numbered.{Numbered}
 use Rattle.sections.specs.declared.Numbered.the-variants.{Number, Skipped, Broken}
 use Rattle.section_words.specs.Words.{recordWords, wordsOn, sectionWords}
@@ -42,7 +42,13 @@ stop-written t r text q n at k m d e v = rw (← d, ← e) v
 pub interchange-written : (t r text : List ℕ) (q n a b : ℕ) → a ≡ number (columns 9 10 text) → b ≡ number (columns 12 13 text) → r ≡ write t q (n ∷ a ∷ b ∷ []) → r ≡ write t q (n ∷ number (columns 9 10 text) ∷ number (columns 12 13 text) ∷ [])
 interchange-written t r text q n a b d e v = rw (← d, ← e) v
 
-pub ruleset record-puts = (tests, bits-room, bits-written, bits-kept, stop-written, interchange-written)
+pub class-inside : (t : List ℕ) (q n : ℕ) → q + classSize ≤ length t → q + 1 < length (set t q n)
+class-inside t q n h = rw length-set (omega arith)
+
+pub class-written : (t text : List ℕ) (q n a : ℕ) → q + classSize ≤ length t → a ≡ number (columns 5 6 text) → set (set t q n) (q + 1) a ≡ write t q (n ∷ number (columns 5 6 text) ∷ [])
+class-written t text q n a h d = rw (← d) (write-one (set t q n) (q + 1) a (class-inside t q n h) ∙ rw (write-one t q n (omega arith)) (write-write t q (n ∷ []) (a ∷ []) (omega arith)))
+
+pub ruleset record-puts = (tests, bits-room, bits-written, bits-kept, stop-written, interchange-written, class-inside, class-written)
 
 -- ---- a line, by what it has for a number
 
@@ -104,7 +110,17 @@ module _ (s : Section) (start : ℕ) (text : List ℕ) (n : Numbered) (e : n ≡
       pub interchange-put : (t r : List ℕ) → r ≡ write t q (k ∷ number (columns 9 10 text) ∷ number (columns 12 13 text) ∷ []) → r ≡ write t q (wordsOn s start text)
       interchange-put t r d = record-put t r _ (rw z refl) d
 
-pub ruleset line-puts = (tests, skipped-place, skipped-written, broken-place, broken-written, field-room, field-place, field-put, stop-room, stop-place, stop-put, interchange-room, interchange-place, interchange-put)
+    module _ (z : s ≡ Classes) where
+      pub class-room : (t : List ℕ) → q + length (wordsOn s start text) ≤ length t → q + classSize ≤ length t
+      class-room t h = rw (size-is, z) at h
+
+      pub class-place : (p : ℕ) → p ≡ q + classSize → p ≡ q + length (wordsOn s start text)
+      class-place p d = d ∙ sym (rw (size-is, z) refl)
+
+      pub class-put : (t r : List ℕ) → r ≡ write t q (k ∷ number (columns 5 6 text) ∷ []) → r ≡ write t q (wordsOn s start text)
+      class-put t r d = record-put t r _ (rw z refl) d
+
+pub ruleset line-puts = (tests, skipped-place, skipped-written, broken-place, broken-written, field-room, field-place, field-put, stop-room, stop-place, stop-put, interchange-room, interchange-place, interchange-put, class-room, class-place, class-put)
 
 -- ---- a section: t₀ and p are the table and the place at entry, n the words of the file; r is the line cut at the place `at`
 

@@ -10,18 +10,18 @@ use Rattle.base.proofs.Lists.{gathered-append}
 use Rattle.lines.specs.Lines.{Line, skipped}
 use Rattle.bitfield.proofs.Hex.{length-bits}
 use Rattle.forms.specs.Form.{formOf}
-use Rattle.forms.specs.Columns.{bitFieldColumns, stopColumns, interchangeColumns}
+use Rattle.forms.specs.Columns.{bitFieldColumns, stopColumns, interchangeColumns, classColumns}
 use Rattle.forms.specs.declared.Form.{Form}
 use Rattle.forms.specs.declared.Form.the-variants.{Fits, Broken as BrokenForm}
-use Rattle.timetable.specs.Layout.{bitFieldSize, stopSize, interchangeSize}
-use Rattle.timetable.specs.Files.{Held, skip, listed, held-in, heldBy, bitFieldOf, stopOf, interchangeOf}
-use Rattle.timetable.specs.Table.{bitFieldWords, stopWords, interchangeWords}
+use Rattle.timetable.specs.Layout.{bitFieldSize, stopSize, interchangeSize, classSize}
+use Rattle.timetable.specs.Files.{Held, skip, listed, held-in, heldBy, bitFieldOf, stopOf, interchangeOf, classOf}
+use Rattle.timetable.specs.Table.{bitFieldWords, stopWords, interchangeWords, classWords}
 use Rattle.sections.specs.Sections.{numberedBy, numberOn, asNumber, numbers}
 use Rattle.sections.specs.declared.Section.{Section}
-use Rattle.sections.specs.declared.Section.the-variants.{BitFields, Stops, Interchanges}
+use Rattle.sections.specs.declared.Section.the-variants.{BitFields, Stops, Interchanges, Classes}
 use Rattle.sections.specs.declared.Numbered.{Numbered}
 use Rattle.sections.specs.declared.Numbered.the-variants.{Number, Skipped, Broken}
-use Rattle.sections.proofs.Files.{count-fields, count-stops, count-interchanges}
+use Rattle.sections.proofs.Files.{count-fields, count-stops, count-interchanges, count-classes}
 use Rattle.section_words.specs.Words.{recordWords, wordsOn, sectionWords}
 
 -- ---- the words of a section are those of what its lines hold
@@ -52,6 +52,10 @@ module _ (ls : List Line) where
   unfolding wordsOn numberOn
   words-interchanges = section-words interchangeWords Interchanges interchangeOf (λ l. one-record interchangeWords Interchanges interchangeOf (recordWords Interchanges (l .start) (l .text)) (skipped (l .text)) (formOf interchangeColumns (l .text)) _ _ refl) ls
 
+  pub words-classes : sectionWords Classes ls ≡ gathered classWords (held-in classOf ls)
+  unfolding wordsOn numberOn
+  words-classes = section-words classWords Classes classOf (λ l. one-record classWords Classes classOf (recordWords Classes (l .start) (l .text)) (skipped (l .text)) (formOf classColumns (l .text)) _ _ refl) ls
+
 -- ---- the words of a line, by what it has for a number
 
 module _ (s : Section) (start : ℕ) (text : List ℕ) (n : Numbered) (e : n ≡ numberOn s text) where
@@ -74,11 +78,13 @@ abbrev pub sizeOf : Section → ℕ
 sizeOf BitFields = bitFieldSize
 sizeOf Stops = stopSize
 sizeOf Interchanges = interchangeSize
+sizeOf Classes = classSize
 
 pub length-record : (s : Section) (start : ℕ) (text : List ℕ) (k : ℕ) → length (recordWords s start text k) ≡ sizeOf s
 length-record BitFields start text k = ap suc (length-bits text)
 length-record Stops start text k = refl
 length-record Interchanges start text k = refl
+length-record Classes start text k = refl
 
 length-line : (s : Section) (start : ℕ) (text : List ℕ) → length (wordsOn s start text) ≡ sizeOf s * length (asNumber (numberOn s text))
 length-line s start text = go (numberOn s text) refl
@@ -104,3 +110,6 @@ module _ (ls : List Line) where
 
   pub length-interchanges : length (sectionWords Interchanges ls) ≡ interchangeSize * length (held-in interchangeOf ls)
   length-interchanges = length-words Interchanges ls ∙ rw (count-interchanges ls) refl
+
+  pub length-classes : length (sectionWords Classes ls) ≡ classSize * length (held-in classOf ls)
+  length-classes = length-words Classes ls ∙ rw (count-classes ls) refl

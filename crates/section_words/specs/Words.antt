@@ -1,4 +1,4 @@
--- The words that the lines of files 2, 3 and 4 give to the table, by what each line has for a number. Assumes nothing.
+-- The words that the lines of files 2, 3, 4 and 6 give to the table, by what each line has for a number. Assumes nothing.
 use Prim.Native.Nat.{ℕ, _+_}
 use mathlib.Core.List.{List, [], _∷_}
 use Rattle.base.specs.Lists.{gathered}
@@ -8,13 +8,14 @@ use Rattle.bitfield.specs.BitField.{bitsIn}
 use Rattle.timetable.specs.Files.{nameLength}
 use Rattle.sections.specs.Sections.{numberOn, asNumber}
 use Rattle.sections.specs.declared.Section.{Section}
-use Rattle.sections.specs.declared.Section.the-variants.{BitFields, Stops, Interchanges}
+use Rattle.sections.specs.declared.Section.the-variants.{BitFields, Stops, Interchanges, Classes}
 
 -- the words of the record of number k on a line that starts at a place
 abbrev pub recordWords : Section → ℕ → List ℕ → ℕ → List ℕ
 recordWords BitFields start text k = k ∷ bitsIn text
 recordWords Stops start text k = k ∷ (start + 12) ∷ nameLength (columns 13 62 text) ∷ []
 recordWords Interchanges start text k = k ∷ number (columns 9 10 text) ∷ number (columns 12 13 text) ∷ []
+recordWords Classes start text k = k ∷ number (columns 5 6 text) ∷ []
 
 -- those that the line gives
 unfoldable pub wordsOn : Section → ℕ → List ℕ → List ℕ

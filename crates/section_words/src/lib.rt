@@ -1,8 +1,9 @@
-// The words that BITFELD, BAHNHOF and UMSTEIGB give to the table.
+// The words that BITFELD, BAHNHOF, UMSTEIGB and ZUGART give to the table.
 use sections::Numbered;
 use sections::Section;
 use timetable::BIT_FIELD_WORDS;
 use timetable::BIT_WORDS;
+use timetable::CLASS_WORDS;
 use timetable::INTERCHANGE_WORDS;
 use timetable::STOP_WORDS;
 ghost use mathlib.Core.Path.{_≡_};
@@ -12,7 +13,7 @@ ghost use lib.ListN.{length};
 ghost use Rattle.columns.specs.Columns.{columns, number as numberIn};
 ghost use Rattle.lines.specs.Lines.{linesOf};
 ghost use Rattle.words.specs.Words.{write};
-ghost use Rattle.timetable.specs.Layout.{mostFileBytes, bitFieldSize, stopSize, interchangeSize};
+ghost use Rattle.timetable.specs.Layout.{mostFileBytes, bitFieldSize, stopSize, interchangeSize, classSize};
 ghost use Rattle.timetable.specs.Files.{nameLength};
 ghost use Rattle.section_words.specs.Words.{wordsOn, sectionWords};
 
@@ -49,6 +50,7 @@ fn put_line(section: Section, text: &[u8], start: usize, t: &mut [u32], q: usize
             Section::BitFields => put_bit_field(t, q, x, bitfield::bits_in(text)),
             Section::Stops => put_stop(t, q, x, start, text),
             Section::Interchanges => put_interchange(t, q, x, text),
+            Section::Classes => put_class(t, q, x, text),
         },
     }
 }
@@ -89,4 +91,14 @@ fn put_interchange(t: &mut [u32], q: usize, number: u32, text: &[u8]) -> usize
         columns::number_in(text, 12, 13),
     );
     q + INTERCHANGE_WORDS
+}
+
+fn put_class(t: &mut [u32], q: usize, code: u32, text: &[u8]) -> usize
+    requires { ⌜ q + classSize ≤ length (now t) ⌝ }
+    ensures { λ r. ⌜ (r ≡ q + classSize) × (now (t .exit) ≡ write (now (t .entry)) q (code ∷ numberIn (columns 5 6 (now (text .entry))) ∷ [])) ⌝ }
+{
+    let class = columns::number_in(text, 5, 6);
+    t[q] = code;
+    t[q + 1] = class;
+    q + CLASS_WORDS
 }

@@ -10,10 +10,12 @@ use Rattle.base.proofs.Laws.{tests, apart}
 use Rattle.columns.specs.Columns.{columns, number}
 use Rattle.lines.specs.Lines.{Line, skipped}
 use Rattle.forms.specs.Form.{formOf}
-use Rattle.forms.specs.Columns.{bitFieldColumns, stopColumns, interchangeColumns}
+use Rattle.forms.specs.Columns.{bitFieldColumns, stopColumns, interchangeColumns, classColumns}
 use Rattle.timetable.specs.Delivery.{StopRecord, Interchange}
 use Rattle.timetable.specs.Offences.{offenceAt, _<|>_, first, checkedBy}
 use Rattle.timetable.specs.Files.{held-in, bitFieldOf, bitFieldLineOffence, bitFieldsFirst, stopOf, stopLineOffence, stopsFirst}
+use Rattle.timetable.specs.Files.{classOf, classLineOffence, classesFirst}
+use Rattle.timetable.specs.Plan.{threeBytes}
 use Rattle.timetable.specs.Files.{interchangeOf, interchangeOffence, interchangeLineOffence, interchangesFirst}
 use Rattle.timetable.specs.declared.Offence.{Offence}
 use Rattle.timetable.specs.declared.Checked.{Checked}
@@ -21,8 +23,8 @@ use Rattle.timetable.specs.declared.Checked.the-variants.{Holds, Refused}
 use Rattle.timetable.proofs.Offences.{first-same, checked-holds, checked-refused}
 use Rattle.sections.specs.Sections.{numbers, numberOn, recordOffence, lineOffence}
 use Rattle.sections.specs.SectionMap.{MapOf, Lent, Ready}
-use Rattle.sections.specs.declared.Section.the-variants.{BitFields, Stops, Interchanges}
-use Rattle.sections.proofs.Held.{by-number, field-numbers, stop-numbers, interchange-numbers}
+use Rattle.sections.specs.declared.Section.the-variants.{BitFields, Stops, Interchanges, Classes}
+use Rattle.sections.proofs.Held.{by-number, field-numbers, stop-numbers, interchange-numbers, class-numbers}
 use Rattle.sections.proofs.Offences.{just}
 
 -- ---- how many records: later crates take it from here
@@ -36,6 +38,9 @@ module _ (ls : List Line) where
 
   pub count-interchanges : length (numbers Interchanges ls) ≡ length (held-in interchangeOf ls)
   count-interchanges = ap length (interchange-numbers ls) ∙ length-map (held-in interchangeOf ls) _
+
+  pub count-classes : length (numbers Classes ls) ≡ length (held-in classOf ls)
+  count-classes = ap length (class-numbers ls) ∙ length-map (held-in classOf ls) _
 
 -- ---- a line's own offence is the one that the paper's file says
 
@@ -56,17 +61,21 @@ module _ (n : ℕ) (stops : List StopRecord) (before : List Line) (l : Line) whe
   unfolding lineOffence numberOn recordOffence
   line-of-interchanges = sym (by-number _ (recordOffence Interchanges n stops before (l .no) (l .text)) (l .no) (skipped (l .text)) (formOf interchangeColumns (l .text)) _ (number (columns 1 7 (l .text))) (just-number stops (held-in interchangeOf before) (l .no) _))
 
+  line-of-classes : lineOffence Classes n stops before l ≡ classLineOffence before l
+  unfolding lineOffence numberOn recordOffence
+  line-of-classes = sym (by-number _ (recordOffence Classes n stops before (l .no) (l .text)) (l .no) (skipped (l .text)) (formOf classColumns (l .text)) _ (threeBytes 1 (l .text)) refl)
+
 -- ---- the words lent for each file
 
 module _ (f b m : List ℕ) where
   pub fields-ready : Lent f m → Ready BitFields f b 0 m
-  fields-ready l = record { inside = omega arith; lent = l; stops = λ e. apart cc }
+  fields-ready l = record { inside = omega arith; lent = l; stops = λ e. apart cc; mapped = λ e. apart cc }
 
   pub stops-ready : Lent f m → Ready Stops f b 0 m
-  stops-ready l = record { inside = omega arith; lent = l; stops = λ e. apart cc }
+  stops-ready l = record { inside = omega arith; lent = l; stops = λ e. apart cc; mapped = λ e. apart cc }
 
   pub interchanges-ready : (split : ℕ) → split ≤ length m → MapOf Stops b (take split m) → Lent f (drop split m) → Ready Interchanges f b split m
-  interchanges-ready split h w l = record { inside = h; lent = l; stops = λ e. w }
+  interchanges-ready split h w l = record { inside = h; lent = l; stops = λ e. w; mapped = λ e. apart cc }
 
 -- ---- each file
 
@@ -80,6 +89,11 @@ module _ (ls : List Line) (days : ℕ) (stops : List StopRecord) (r : Checked) w
       → r ≡ checkedBy (stopsFirst ls) (length (held-in stopOf ls)) (length ls + 1)
   unfolding stopsFirst
   stops-checked e = e ∙ rw (count-stops, first-same _ _ (line-of-stops days stops) [] ls) refl
+
+  pub classes-checked : r ≡ checkedBy (first (lineOffence Classes days stops) [] ls) (length (numbers Classes ls)) (length ls + 1)
+      → r ≡ checkedBy (classesFirst ls) (length (held-in classOf ls)) (length ls + 1)
+  unfolding classesFirst
+  classes-checked e = e ∙ rw (count-classes, first-same _ _ (line-of-classes days stops) [] ls) refl
 
   module _ (e : r ≡ checkedBy (first (lineOffence Interchanges days stops) [] ls) (length (numbers Interchanges ls)) (length ls + 1)) where
     -- the offences of its lines
@@ -108,4 +122,4 @@ module _ (ls : List Line) (days : ℕ) (stops : List StopRecord) (r : Checked) w
           let h = checked-holds own _ _ r here c n y in
           rw (h .0, ne-eqb (length (held-in interchangeOf ls)) 0 (λ z. omega (arith, h .1)), h .1, h .2) refl
 
-pub ruleset files = (tests, fields-ready, stops-ready, interchanges-ready, fields-checked, stops-checked, interchanges-refused, interchanges-none, interchanges-checked)
+pub ruleset files = (tests, fields-ready, stops-ready, interchanges-ready, fields-checked, stops-checked, classes-checked, interchanges-refused, interchanges-none, interchanges-checked)

@@ -124,11 +124,12 @@ module _ (s : Section) (f b m₀ : List ℕ) (split : ℕ) (w : Ready s f b spli
 
   module _ (at count : ℕ) (m : List ℕ) (v : Filling s f m₀ split at count m) where
     -- the part before, as it is handed on
-    pub fill-reached : Reached s (linesOf (take (at - 0) (drop 0 f))) b split m
+    pub fill-reached : Reached s (take (at - 0) (drop 0 f)) b split m
     fill-reached = rw sub-zero (record {
       inside = omega (arith, w .inside, v .same);
-      seen = record { count = count; chained = v .filled .chained; numbers-held = v .filled .numbers-held };
+      seen = λ z. record { count = count; chained = v .filled .chained; numbers-held = v .filled .numbers-held };
       stops = λ e. rw (v .front) (w .stops e);
+      index = λ e. absurd (w .mapped e);
     })
 
     pub fill-ready : (line : ℕ) → Walked f at line → at < length f → length f ≤ mostFileBytes → count ≡ length (numbers s (linesOf (take at f))) → PutReady count split at m

@@ -11,15 +11,15 @@ use Rattle.columns.specs.Columns.{number}
 use Rattle.lines.specs.Lines.{Line, skipped, linesOf}
 use Rattle.lines.proofs.Laws.{lines-le}
 use Rattle.forms.specs.Form.{formOf}
-use Rattle.forms.specs.Columns.{bitFieldColumns, stopColumns, interchangeColumns}
+use Rattle.forms.specs.Columns.{bitFieldColumns, stopColumns, interchangeColumns, classColumns}
 use Rattle.forms.specs.declared.Form.{Form}
 use Rattle.forms.specs.declared.Form.the-variants.{Fits, Broken as BrokenForm}
-use Rattle.timetable.specs.Delivery.{BitField, StopRecord, Interchange}
-use Rattle.timetable.specs.Files.{Held, skip, broken, held, listed, held-in, heldBy, heldOffence, bitFieldOf, stopOf, interchangeOf}
+use Rattle.timetable.specs.Delivery.{BitField, StopRecord, Interchange, CategoryClass}
+use Rattle.timetable.specs.Files.{Held, skip, broken, held, listed, held-in, heldBy, heldOffence, bitFieldOf, stopOf, interchangeOf, classOf}
 use Rattle.timetable.specs.declared.Offence.{Offence}
 use Rattle.sections.specs.Sections.{numberedBy, numberOn, asNumber, numbers, numberedOffence}
 use Rattle.sections.specs.declared.Section.{Section}
-use Rattle.sections.specs.declared.Section.the-variants.{BitFields, Stops, Interchanges}
+use Rattle.sections.specs.declared.Section.the-variants.{BitFields, Stops, Interchanges, Classes}
 use Rattle.sections.specs.declared.Numbered.the-variants.{Skipped}
 
 -- ---- what lines hold
@@ -82,3 +82,7 @@ module _ (ls : List Line) where
   pub interchange-numbers : numbers Interchanges ls ≡ map (λ (c : Interchange). c .number) (held-in interchangeOf ls)
   unfolding numberOn
   interchange-numbers = section-numbers _ Interchanges interchangeOf (λ l. one-number (λ (c : Interchange). c .number) (skipped (l .text)) (formOf interchangeColumns (l .text)) _) ls
+
+  pub class-numbers : numbers Classes ls ≡ map (λ (c : CategoryClass). c .code) (held-in classOf ls)
+  unfolding numberOn
+  class-numbers = section-numbers _ Classes classOf (λ l. one-number (λ (c : CategoryClass). c .code) (skipped (l .text)) (formOf classColumns (l .text)) _) ls

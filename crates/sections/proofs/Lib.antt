@@ -6,3 +6,5 @@ pub mod Walk
 pub mod Scans
 pub mod Fills
 pub mod Files
+pub mod Classes
+pub mod Index

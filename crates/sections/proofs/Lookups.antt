@@ -2,14 +2,13 @@
 use mathlib.Core.Path.{_≡_, refl, ap, sym, _∙_}
 use mathlib.Core.List.{List, [], _∷_, map}
 use mathlib.Core.Bool.{Bool, true, false, _||_}
-use Prim.Native.Nat.{ℕ, _-_, _≤_}
+use Prim.Native.Nat.{ℕ, _-_}
 use native.Mathlib.Nat.{sub-zero}
 use native.Mathlib.Omega.{arith}
 use lib.ListN.{length, take, drop, length-drop}
 use lib.Seq.{take-all}
 use Rattle.base.specs.Lists.{some-of}
-use Rattle.base.proofs.Laws.{tests}
-use Rattle.columns.specs.Columns.{columns, number}
+use Rattle.base.proofs.Laws.{tests, apart}
 use Rattle.lines.specs.Lines.{Line, skipped, linesOf}
 use Rattle.forms.specs.Form.{formOf}
 use Rattle.forms.specs.Columns.{columnsOf}
@@ -20,24 +19,19 @@ use Rattle.map.specs.Map.{Mapped, Finds, numbersIn}
 use Rattle.map.specs.declared.Found.{Found}
 use Rattle.map.specs.declared.Found.the-variants.{At, Nowhere}
 use Rattle.map.proofs.Meaning.{found-none, found-some}
-use Rattle.timetable.specs.Files.{held-in, bitFieldOf, stopOf, interchangeOf, hasField, hasStop, hasInterchange}
-use Rattle.sections.specs.Sections.{lineKind, numberEnd, numberOn, numbers, hasNumber}
+use Rattle.timetable.specs.Files.{held-in, bitFieldOf, stopOf, interchangeOf, classOf, hasField, hasStop, hasInterchange, hasClass}
+use Rattle.sections.specs.Sections.{lineKind, keyOn, numberOn, numbers, hasNumber}
+use Rattle.sections.specs.ClassIndex.{IndexOf}
 use Rattle.sections.specs.SectionMap.{Seen, MapOf, Reached}
 use Rattle.sections.specs.declared.Section.{Section}
-use Rattle.sections.specs.declared.Section.the-variants.{BitFields, Stops, Interchanges}
+use Rattle.sections.specs.declared.Section.the-variants.{BitFields, Stops, Interchanges, Classes}
 use Rattle.sections.specs.declared.Numbered.the-variants.{Number, Skipped, Broken}
-use Rattle.sections.proofs.Held.{field-numbers, stop-numbers, interchange-numbers}
+use Rattle.sections.proofs.Held.{field-numbers, stop-numbers, interchange-numbers, class-numbers}
 
 -- ---- the number on a line, for `search numbering`
 
--- a section's number is short enough to be read
-pub end-small : (s : Section) (to : ℕ) → to ≡ numberEnd s → to - (1 - 1) ≤ 9
-end-small s to e = rw e (go s)
-  where
-    go : (s : Section) → numberEnd s - (1 - 1) ≤ 9
-    go BitFields = omega arith
-    go Stops = omega arith
-    go Interchanges = omega arith
+pub key-is : (s t : Section) (text : List ℕ) (n : ℕ) → s ≡ t → n ≡ keyOn t text → n ≡ keyOn s text
+key-is s t text n e d = rw e d
 
 -- t is whether the line is skipped, k the kind of its section's lines, g its form
 module _ (s : Section) (text : List ℕ) (t : Bool) (e : t ≡ skipped text) where
@@ -53,11 +47,11 @@ module _ (s : Section) (text : List ℕ) (t : Bool) (e : t ≡ skipped text) whe
     unfolding numberOn
     number-broken c z = rw (sym e ∙ y, sym form-is ∙ z) refl
 
-    pub number-fits : (to n : ℕ) → g ≡ Fits → to ≡ numberEnd s → n ≡ number (columns 1 to text) → Number n ≡ numberOn s text
+    pub number-fits : (n : ℕ) → g ≡ Fits → n ≡ keyOn s text → Number n ≡ numberOn s text
     unfolding numberOn
-    number-fits to n z x v = rw (sym e ∙ y, sym form-is ∙ z, ← x) (ap Number v)
+    number-fits n z v = rw (sym e ∙ y, sym form-is ∙ z) (ap Number v)
 
-pub ruleset numbering = (tests, end-small, number-skipped, number-broken, number-fits)
+pub ruleset numbering = (tests, key-is, number-skipped, number-broken, number-fits)
 
 -- ---- a number looked up among the records of lines, for `search looks`: r is what the map answers
 
@@ -94,6 +88,9 @@ module _ (r : Bool) (k : ℕ) (ls : List Line) where
   pub has-interchange : r ≡ hasNumber k (numbers Interchanges ls) → r ≡ hasInterchange k (held-in interchangeOf ls)
   has-interchange e = e ∙ ap (hasNumber k) (interchange-numbers ls) ∙ some-map _ _ (held-in interchangeOf ls)
 
+  pub has-class : r ≡ hasNumber k (numbers Classes ls) → r ≡ hasClass k (held-in classOf ls)
+  has-class e = e ∙ ap (hasNumber k) (class-numbers ls) ∙ some-map _ _ (held-in classOf ls)
+
 pub ruleset knows = (tests, map-seen, has-field, has-stop)
 
 -- ---- two maps in one slice: the parts that are handed on
@@ -102,9 +99,23 @@ pub ruleset knows = (tests, map-seen, has-field, has-stop)
 pub own-part : (split : ℕ) (m : List ℕ) → take (length m - split) (drop split m) ≡ drop split m
 own-part split m = take-all (length m - split) (drop split m) (omega (arith, length-drop split m))
 
-module _ (s : Section) (ls : List Line) (b : List ℕ) (split : ℕ) (m : List ℕ) (w : Reached s ls b split m) where
-  pub reached-seen : (t : Section) → s ≡ t → Seen t ls (take (length m - split) (drop split m))
-  reached-seen t e = rw (own-part, ← e) (w .seen)
+module _ (s : Section) (p b : List ℕ) (split : ℕ) (m : List ℕ) (w : Reached s p b split m) where
+  seen-as : (t : Section) → s ≡ t → (t ≡ Classes → ⊥) → Seen t (linesOf p) (take (length m - split) (drop split m))
+  seen-as t e z = rw (own-part, ← e) (w .seen (λ y. z (sym e ∙ y)))
+
+  pub fields-seen : s ≡ BitFields → Seen BitFields (linesOf p) (take (length m - split) (drop split m))
+  fields-seen e = seen-as BitFields e (λ y. apart cc)
+
+  pub stops-seen : s ≡ Stops → Seen Stops (linesOf p) (take (length m - split) (drop split m))
+  stops-seen e = seen-as Stops e (λ y. apart cc)
+
+  pub interchanges-seen : s ≡ Interchanges → Seen Interchanges (linesOf p) (take (length m - split) (drop split m))
+  interchanges-seen e = seen-as Interchanges e (λ y. apart cc)
 
   pub reached-stops : s ≡ Interchanges → MapOf Stops b (take (split - 0) (drop 0 m))
   reached-stops e = rw sub-zero (w .stops e)
+
+  pub reached-index : s ≡ Classes → IndexOf p (take (length m - split) (drop split m))
+  reached-index e = rw own-part (w .index e)
+
+pub ruleset reached = (fields-seen, stops-seen, interchanges-seen, reached-stops, reached-index)

@@ -1,2 +1,3 @@
 pub mod Sections
+pub mod ClassIndex
 pub mod SectionMap

@@ -10,8 +10,9 @@ use Rattle.map.specs.Map.{recordWords, wordValues, Chained, Distinct, numbersIn
 use Rattle.timetable.specs.declared.Checked.{Checked}
 use Rattle.timetable.specs.declared.Checked.the-variants.{Holds}
 use Rattle.sections.specs.Sections.{numberOn, asNumber, numbers}
+use Rattle.sections.specs.ClassIndex.{IndexOf}
 use Rattle.sections.specs.declared.Section.{Section}
-use Rattle.sections.specs.declared.Section.the-variants.{Stops, Interchanges}
+use Rattle.sections.specs.declared.Section.the-variants.{Stops, Interchanges, Classes}
 use Rattle.sections.specs.declared.Numbered.{Numbered}
 use Rattle.sections.specs.declared.Numbered.the-variants.{Number, Skipped, Broken}
 
@@ -60,17 +61,19 @@ pub record MapAfter (s : Section) (f : List ℕ) (r : Checked) (m : List ℕ) : 
 -- ---- the words of two maps: the first words are the map of BAHNHOF, those from `split` on are the map of the file that is checked. BAHNHOF is looked at
 -- for UMSTEIGB only; the map of another file has no words before it
 
--- before the first line
+-- before the first line; ZUGART has no map
 pub record Ready (s : Section) (f bahnhof : List ℕ) (split : ℕ) (m : List ℕ) : Type 0 where
   pub inside : split ≤ length m
   pub lent : Lent f (drop split m)
   pub stops : s ≡ Interchanges → MapOf Stops bahnhof (take split m)
+  pub mapped : s ≡ Classes → ⊥
 
--- after these lines
-pub record Reached (s : Section) (ls : List Line) (bahnhof : List ℕ) (split : ℕ) (m : List ℕ) : Type 0 where
+-- after the lines of the part `before` of a file; those of ZUGART have an index in place of a map
+pub record Reached (s : Section) (before bahnhof : List ℕ) (split : ℕ) (m : List ℕ) : Type 0 where
   pub inside : split ≤ length m
-  pub seen : Seen s ls (drop split m)
+  pub seen : (s ≡ Classes → ⊥) → Seen s (linesOf before) (drop split m)
   pub stops : s ≡ Interchanges → MapOf Stops bahnhof (take split m)
+  pub index : s ≡ Classes → IndexOf before (drop split m)
 
 -- there is room for a record of a line that starts at a place
 pub record PutReady (count split place : ℕ) (m : List ℕ) : Type 0 where

@@ -1,4 +1,4 @@
--- Files 2, 3 and 4 side by side: what is said of each in the crate timetable, by the section of the table that it gives. Assumes nothing.
+-- Files 2, 3, 4 and 6 side by side: what is said of each in the crate timetable, by the section of the table that it gives. Assumes nothing.
 use Prim.Native.Nat.{ℕ}
 use mathlib.Core.List.{List, [], _∷_}
 use mathlib.Core.Bool.{Bool, cond}
@@ -14,13 +14,14 @@ use Rattle.forms.specs.Columns.{columnsOf}
 use Rattle.forms.specs.declared.Form.{Form}
 use Rattle.forms.specs.declared.Form.the-variants.{Fits, Broken as BrokenForm}
 use Rattle.forms.specs.declared.LineKind.{LineKind}
-use Rattle.forms.specs.declared.LineKind.the-variants.{BitField as BitFieldLine, Stop, Interchange}
+use Rattle.forms.specs.declared.LineKind.the-variants.{BitField as BitFieldLine, Stop, Interchange, CategoryClass}
 use Rattle.timetable.specs.Delivery.{BitField, StopRecord}
 use Rattle.timetable.specs.Offences.{formOffence}
-use Rattle.timetable.specs.Files.{held-in, bitFieldOf, bitFieldOffence, stopOf, namedStopOffence, interchangeOf, interchangeOffence}
+use Rattle.timetable.specs.Files.{held-in, bitFieldOf, bitFieldOffence, stopOf, namedStopOffence, interchangeOf, interchangeOffence, classOf, tariffOf, classOffence}
+use Rattle.timetable.specs.Plan.{threeBytes}
 use Rattle.timetable.specs.declared.Offence.{Offence}
 use Rattle.sections.specs.declared.Section.{Section}
-use Rattle.sections.specs.declared.Section.the-variants.{BitFields, Stops, Interchanges}
+use Rattle.sections.specs.declared.Section.the-variants.{BitFields, Stops, Interchanges, Classes}
 use Rattle.sections.specs.declared.Numbered.{Numbered}
 use Rattle.sections.specs.declared.Numbered.the-variants.{Number, Skipped, Broken}
 
@@ -31,19 +32,21 @@ abbrev pub lineKind : Section → LineKind
 lineKind BitFields = BitFieldLine
 lineKind Stops = Stop
 lineKind Interchanges = Interchange
+lineKind Classes = CategoryClass
 
--- the last column of its number, which starts in column 1
-abbrev pub numberEnd : Section → ℕ
-numberEnd BitFields = 6
-numberEnd Stops = 7
-numberEnd Interchanges = 7
+-- its number, which starts in column 1; a category's is its code
+abbrev pub keyOn : Section → List ℕ → ℕ
+keyOn BitFields text = number (columns 1 6 text)
+keyOn Stops text = number (columns 1 7 text)
+keyOn Interchanges text = number (columns 1 7 text)
+keyOn Classes text = threeBytes 1 text
 
 abbrev pub numberedBy : Form → ℕ → Numbered
 numberedBy Fits n = Number n
 numberedBy (BrokenForm c) n = Broken c
 
 unfoldable pub numberOn : Section → List ℕ → Numbered
-numberOn s text = cond (skipped text) Skipped (numberedBy (formOf (columnsOf (lineKind s)) text) (number (columns 1 (numberEnd s) text)))
+numberOn s text = cond (skipped text) Skipped (numberedBy (formOf (columnsOf (lineKind s)) text) (keyOn s text))
 
 abbrev pub asNumber : Numbered → List ℕ
 asNumber Skipped = []
@@ -59,11 +62,13 @@ hasNumber n ns = some-of (λ (x : ℕ). eqb x n) ns
 
 -- ---- what is wrong with a line
 
--- with the record of number k on a line, after the lines before it: its own offence looks at nothing else of the record but a bit field's words and a stop's name
+-- with the record of number k on a line, after the lines before it: its own offence looks at nothing else of the record but a bit field's words, a stop's name and
+-- whether a category has a tariff group
 unfoldable pub recordOffence : Section → ℕ → List StopRecord → List Line → ℕ → List ℕ → ℕ → Option Offence
 recordOffence BitFields n stops before line text k = bitFieldOffence n (held-in bitFieldOf before) line (record { number = k; words = bitsIn text })
 recordOffence Stops n stops before line text k = namedStopOffence (held-in stopOf before) line text (record { number = k; offset = 0; size = 0 })
 recordOffence Interchanges n stops before line text k = interchangeOffence stops (held-in interchangeOf before) line (record { number = k; firstTime = 0; secondTime = 0 })
+recordOffence Classes n stops before line text k = classOffence (held-in classOf before) (held-in tariffOf before) line text (record { code = k; class = 0 })
 
 -- 4, then the record's own
 abbrev pub numberedOffence : (ℕ → Option Offence) → ℕ → Numbered → Option Offence

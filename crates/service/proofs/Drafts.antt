@@ -6,7 +6,7 @@ use Prim.Native.Nat.{ℕ}
 use lib.ListN.{length}
 use Rattle.base.proofs.Laws.{tests}
 use Rattle.lines.specs.Lines.{Line}
-use Rattle.timetable.specs.Delivery.{BitField, StopRecord}
+use Rattle.timetable.specs.Delivery.{BitField, StopRecord, CategoryClass}
 use Rattle.timetable.specs.Offences.{_<|>_, first}
 use Rattle.timetable.specs.Service.{firstLine, callsOf, serviceOf}
 use Rattle.timetable.specs.Checks.{ownOffence, serviceChecks, serviceFirst}
@@ -54,32 +54,32 @@ module _ {f : List ℕ} {at n : ℕ} {d : Drafted} {calls ranges : List ℕ} (r 
       let c : d .counts .calls ≡ length (callsOf ls) = sym (ap (λ (k : Counts). k .calls) (r .draft .counts)) in
       rw (service-is, r .draft .called, r .draft .ranged, draft-calls ls (d .counts) calls ranges (r .draft), own-number, c) refl
 
-  module _ (fields : List BitField) (stops : List StopRecord) (days : ℕ) (clean : first (ownOffence fields stops) [] ls ≡ none) where
-    checked : (o : Option Offence) → serviceFirst fields stops days ls ≡ o → CheckedAs fields stops days f at n (checkBy o (serviceIn d calls ranges) d)
+  module _ (fields : List BitField) (stops : List StopRecord) (classes : List CategoryClass) (days : ℕ) (clean : first (ownOffence fields stops classes) [] ls ≡ none) where
+    checked : (o : Option Offence) → serviceFirst fields stops classes days ls ≡ o → CheckedAs fields stops classes days f at n (checkBy o (serviceIn d calls ranges) d)
     checked none e = (e, record { size = ap (λ s. length (serviceWords s)) service-is; services = r .services; past = r .past; next = r .next })
     checked (some o) e = e
 
-    first-is : serviceFirst fields stops days ls ≡ draftFirst fields days d calls ranges
+    first-is : serviceFirst fields stops classes days ls ≡ draftFirst fields days d calls ranges
     unfolding serviceFirst _<|>_
     first-is = rw clean (sym (checks-are fields days))
 
 -- ---- the needs of `check_service`, for `search serving`: x is what reading answered
 
-module _ (fields : List BitField) (stops : List StopRecord) (f : List ℕ) (at n : ℕ) (calls ranges : List ℕ) (x : Read) (e : ReadAs fields stops f at n x calls ranges) where
-  pub read-refused : (days : ℕ) (o : Offence) → x ≡ ReadRefused o → CheckedAs fields stops days f at n (Refused o)
+module _ (fields : List BitField) (stops : List StopRecord) (classes : List CategoryClass) (f : List ℕ) (at n : ℕ) (calls ranges : List ℕ) (x : Read) (e : ReadAs fields stops classes f at n x calls ranges) where
+  pub read-refused : (days : ℕ) (o : Offence) → x ≡ ReadRefused o → CheckedAs fields stops classes days f at n (Refused o)
   unfolding serviceFirst _<|>_
-  read-refused days o y = rw (subst (λ (x : Read). ReadAs fields stops f at n x calls ranges) y e) refl
+  read-refused days o y = rw (subst (λ (x : Read). ReadAs fields stops classes f at n x calls ranges) y e) refl
 
   module _ (d : Drafted) (y : x ≡ ReadService d) where
-    as-service : ReadAs fields stops f at n (ReadService d) calls ranges
-    as-service = subst (λ (x : Read). ReadAs fields stops f at n x calls ranges) y e
+    as-service : ReadAs fields stops classes f at n (ReadService d) calls ranges
+    as-service = subst (λ (x : Read). ReadAs fields stops classes f at n x calls ranges) y e
 
     pub read-counted : Counted (d .counts) calls ranges
     read-counted = counted (as-service .1 .draft)
 
-    pub read-checked : (days : ℕ) (r : ServiceCheck) → r ≡ checkBy (draftFirst fields days d calls ranges) (serviceIn d calls ranges) d → CheckedAs fields stops days f at n r
+    pub read-checked : (days : ℕ) (r : ServiceCheck) → r ≡ checkBy (draftFirst fields days d calls ranges) (serviceIn d calls ranges) d → CheckedAs fields stops classes days f at n r
     read-checked days r v =
         let s = as-service .1 in
-        subst (CheckedAs fields stops days f at n) (sym v) (checked s fields stops days (as-service .0) (draftFirst fields days d calls ranges) (first-is s fields stops days (as-service .0)))
+        subst (CheckedAs fields stops classes days f at n) (sym v) (checked s fields stops classes days (as-service .0) (draftFirst fields days d calls ranges) (first-is s fields stops classes days (as-service .0)))
 
 pub ruleset serving = (tests, read-refused, read-counted, read-checked)

@@ -9,7 +9,7 @@ use lib.Dec.{leb, ltb}
 use Rattle.base.specs.Lists.{some-of, below}
 use Rattle.lines.specs.Lines.{linesAt}
 use Rattle.timetable.specs.Layout.{mostCalls, mostCategories, mostDays}
-use Rattle.timetable.specs.Delivery.{BitField, StopRecord, DayRange, Service}
+use Rattle.timetable.specs.Delivery.{BitField, StopRecord, CategoryClass, DayRange, Service}
 use Rattle.timetable.specs.Offences.{_<|>_, given}
 use Rattle.timetable.specs.Service.{blocks, serviceOf}
 use Rattle.timetable.specs.Legs.{operated, stretches}
@@ -34,9 +34,9 @@ pub record ServiceTaken (f : List ℕ) (at n words end m : ℕ) : Type 0 where
   pub next : Boundary f end m
 
 -- "every line's own checks, then the service's checks": its first offence, or its words
-abbrev pub CheckedAs : List BitField → List StopRecord → ℕ → List ℕ → ℕ → ℕ → ServiceCheck → Type 0
-CheckedAs fields stops days f at n (Refused o) = serviceFirst fields stops days (serviceAt f at n) ≡ some o
-CheckedAs fields stops days f at n (Takes words end m) = (serviceFirst fields stops days (serviceAt f at n) ≡ none) × ServiceTaken f at n words end m
+abbrev pub CheckedAs : List BitField → List StopRecord → List CategoryClass → ℕ → List ℕ → ℕ → ℕ → ServiceCheck → Type 0
+CheckedAs fields stops classes days f at n (Refused o) = serviceFirst fields stops classes days (serviceAt f at n) ≡ some o
+CheckedAs fields stops classes days f at n (Takes words end m) = (serviceFirst fields stops classes days (serviceAt f at n) ≡ none) × ServiceTaken f at n words end m
 
 -- ---- the same for a draft
 

@@ -20,12 +20,12 @@ ghost use Rattle.bitfield.specs.BitField.{runsOn};
 ghost use Rattle.timetable.specs.Layout.{daySize, mostPeriodDays};
 ghost use Rattle.timetable.specs.Delivery.{DayRange};
 ghost use Rattle.timetable.specs.Offences.{verdictBy};
-ghost use Rattle.timetable.specs.Files.{bitFieldsIn, stopsIn};
+ghost use Rattle.timetable.specs.Files.{bitFieldsIn, stopsIn, classesIn};
 ghost use Rattle.timetable.specs.Legs.{fieldRuns};
 ghost use Rattle.timetable.specs.Checks.{eachOnce, legsFirst};
 ghost use Rattle.timetable.specs.Table.{rowsIn, dayAt, serviceAt};
 ghost use Rattle.draft.specs.Draft.{callsLent, rangesLent};
-ghost use Rattle.reading.specs.Maps.{FieldMap, StopMap};
+ghost use Rattle.reading.specs.Maps.{FieldMap, StopMap, ClassIndex};
 ghost use Rattle.reading.specs.Reading.{Boundary};
 ghost use Rattle.service.specs.Answers.{CheckedAs, Counted, serviceIn, draftFirst, checkBy, rowsBroken, rowsTorn, daysFirst, Sized};
 
@@ -37,7 +37,7 @@ pub enum ServiceCheck {
 }
 
 // The service that begins at a place, with line `no`: every line's own checks, then 14 to 19. `fields` and `stops` are the maps of BITFELD and
-// BAHNHOF; `calls` and `ranges` are lent for its draft.
+// BAHNHOF, `index` is the index of ZUGART; `calls` and `ranges` are lent for its draft.
 pub fn check_service(
     fplan: &[u8],
     at: usize,
@@ -46,14 +46,16 @@ pub fn check_service(
     fields: &[u32],
     bahnhof: &[u8],
     stops: &[u32],
+    zugart: &[u8],
+    index: &[u32],
     days: u32,
     calls: &mut [u32],
     ranges: &mut [u32],
 ) -> ServiceCheck
     requires { ⌜ (at < length (now fplan)) × (days ≤ mostPeriodDays) × (callsLent ≤ length (now calls)) × (rangesLent ≤ length (now ranges)) ⌝ }
     requires { ⌜ Boundary (now fplan) at no ⌝ }
-    requires { ⌜ FieldMap (now bitfeld) (now fields) × StopMap (now bahnhof) (now stops) ⌝ }
-    ensures { λ r. ⌜ CheckedAs (bitFieldsIn (now (bitfeld .entry))) (stopsIn (now (bahnhof .entry))) days (now (fplan .entry)) at no r ⌝ }
+    requires { ⌜ FieldMap (now bitfeld) (now fields) × StopMap (now bahnhof) (now stops) × ClassIndex (now zugart) (now index) ⌝ }
+    ensures { λ r. ⌜ CheckedAs (bitFieldsIn (now (bitfeld .entry))) (stopsIn (now (bahnhof .entry))) (classesIn (now (zugart .entry))) days (now (fplan .entry)) at no r ⌝ }
 {
     let read = reading::read_checked(
         fplan,
@@ -63,6 +65,8 @@ pub fn check_service(
         fields,
         bahnhof,
         stops,
+        zugart,
+        index,
         calls,
         ranges,
     );

@@ -1,22 +1,23 @@
 -- The needs of the functions on whole records and on the table, a ruleset for each. Assumes nothing.
-use mathlib.Core.Path.{_≡_, ap, _∙_, sym}
+use mathlib.Core.Path.{_≡_, refl, ap, _∙_, sym}
 use mathlib.Core.List.{List, [], _∷_}
 use mathlib.Core.Bool.{Bool, true, false, not, _&&_}
 use Prim.Native.Nat.{ℕ, zero, suc, _+_, _-_, _*_, _^_, _≤_, _<_}
 use native.Mathlib.Nat.{sub-zero, add-zero}
 use native.Mathlib.Omega.{arith}
-use lib.ListN.{length, getD, take, drop, length-drop}
+use lib.ListN.{length, getD, take, drop, length-drop, length-take}
 use lib.Seq.{drop-drop, getD-drop, take-all, take-nil, drop-nil}
 use lib.Dec.{leb, eqb}
 use borrow.Author.Tests.{le-leb, lt-leb, eq-eqb, ne-eqb, not-true, not-false}
 use Rattle.base.specs.Lists.{every}
 use Rattle.base.proofs.Laws.{tests, by-eqb}
-use Rattle.timetable.specs.Layout.{serviceHead, callSize}
+use Rattle.timetable.specs.Layout.{headerSize, classSize, serviceHead, callSize}
 use Rattle.timetable.specs.Runs.{openingSound}
-use Rattle.timetable.specs.Table.{word, rowsIn, openingAt, callAt, legsAt, categoryPlace, dayPlace, extraPlace, serviceAt, used, callSound, legsSound, serviceSound, countsSound, sizesSound, recordSound, recordsSound, isTable}
+use Rattle.timetable.specs.Table.{word, rowsIn, openingAt, callAt, legsAt, categoryPlace, dayPlace, extraPlace, serviceAt, classAt, used, tableOf, classSound, callSound, legsSound, serviceSound, countsSound, sizesSound, recordSound, recordsSound, isTable}
 use Rattle.timetable.specs.declared.Opening.{Opening}
-use Rattle.table.specs.JustTable.{recordEnd, headerSound}
-use Rattle.table.proofs.Says.{Sizes, sizes-say, record-says, service-parts, HeadOf, head-says, table-says}
+use Rattle.timetable.proofs.Rows.{rows-again, rows-out, rows-done}
+use Rattle.table.specs.JustTable.{recordEnd, headerSound, classesPlace}
+use Rattle.table.proofs.Says.{Sizes, sizes-say, record-says, service-parts, HeadOf, header-says, table-says}
 
 -- ---- the length of a record: said is its first word, y what its counts make it
 
@@ -147,20 +148,23 @@ records-done w at (suc k) r i h v = absurd (omega arith)
 
 pub ruleset records = (tests, records-inside, records-fit, records-again, records-out, records-done)
 
--- ---- the table; x says whether its header is sound
+-- ---- the table; x says whether its header is sound, y whether its classes are
 
-pub table-short : (w : List ℕ) → length w < 8 → false ≡ isTable w
+pub table-short : (w : List ℕ) → length w < headerSize → false ≡ isTable w
 unfolding isTable
-table-short w h = rw (lt-leb 8 (length w) h)
+table-short w h = rw (lt-leb headerSize (length w) h)
 
-module _ (w : List ℕ) (h : 8 ≤ length w) (x : Bool) (e : x ≡ headerSound w) where
+module _ (w : List ℕ) (h : headerSize ≤ length w) (x : Bool) (e : x ≡ headerSound w) where
   pub table-head : not x ≡ true → false ≡ isTable w
   unfolding isTable
-  table-head n = rw (le-leb 8 (length w) h, sym e ∙ not-true x n)
+  table-head n = rw (le-leb headerSize (length w) h, sym e ∙ not-true x n)
 
   module _ (n : not x ≡ false) where
     head-here : HeadOf w
-    head-here = head-says (length w) (getD w 0 0) (getD w 1 0) (getD w 2 0) (getD w 3 0) (getD w 4 0) (getD w 5 0) (getD w 7 0) (sym e ∙ not-false x n)
+    head-here = header-says w (sym e ∙ not-false x n)
+
+    pub table-header : headerSound w ≡ true
+    table-header = sym e ∙ not-false x n
 
     pub table-room : (end : ℕ) → end ≡ getD w 0 0 → end ≤ length w
     table-room end p = omega (arith, head-here .used-high)
@@ -172,11 +176,17 @@ module _ (w : List ℕ) (h : 8 ≤ length w) (x : Bool) (e : x ≡ headerSound w
       pub table-order : at ≤ end
       table-order = omega (arith, head-here .inside)
 
-      pub table-rest : (r : Bool) → r ≡ recordsSound (getD w 6 0) (take (end - at) (drop at w)) → r ≡ isTable w
+    module _ (y : Bool) (g : y ≡ every classSound (tableOf w .classes)) where
+      pub table-classes : not y ≡ true → false ≡ isTable w
       unfolding isTable
-      table-rest r f = f ∙ rw (le-leb 8 (length w) h, sym e ∙ not-false x n, ← p, ← q, part-is at end w)
+      table-classes m = rw (le-leb headerSize (length w) h, sym e ∙ not-false x n, sym g ∙ not-true y m)
 
-pub ruleset whole = (tests, table-short, table-head, table-order, table-scaled, table-room, table-rest)
+      module _ (m : not y ≡ false) (at end : ℕ) (q : at ≡ getD w 7 0) (p : end ≡ getD w 0 0) where
+        pub table-rest : (r : Bool) → r ≡ recordsSound (getD w 6 0) (take (end - at) (drop at w)) → r ≡ isTable w
+        unfolding isTable
+        table-rest r f = f ∙ rw (le-leb headerSize (length w) h, sym e ∙ not-false x n, sym g ∙ not-false y m, ← p, ← q, part-is at end w)
+
+pub ruleset whole = (tests, table-short, table-head, table-header, table-classes, table-order, table-scaled, table-room, table-rest)
 
 -- ---- the words used
 
@@ -191,3 +201,51 @@ pub used-are : (w : List ℕ) (s : ℕ) → s ≡ getD w 0 0 → take (s - 0) w 
 used-are w s q = rw (sub-zero, q)
 
 pub ruleset front = (tests, used-first, used-room, used-are)
+
+-- ---- the classes, for `search classes`: of a sound header, where they begin; at and k are words 7 and 8, end is word 0
+
+module _ (w : List ℕ) (e : headerSound w ≡ true) where
+  pub classes-used : 0 < length w
+  classes-used = omega (arith, header-says w e .used-low, header-says w e .used-high)
+
+  pub classes-services : 7 < length w
+  classes-services = omega (arith, header-says w e .used-low, header-says w e .used-high)
+
+  pub classes-count : 8 < length w
+  classes-count = omega (arith, header-says w e .used-low, header-says w e .used-high)
+
+  module _ (at k : ℕ) (p : at ≡ getD w 7 0) (q : k ≡ getD w 8 0) where
+    pub classes-before : 2 * k ≤ at
+    classes-before = omega (arith, header-says w e .place)
+
+    pub classes-begin : at - 2 * k ≡ classesPlace w
+    classes-begin = omega (arith, header-says w e .place)
+
+  module _ (end : ℕ) (p : end ≡ getD w 0 0) where
+    pub classes-end : end ≤ length w
+    classes-end = omega (arith, header-says w e .used-high)
+
+    module _ (at : ℕ) (q : at ≡ classesPlace w) where
+      pub classes-room : at + 2 * getD w 8 0 ≤ length (take (end - 0) w)
+      classes-room = rw length-take (omega (arith, header-says w e .used-high, header-says w e .place, header-says w e .inside))
+
+      pub classes-of : (r : Bool) → r ≡ every classSound (rowsIn classAt classSize (getD w 8 0) (drop at (take (end - 0) w))) → r ≡ every classSound (tableOf w .classes)
+      unfolding tableOf
+      classes-of r f = f ∙ rw (q, used-are w end p)
+
+-- ---- k of them are left from p on
+
+module _ (w : List ℕ) (p k : ℕ) (r : Bool) (h : 0 < k) (v : every classSound (rowsIn classAt classSize k (drop p w)) ≡ r) where
+  class-here : classSound (classAt (drop p w)) ≡ leb (getD w (p + 1) 0) 13
+  class-here = rw (getD-drop p w 1 0)
+
+  pub classes-again : getD w (p + 1) 0 ≤ 13 → every classSound (rowsIn classAt classSize (k - 1) (drop (p + 2) w)) ≡ r
+  classes-again l = rows-again classSound classAt classSize w p k r true h (sym (class-here ∙ le-leb (getD w (p + 1) 0) 13 l)) v refl
+
+  pub classes-out : 13 < getD w (p + 1) 0 → false ≡ r
+  classes-out l = rows-out classSound classAt classSize w p k r false h (sym (class-here ∙ lt-leb (getD w (p + 1) 0) 13 l)) v refl
+
+pub classes-done : (w : List ℕ) (k : ℕ) (r : Bool) → k ≤ 0 → every classSound (rowsIn classAt classSize k w) ≡ r → true ≡ r
+classes-done w k r = rows-done classSound classAt classSize w k r
+
+pub ruleset classes = (tests, classes-used, classes-services, classes-count, classes-before, classes-begin, classes-end, classes-room, classes-of, classes-again, classes-out, classes-done)

@@ -12,13 +12,13 @@ use borrow.Author.Tests.{leb-true, eqb-true}
 use Rattle.base.specs.Lists.{every}
 use Rattle.base.proofs.Loops.{and-true}
 use Rattle.calendar.specs.Calendar.{lastDay}
-use Rattle.timetable.specs.Layout.{serviceHead, callSize, firstService}
+use Rattle.timetable.specs.Layout.{headerSize, serviceHead, callSize, firstService}
 use Rattle.timetable.specs.Delivery.{CategoryRange, DayRange, ExtraRange}
 use Rattle.timetable.specs.Runs.{openingSound}
-use Rattle.timetable.specs.Table.{word, rowsIn, openingAt, callAt, legsAt, categoryAt, dayAt, extraAt, calls#, categories#, days#, extras#, categoryPlace, dayPlace, extraPlace, serviceAt, used, callSound, legsSound, serviceSound, countsSound, sizesSound, recordSound, recordsSound, headSound, isTable}
+use Rattle.timetable.specs.Table.{word, rowsIn, openingAt, callAt, legsAt, categoryAt, dayAt, extraAt, calls#, categories#, days#, extras#, categoryPlace, dayPlace, extraPlace, serviceAt, used, tableOf, classSound, callSound, legsSound, serviceSound, countsSound, sizesSound, recordSound, recordsSound, headSound, isTable}
 use Rattle.timetable.specs.declared.Call.{Call}
 use Rattle.timetable.proofs.Rows.{length-rows, rows-as, every-row}
-use Rattle.table.specs.JustTable.{recordEnd}
+use Rattle.table.specs.JustTable.{recordEnd, headerSound}
 
 -- ---- a record at the front of the words
 
@@ -88,41 +88,55 @@ call-says c e =
 
 -- ---- the header
 
-module _ (lent used first n b s u at : ℕ) where
+module _ (lent used first n b s u at k : ℕ) where
   pub record Head : Type 0 where
-    pub used-low : 8 ≤ used
+    pub used-low : headerSize ≤ used
     pub used-high : used ≤ lent
     pub days-high : n ≤ 380
     pub interchanges : 1 ≤ u
-    pub place : at ≡ firstService b s u
+    pub place : at ≡ firstService b s u k
     pub inside : at ≤ used
 
-  pub head-says : headSound lent used first n b s u at ≡ true → Head
+  pub head-says : headSound lent used first n b s u at k ≡ true → Head
   unfolding headSound
   head-says e =
-      let (a, e1) = and-true (leb 8 used) _ e in
+      let (a, e1) = and-true (leb headerSize used) _ e in
       let (b', e2) = and-true (leb used lent) _ e1 in
       let e3 = and-true (leb 1 n) _ e2 .1 in
       let (d, e4) = and-true (leb n 380) _ e3 in
       let e5 = and-true (leb (first + n) (lastDay + 1)) _ e4 .1 in
       let (g, e6) = and-true (leb 1 u) _ e5 in
-      let (h, i) = and-true (eqb at (firstService b s u)) _ e6 in
+      let (h, i) = and-true (eqb at (firstService b s u k)) _ e6 in
       record {
-        used-low = leb-true 8 used a;
+        used-low = leb-true headerSize used a;
         used-high = leb-true used lent b';
         days-high = leb-true n 380 d;
         interchanges = leb-true 1 u g;
-        place = eqb-true at (firstService b s u) h;
+        place = eqb-true at (firstService b s u k) h;
         inside = leb-true at used i;
       }
 
 abbrev pub HeadOf : List ℕ → Type 0
-HeadOf w = Head (length w) (word w 0) (word w 1) (word w 2) (word w 3) (word w 4) (word w 5) (word w 7)
+HeadOf w = Head (length w) (word w 0) (word w 1) (word w 2) (word w 3) (word w 4) (word w 5) (word w 7) (word w 8)
+
+pub header-says : (w : List ℕ) → headerSound w ≡ true → HeadOf w
+header-says w = head-says (length w) (word w 0) (word w 1) (word w 2) (word w 3) (word w 4) (word w 5) (word w 7) (word w 8)
+
+-- its parts
+pub record Parts (w : List ℕ) : Type 0 where
+  pub header : headerSound w ≡ true
+  pub classes : every classSound (tableOf w .classes) ≡ true
+  pub records : recordsSound (word w 6) (drop (word w 7) (used w)) ≡ true
+
+pub table-parts : (w : List ℕ) → isTable w ≡ true → Parts w
+unfolding isTable
+table-parts w e =
+    let (h, e1) = and-true (headerSound w) _ (and-true (leb headerSize (length w)) _ e .1) in
+    let (k, r) = and-true (every classSound (tableOf w .classes)) _ e1 in
+    record { header = h; classes = k; records = r }
 
 pub table-says : (w : List ℕ) → isTable w ≡ true → HeadOf w
-unfolding isTable
-table-says w e = head-says (length w) (word w 0) (word w 1) (word w 2) (word w 3) (word w 4) (word w 5) (word w 7) (and-true (headSound (length w) (word w 0) (word w 1) (word w 2) (word w 3) (word w 4) (word w 5) (word w 7)) _ (and-true (leb 8 (length w)) _ e .1) .0)
+table-says w e = header-says w (table-parts w e .header)
 
 pub table-records : (w : List ℕ) → isTable w ≡ true → recordsSound (word w 6) (drop (word w 7) (used w)) ≡ true
-unfolding isTable
-table-records w e = and-true (headSound (length w) (word w 0) (word w 1) (word w 2) (word w 3) (word w 4) (word w 5) (word w 7)) _ (and-true (leb 8 (length w)) _ e .1) .1
+table-records w e = table-parts w e .records

@@ -7,6 +7,8 @@ use timetable::CALL_WORDS;
 use timetable::CALLS_AT;
 use timetable::CATEGORIES_AT;
 use timetable::CATEGORY_WORDS;
+use timetable::CLASS_WORDS;
+use timetable::CLASSES_AT;
 use timetable::Call;
 use timetable::DAYS_AT;
 use timetable::DAYS_WORDS;
@@ -23,6 +25,7 @@ use timetable::LATEST_TIME;
 use timetable::LOW_AT;
 use timetable::MOST_CALLS;
 use timetable::MOST_CATEGORIES;
+use timetable::MOST_CLASS;
 use timetable::MOST_DAYS;
 use timetable::MOST_EXTRAS;
 use timetable::MOST_PERIOD_DAYS;
@@ -43,9 +46,9 @@ ghost use Prim.Native.Nat.{_+_, _*_, _≤_};
 ghost use lib.ListN.{length, drop};
 ghost use lib.Dec.{leb, eqb};
 ghost use Rattle.base.specs.Lists.{every};
-ghost use Rattle.timetable.specs.Layout.{headerSize, serviceHead, callSize, recordSize, firstService};
-ghost use Rattle.timetable.specs.Table.{recordWords, rowsIn, legsAt, callAt, openingAt, serviceAt, categoryPlace, dayPlace, extraPlace, used, callSound, legsSound, serviceSound, countsSound, sizesSound, recordSound, recordsSound, headSound, isTable};
-ghost use Rattle.table.specs.JustTable.{recordEnd, headerSound};
+ghost use Rattle.timetable.specs.Layout.{headerSize, classSize, serviceHead, callSize, recordSize, firstService};
+ghost use Rattle.timetable.specs.Table.{recordWords, rowsIn, legsAt, classAt, callAt, openingAt, serviceAt, categoryPlace, dayPlace, extraPlace, used, tableOf, classSound, callSound, legsSound, serviceSound, countsSound, sizesSound, recordSound, recordsSound, headSound, isTable};
+ghost use Rattle.table.specs.JustTable.{recordEnd, headerSound, classesPlace};
 
 // The day after 31.12.2199.
 const AFTER_LAST_DAY: u64 = 109573;
@@ -58,6 +61,9 @@ pub fn is_table(w: &[u32]) -> bool
         return false;
     }
     if !header_sound(w) {
+        return false;
+    }
+    if !classes_sound(w) {
         return false;
     }
     records_sound(
@@ -97,6 +103,7 @@ fn header_sound(w: &[u32]) -> bool
         w[STOPS_AT],
         w[INTERCHANGES_AT],
         w[FIRST_SERVICE_AT],
+        w[CLASSES_AT],
     )
 }
 
@@ -110,8 +117,9 @@ fn header_numbers_sound(
     stops: u32,
     interchanges: u32,
     first: u32,
+    classes: u32,
 ) -> bool
-    ensures { λ r. ⌜ r ≡ headSound lent used start days fields stops interchanges first ⌝ }
+    ensures { λ r. ⌜ r ≡ headSound lent used start days fields stops interchanges first classes ⌝ }
 {
     if (used as usize) < HEADER_WORDS {
         return false;
@@ -131,7 +139,7 @@ fn header_numbers_sound(
     if interchanges < 1 {
         return false;
     }
-    let place = first_service(fields, stops, interchanges);
+    let place = first_service(fields, stops, interchanges, classes);
     if first as u64 != place {
         return false;
     }
@@ -145,13 +153,49 @@ fn sum(x: u32, y: u32) -> u64
 }
 
 // The place of the first service.
-fn first_service(fields: u32, stops: u32, interchanges: u32) -> u64
-    ensures { λ r. ⌜ r ≡ firstService fields stops interchanges ⌝ }
+fn first_service(fields: u32, stops: u32, interchanges: u32, classes: u32) -> u64
+    ensures { λ r. ⌜ r ≡ firstService fields stops interchanges classes ⌝ }
 {
     HEADER_WORDS as u64
         + BIT_FIELD_WORDS as u64 * (fields as u64)
         + STOP_WORDS as u64 * (stops as u64)
         + INTERCHANGE_WORDS as u64 * (interchanges as u64)
+        + CLASS_WORDS as u64 * (classes as u64)
+}
+
+// ---- classes
+
+// Whether no category has a class over 13.
+fn classes_sound(w: &[u32]) -> bool
+    requires { ⌜ headerSound (now w) ≡ true ⌝ }
+    ensures { λ r. ⌜ r ≡ every classSound (tableOf (now (w .entry)) .classes) ⌝ }
+{
+    classes_within(&w[0..size(w[USED_AT])], classes_place(w), w[CLASSES_AT])
+}
+
+// Where the categories and their classes begin: they end where the services begin.
+pub fn classes_place(w: &[u32]) -> usize
+    requires { ⌜ headerSound (now w) ≡ true ⌝ }
+    ensures { λ r. ⌜ r ≡ classesPlace (now (w .entry)) ⌝ }
+{
+    size(w[FIRST_SERVICE_AT]) - CLASS_WORDS * size(w[CLASSES_AT])
+}
+
+// Whether the n categories from a place on have no class over 13.
+fn classes_within(w: &[u32], at: usize, n: u32) -> bool
+    requires { ⌜ at + classSize * n ≤ length (now w) ⌝ }
+    ensures { λ r. ⌜ r ≡ every classSound (rowsIn classAt classSize n (drop at (now (w .entry)))) ⌝ }
+{
+    let mut p = at;
+    let mut k = n;
+    while 0 < k {
+        if MOST_CLASS < w[p + 1] {
+            return false;
+        }
+        p += CLASS_WORDS;
+        k -= 1;
+    }
+    true
 }
 
 // ---- records

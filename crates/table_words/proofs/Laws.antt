@@ -9,22 +9,25 @@ use Rattle.lines.specs.Lines.{linesOf}
 use Rattle.words.specs.Words.{write}
 use Rattle.words.proofs.Laws.{write-write}
 use Rattle.timetable.specs.Layout.{headerSize}
-use Rattle.sections.specs.declared.Section.the-variants.{BitFields, Stops, Interchanges}
+use Rattle.sections.specs.declared.Section.the-variants.{BitFields, Stops, Interchanges, Classes}
 use Rattle.section_words.specs.Words.{sectionWords}
 use Rattle.table_words.specs.declared.Header.{Header}
 use Rattle.table_words.specs.Words.{headerWords, sectionsWords}
 
 -- ---- the header, for `search heading`
 
-pub header-written : (t t₁ t₂ : List ℕ) (h : Header) → headerSize ≤ length t → t₁ ≡ write t 0 (h .words ∷ h .start ∷ h .days ∷ h .fields ∷ [])
-    → t₂ ≡ write t₁ 4 (h .stops ∷ h .interchanges ∷ h .services ∷ h .first ∷ []) → t₂ ≡ write t 0 (headerWords h)
-header-written t t₁ t₂ h l e₁ e₂ = e₂ ∙ rw e₁ (write-write t 0 (h .words ∷ h .start ∷ h .days ∷ h .fields ∷ []) (h .stops ∷ h .interchanges ∷ h .services ∷ h .first ∷ []) (omega arith))
+pub header-written : (t t₁ t₂ t₃ : List ℕ) (h : Header) → headerSize ≤ length t → t₁ ≡ write t 0 (h .words ∷ h .start ∷ h .days ∷ [])
+    → t₂ ≡ write t₁ 3 (h .fields ∷ h .stops ∷ h .interchanges ∷ []) → t₃ ≡ write t₂ 6 (h .services ∷ h .first ∷ h .classes ∷ []) → t₃ ≡ write t 0 (headerWords h)
+header-written t t₁ t₂ t₃ h l e₁ e₂ e₃ =
+    let v : t₂ ≡ write t 0 (h .words ∷ h .start ∷ h .days ∷ h .fields ∷ h .stops ∷ h .interchanges ∷ [])
+    = e₂ ∙ rw e₁ (write-write t 0 (h .words ∷ h .start ∷ h .days ∷ []) (h .fields ∷ h .stops ∷ h .interchanges ∷ []) (omega arith)) in
+    e₃ ∙ rw v (write-write t 0 (h .words ∷ h .start ∷ h .days ∷ h .fields ∷ h .stops ∷ h .interchanges ∷ []) (h .services ∷ h .first ∷ h .classes ∷ []) (omega arith))
 
 pub ruleset heading = (tests, header-written)
 
 -- ---- the sections, for `search sections`: t is the table lent, and the words of each go behind those before them
 
-module _ (b s u t : List ℕ) (q : ℕ) (room : q + length (sectionsWords b s u) ≤ length t) where
+module _ (b s u z t : List ℕ) (q : ℕ) (room : q + length (sectionsWords b s u z) ≤ length t) where
   abbrev B : List ℕ
   B = sectionWords BitFields (linesOf b)
 
@@ -34,9 +37,12 @@ module _ (b s u t : List ℕ) (q : ℕ) (room : q + length (sectionsWords b s u)
   abbrev U : List ℕ
   U = sectionWords Interchanges (linesOf u)
 
-  room-all : q + (length B + (length S + length U)) ≤ length t
+  abbrev Z : List ℕ
+  Z = sectionWords Classes (linesOf z)
+
+  room-all : q + (length B + (length S + (length U + length Z))) ≤ length t
   unfolding sectionsWords
-  room-all = omega (arith, room, length-append B (S ++ U), length-append S U)
+  room-all = omega (arith, room, length-append B (S ++ (U ++ Z)), length-append S (U ++ Z), length-append U Z)
 
   pub room-fields : q + length (sectionWords BitFields (linesOf b)) ≤ length t
   room-fields = omega (arith, room-all)
@@ -49,24 +55,30 @@ module _ (b s u t : List ℕ) (q : ℕ) (room : q + length (sectionsWords b s u)
       pub room-interchanges : q₂ + length (sectionWords Interchanges (linesOf u)) ≤ length t₂
       room-interchanges = omega (arith, room-all)
 
-      pub sections-written : (t₃ : List ℕ) → t₁ ≡ write t q (sectionWords BitFields (linesOf b)) → t₂ ≡ write t₁ q₁ (sectionWords Stops (linesOf s))
-          → t₃ ≡ write t₂ q₂ (sectionWords Interchanges (linesOf u)) → t₃ ≡ write t q (sectionsWords b s u)
-      unfolding sectionsWords
-      sections-written t₃ w₁ w₂ w₃ =
-          let v : t₃ ≡ write t₁ q₁ (S ++ U) = w₃ ∙ rw (w₂, e₂) (write-write t₁ q₁ S U room-stops) in
-          v ∙ rw (w₁, e₁) (write-write t q B (S ++ U) room-fields)
+      module _ (q₃ : ℕ) (e₃ : q₃ ≡ q₂ + length (sectionWords Interchanges (linesOf u))) (t₃ : List ℕ) (l₃ : length t₃ ≡ length t₂) where
+        pub room-classes : q₃ + length (sectionWords Classes (linesOf z)) ≤ length t₃
+        room-classes = omega (arith, room-all)
 
-pub sections-end : (b s u : List ℕ) (q q₁ q₂ q₃ : ℕ) → q₁ ≡ q + length (sectionWords BitFields (linesOf b)) → q₂ ≡ q₁ + length (sectionWords Stops (linesOf s))
-    → q₃ ≡ q₂ + length (sectionWords Interchanges (linesOf u)) → q₃ ≡ q + length (sectionsWords b s u)
+        pub sections-written : (t₄ : List ℕ) → t₁ ≡ write t q (sectionWords BitFields (linesOf b)) → t₂ ≡ write t₁ q₁ (sectionWords Stops (linesOf s))
+            → t₃ ≡ write t₂ q₂ (sectionWords Interchanges (linesOf u)) → t₄ ≡ write t₃ q₃ (sectionWords Classes (linesOf z)) → t₄ ≡ write t q (sectionsWords b s u z)
+        unfolding sectionsWords
+        sections-written t₄ w₁ w₂ w₃ w₄ =
+            let x : t₄ ≡ write t₂ q₂ (U ++ Z) = w₄ ∙ rw (w₃, e₃) (write-write t₂ q₂ U Z room-interchanges) in
+            let v : t₄ ≡ write t₁ q₁ (S ++ (U ++ Z)) = x ∙ rw (w₂, e₂) (write-write t₁ q₁ S (U ++ Z) room-stops) in
+            v ∙ rw (w₁, e₁) (write-write t q B (S ++ (U ++ Z)) room-fields)
+
+pub sections-end : (b s u z : List ℕ) (q q₁ q₂ q₃ q₄ : ℕ) → q₁ ≡ q + length (sectionWords BitFields (linesOf b)) → q₂ ≡ q₁ + length (sectionWords Stops (linesOf s))
+    → q₃ ≡ q₂ + length (sectionWords Interchanges (linesOf u)) → q₄ ≡ q₃ + length (sectionWords Classes (linesOf z)) → q₄ ≡ q + length (sectionsWords b s u z)
 unfolding sectionsWords
-sections-end b s u q q₁ q₂ q₃ e₁ e₂ e₃ =
+sections-end b s u z q q₁ q₂ q₃ q₄ e₁ e₂ e₃ e₄ =
     omega (
       arith,
-      length-append (sectionWords BitFields (linesOf b)) (sectionWords Stops (linesOf s) ++ sectionWords Interchanges (linesOf u)),
-      length-append (sectionWords Stops (linesOf s)) (sectionWords Interchanges (linesOf u)),
+      length-append (sectionWords BitFields (linesOf b)) (sectionWords Stops (linesOf s) ++ (sectionWords Interchanges (linesOf u) ++ sectionWords Classes (linesOf z))),
+      length-append (sectionWords Stops (linesOf s)) (sectionWords Interchanges (linesOf u) ++ sectionWords Classes (linesOf z)),
+      length-append (sectionWords Interchanges (linesOf u)) (sectionWords Classes (linesOf z)),
     )
 
-pub ruleset sections = (tests, room-fields, room-stops, room-interchanges, sections-written, sections-end, len-trans)
+pub ruleset sections = (tests, room-fields, room-stops, room-interchanges, room-classes, sections-written, sections-end, len-trans)
 
 -- ---- the table, for `search joining`: A is what the sections give, P what FPLAN gives
 

@@ -3,18 +3,18 @@ use Prim.Native.Nat.{ℕ}
 use mathlib.Core.List.{List, [], _∷_, _++_}
 use Rattle.lines.specs.Lines.{linesOf}
 use Rattle.timetable.specs.Service.{blocks}
-use Rattle.sections.specs.declared.Section.the-variants.{BitFields, Stops, Interchanges}
+use Rattle.sections.specs.declared.Section.the-variants.{BitFields, Stops, Interchanges, Classes}
 use Rattle.section_words.specs.Words.{sectionWords}
 use Rattle.plan.specs.Services.{blockWords}
 use Rattle.table_words.specs.declared.Header.{Header}
 
 abbrev pub headerWords : Header → List ℕ
-headerWords h = h .words ∷ h .start ∷ h .days ∷ h .fields ∷ h .stops ∷ h .interchanges ∷ h .services ∷ h .first ∷ []
+headerWords h = h .words ∷ h .start ∷ h .days ∷ h .fields ∷ h .stops ∷ h .interchanges ∷ h .services ∷ h .first ∷ h .classes ∷ []
 
--- those of BITFELD, BAHNHOF and UMSTEIGB
-unfoldable pub sectionsWords : List ℕ → List ℕ → List ℕ → List ℕ
-sectionsWords b s u = sectionWords BitFields (linesOf b) ++ (sectionWords Stops (linesOf s) ++ sectionWords Interchanges (linesOf u))
+-- those of BITFELD, BAHNHOF, UMSTEIGB and ZUGART
+unfoldable pub sectionsWords : List ℕ → List ℕ → List ℕ → List ℕ → List ℕ
+sectionsWords b s u z = sectionWords BitFields (linesOf b) ++ (sectionWords Stops (linesOf s) ++ (sectionWords Interchanges (linesOf u) ++ sectionWords Classes (linesOf z)))
 
 -- and of FPLAN
-abbrev pub bodyWords : List ℕ → List ℕ → List ℕ → List ℕ → List ℕ
-bodyWords b s u p = sectionsWords b s u ++ blockWords (blocks (linesOf p))
+abbrev pub bodyWords : List ℕ → List ℕ → List ℕ → List ℕ → List ℕ → List ℕ
+bodyWords b s u z p = sectionsWords b s u z ++ blockWords (blocks (linesOf p))

@@ -15,7 +15,8 @@ ghost use Rattle.timetable.specs.Checks.{headFirst};
 ghost use Rattle.plan.specs.Services.{withinLimits};
 ghost use Rattle.table_words.specs.Words.{headerWords, sectionsWords, bodyWords};
 
-// The table's header: the words used, the period, how many records each section has, and the place of the first service.
+// The table's header: the words used, the period, how many records each section has, and the place of the first service. "The last being the count of
+// categories".
 pub struct Header {
     pub words: u32,
     pub start: u32,
@@ -25,6 +26,7 @@ pub struct Header {
     pub interchanges: u32,
     pub services: u32,
     pub first: u32,
+    pub classes: u32,
 }
 
 // The header, and what each file gives, one after the other.
@@ -34,15 +36,16 @@ pub fn put_table(
     bahnhof: &[u8],
     umsteigb: &[u8],
     fplan: &[u8],
+    zugart: &[u8],
     t: &mut [u32],
 )
-    requires { ⌜ (length (now bitfeld) ≤ mostFileBytes) × (length (now bahnhof) ≤ mostFileBytes) × (length (now umsteigb) ≤ mostFileBytes) × (length (now fplan) ≤ mostFileBytes) ⌝ }
+    requires { ⌜ (length (now bitfeld) ≤ mostFileBytes) × (length (now bahnhof) ≤ mostFileBytes) × (length (now umsteigb) ≤ mostFileBytes) × (length (now zugart) ≤ mostFileBytes) × (length (now fplan) ≤ mostFileBytes) ⌝ }
     requires { ⌜ (headFirst (linesOf (now fplan)) ≡ none) × (withinLimits (blocks (linesOf (now fplan))) ≡ true) ⌝ }
-    requires { ⌜ headerSize + length (bodyWords (now bitfeld) (now bahnhof) (now umsteigb) (now fplan)) ≤ length (now t) ⌝ }
-    ensures { λ r. ⌜ now (t .exit) ≡ write (now (t .entry)) 0 (headerWords h ++ bodyWords (now (bitfeld .entry)) (now (bahnhof .entry)) (now (umsteigb .entry)) (now (fplan .entry))) ⌝ }
+    requires { ⌜ headerSize + length (bodyWords (now bitfeld) (now bahnhof) (now umsteigb) (now zugart) (now fplan)) ≤ length (now t) ⌝ }
+    ensures { λ r. ⌜ now (t .exit) ≡ write (now (t .entry)) 0 (headerWords h ++ bodyWords (now (bitfeld .entry)) (now (bahnhof .entry)) (now (umsteigb .entry)) (now (zugart .entry)) (now (fplan .entry))) ⌝ }
 {
     put_header(h, t);
-    let services = put_sections(bitfeld, bahnhof, umsteigb, t, HEADER_WORDS);
+    let services = put_sections(bitfeld, bahnhof, umsteigb, zugart, t, HEADER_WORDS);
     plan::put_plan(fplan, t, services);
 }
 
@@ -50,17 +53,26 @@ fn put_header(h: Header, t: &mut [u32])
     requires { ⌜ headerSize ≤ length (now t) ⌝ }
     ensures { λ r. ⌜ now (t .exit) ≡ write (now (t .entry)) 0 (headerWords h) ⌝ }
 {
-    words::put4(t, 0, h.words, h.start, h.days, h.fields);
-    words::put4(t, 4, h.stops, h.interchanges, h.services, h.first);
+    words::put3(t, 0, h.words, h.start, h.days);
+    words::put3(t, 3, h.fields, h.stops, h.interchanges);
+    words::put3(t, 6, h.services, h.first, h.classes);
 }
 
 // The sections before the services, from place q on; the place after them.
-fn put_sections(bitfeld: &[u8], bahnhof: &[u8], umsteigb: &[u8], t: &mut [u32], q: usize) -> usize
-    requires { ⌜ (length (now bitfeld) ≤ mostFileBytes) × (length (now bahnhof) ≤ mostFileBytes) × (length (now umsteigb) ≤ mostFileBytes) ⌝ }
-    requires { ⌜ q + length (sectionsWords (now bitfeld) (now bahnhof) (now umsteigb)) ≤ length (now t) ⌝ }
-    ensures { λ r. ⌜ (r ≡ q + length (sectionsWords (now (bitfeld .entry)) (now (bahnhof .entry)) (now (umsteigb .entry)))) × (now (t .exit) ≡ write (now (t .entry)) q (sectionsWords (now (bitfeld .entry)) (now (bahnhof .entry)) (now (umsteigb .entry)))) ⌝ }
+fn put_sections(
+    bitfeld: &[u8],
+    bahnhof: &[u8],
+    umsteigb: &[u8],
+    zugart: &[u8],
+    t: &mut [u32],
+    q: usize,
+) -> usize
+    requires { ⌜ (length (now bitfeld) ≤ mostFileBytes) × (length (now bahnhof) ≤ mostFileBytes) × (length (now umsteigb) ≤ mostFileBytes) × (length (now zugart) ≤ mostFileBytes) ⌝ }
+    requires { ⌜ q + length (sectionsWords (now bitfeld) (now bahnhof) (now umsteigb) (now zugart)) ≤ length (now t) ⌝ }
+    ensures { λ r. ⌜ (r ≡ q + length (sectionsWords (now (bitfeld .entry)) (now (bahnhof .entry)) (now (umsteigb .entry)) (now (zugart .entry)))) × (now (t .exit) ≡ write (now (t .entry)) q (sectionsWords (now (bitfeld .entry)) (now (bahnhof .entry)) (now (umsteigb .entry)) (now (zugart .entry)))) ⌝ }
 {
     let stops = section_words::put_section(Section::BitFields, bitfeld, t, q);
     let interchanges = section_words::put_section(Section::Stops, bahnhof, t, stops);
-    section_words::put_section(Section::Interchanges, umsteigb, t, interchanges)
+    let classes = section_words::put_section(Section::Interchanges, umsteigb, t, interchanges);
+    section_words::put_section(Section::Classes, zugart, t, classes)
 }

@@ -4,3 +4,4 @@ pub mod Offences
 pub mod Records
 pub mod Rows
 pub mod NameField
+pub mod Order

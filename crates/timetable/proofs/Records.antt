@@ -7,10 +7,10 @@ use native.Mathlib.Omega.{arith}
 use lib.ListN.{length, drop, length-append}
 use lib.Seq.{drop-at, take-at, drop-drop}
 use Rattle.base.specs.Lists.{All, gathered}
-use Rattle.timetable.specs.Delivery.{BitField, StopRecord, Interchange, CategoryRange, DayRange, ExtraRange, Service}
-use Rattle.timetable.specs.Table.{bitFieldWords, stopWords, interchangeWords, callWords, categoryWords, dayWords, extraWords, serviceSize, headWords, serviceWords}
-use Rattle.timetable.specs.Layout.{bitFieldSize, stopSize, interchangeSize, serviceHead, callSize, categorySize, daySize, extraSize}
-use Rattle.timetable.specs.Table.{word, rowsIn, bitFieldAt, stopAt, interchangeAt, callAt, categoryAt, dayAt, extraAt, serviceAt, servicesIn}
+use Rattle.timetable.specs.Delivery.{BitField, StopRecord, Interchange, CategoryClass, CategoryRange, DayRange, ExtraRange, Service}
+use Rattle.timetable.specs.Table.{bitFieldWords, stopWords, interchangeWords, classWords, callWords, categoryWords, dayWords, extraWords, serviceSize, headWords, serviceWords}
+use Rattle.timetable.specs.Layout.{bitFieldSize, stopSize, interchangeSize, classSize, serviceHead, callSize, categorySize, daySize, extraSize}
+use Rattle.timetable.specs.Table.{word, rowsIn, bitFieldAt, stopAt, interchangeAt, classAt, callAt, categoryAt, dayAt, extraAt, serviceAt, servicesIn}
 use Rattle.timetable.specs.declared.Call.{Call}
 use Rattle.timetable.proofs.Rows.{any, all-any, length-gathered, rows-back}
 
@@ -46,6 +46,12 @@ interchanges-back = any-back interchangeAt interchangeWords interchangeSize (λ 
 
 pub interchanges-length : (xs : List Interchange) → length (gathered interchangeWords xs) ≡ interchangeSize * length xs
 interchanges-length = any-length interchangeWords interchangeSize (λ x. refl)
+
+pub classes-back : (xs : List CategoryClass) (r : List ℕ) → rowsIn classAt classSize (length xs) (gathered classWords xs ++ r) ≡ xs
+classes-back = any-back classAt classWords classSize (λ x. refl) (λ x r. refl)
+
+pub classes-length : (xs : List CategoryClass) → length (gathered classWords xs) ≡ classSize * length xs
+classes-length = any-length classWords classSize (λ x. refl)
 
 pub calls-back : (xs : List Call) (r : List ℕ) → rowsIn callAt callSize (length xs) (gathered callWords xs ++ r) ≡ xs
 calls-back = any-back callAt callWords callSize (λ x. refl) (λ x r. refl)

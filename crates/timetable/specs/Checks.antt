@@ -9,9 +9,9 @@ use Rattle.base.specs.Lists.{every, some-of, below}
 use Rattle.forms.specs.declared.Form.the-variants.{Broken as BrokenForm}
 use Rattle.lines.specs.Lines.{Line, skipped}
 use Rattle.timetable.specs.Layout.{mostCalls, mostCategories, mostDays, mostExtras}
-use Rattle.timetable.specs.Delivery.{BitField, StopRecord, Legs, CategoryRange, DayRange, Service}
+use Rattle.timetable.specs.Delivery.{BitField, StopRecord, CategoryClass, Legs, CategoryRange, DayRange, Service}
 use Rattle.timetable.specs.Offences.{offenceAt, given, formOffence, _<|>_, first}
-use Rattle.timetable.specs.Files.{hasStop}
+use Rattle.timetable.specs.Files.{hasStop, hasClass}
 use Rattle.timetable.specs.Plan.{toldIn, asRange, partLines, saidOn}
 use Rattle.timetable.specs.Ranges.{hasArrival, hasDeparture}
 use Rattle.timetable.specs.Service.{headLines, blocks, firstLine, calledOn, callsOf, serviceOf, legsOn}
@@ -25,7 +25,8 @@ use Rattle.timetable.specs.declared.RangeLine.{RangeLine}
 use Rattle.timetable.specs.declared.Told.{Told}
 use Rattle.timetable.specs.declared.Told.the-variants.{Skip, Other, Broken, Opens, Ranges, Calls}
 
--- ---- a line's own offences, after the lines of its service before it: "Within a line by the order 12, 11, 4, 13, .., 9, 10" (12: `headFirst`, below)
+-- ---- a line's own offences, after the lines of its service before it: "Within a line by the order 12, 11, 4, 13, .., 9, 10" (12: `headFirst`, below;
+-- document 02, No. 1: 38 "last in its line")
 
 -- "50 *G, 50 *A VE or 100 other *A"
 abbrev pub most : Part → ℕ
@@ -33,12 +34,20 @@ most Category = mostCategories
 most Days = mostDays
 most Extra = mostExtras
 
-module _ (fields : List BitField) (stops : List StopRecord) where
+-- document 02, No. 1: 38 is "for a *G category not listed"; this is its negation. A range of another kind has no category.
+abbrev pub categoryListed : Part → ℕ → List CategoryClass → Bool
+categoryListed Category name classes = hasClass name classes
+categoryListed Days name classes = true
+categoryListed Extra name classes = true
+
+module _ (fields : List BitField) (stops : List StopRecord) (classes : List CategoryClass) where
   -- "13 in one service over .. 50 *G, 50 *A VE or 100 other *A", at the first over; "10 bit field neither 000000 nor in BITFELD" (a *G line
-  -- has none, which is 000000)
+  -- has none, which is 000000); No. 1: "38 for a *G category not listed, last in its line"
   abbrev pub rangeOffence : List Line → ℕ → RangeLine → Option Offence
   rangeOffence before line r =
-      given (leb (most (r .part)) (length (partLines (r .part) before))) 13 line <|> given (not (fieldKnown (r .field) fields)) 10 line
+      given (leb (most (r .part)) (length (partLines (r .part) before))) 13 line
+      <|> given (not (fieldKnown (r .field) fields)) 10 line
+      <|> given (not (categoryListed (r .part) (r .name) classes)) 38 line
 
   -- "13 in one service over 200 calls"; "9 .. schedule stop not in BAHNHOF"
   abbrev pub callOffence : List Line → ℕ → CallLine → Option Offence
@@ -126,10 +135,10 @@ serviceChecks fields n ls =
 abbrev pub headFirst : List Line → Option Offence
 headFirst ls = first (λ before l. given (not (skipped (l .text))) 12 (l .no)) [] (headLines ls)
 
-module _ (fields : List BitField) (stops : List StopRecord) (n : ℕ) where
+module _ (fields : List BitField) (stops : List StopRecord) (classes : List CategoryClass) (n : ℕ) where
   -- "every line's own checks, then the service's checks"
   unfoldable pub serviceFirst : List Line → Option Offence
-  serviceFirst ls = first (ownOffence fields stops) [] ls <|> serviceChecks fields n ls
+  serviceFirst ls = first (ownOffence fields stops classes) [] ls <|> serviceChecks fields n ls
 
   -- "service by service"
   unfoldable pub servicesFirst : List (List Line) → Option Offence

@@ -1,20 +1,21 @@
--- What a delivery holds: what the lines of its five files say. Of an accepted delivery this is everything that its table and its walks go by.
+-- What a delivery holds: what the lines of its six files say. Of an accepted delivery this is everything that its table and its walks go by.
 -- Assumes nothing.
 use Prim.Native.Nat.{ℕ}
 use mathlib.Core.List.{List}
 use Rattle.timetable.specs.declared.Opening.{Opening}
 use Rattle.timetable.specs.declared.Call.{Call}
 
--- the five files, as bytes
+-- the six files, as bytes. Document 02, No. 1: "ZUGART is file 6"
 pub record Files : Type 0 where
   pub eckdaten : List ℕ
   pub bitfeld : List ℕ
   pub bahnhof : List ℕ
   pub umsteigb : List ℕ
   pub fplan : List ℕ
+  pub zugart : List ℕ
 
-abbrev pub filesOf : List ℕ → List ℕ → List ℕ → List ℕ → List ℕ → Files
-filesOf e b s u p = record { eckdaten = e; bitfeld = b; bahnhof = s; umsteigb = u; fplan = p }
+abbrev pub filesOf : List ℕ → List ℕ → List ℕ → List ℕ → List ℕ → List ℕ → Files
+filesOf e b s u p z = record { eckdaten = e; bitfeld = b; bahnhof = s; umsteigb = u; fplan = p; zugart = z }
 
 -- the first day and the number of days n
 pub record Period : Type 0 where
@@ -37,6 +38,11 @@ pub record Interchange : Type 0 where
   pub number : ℕ
   pub firstTime : ℕ
   pub secondTime : ℕ
+
+-- No. 1: a category that ZUGART lists: its code, three bytes as one number, and its class
+pub record CategoryClass : Type 0 where
+  pub code : ℕ
+  pub class : ℕ
 
 -- a range's first and last call: "*G and operating-day ranges .. cover the legs between" (other *A are ranges of calls)
 pub record Legs : Type 0 where
@@ -73,4 +79,5 @@ pub record Delivery : Type 0 where
   pub fields : List BitField
   pub stops : List StopRecord
   pub interchanges : List Interchange
+  pub classes : List CategoryClass
   pub services : List Service

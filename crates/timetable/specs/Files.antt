@@ -1,5 +1,5 @@
--- Files 1 to 4, line by line: what a line holds, and its own offences "by the order 12, 11, 4, 13, 5, 7, 6, 8, 9, 10" (document 02, No. 3: 39 directly
--- after 4). Assumes nothing.
+-- Files 1 to 4 and 6, line by line: what a line holds, and its own offences "by the order 12, 11, 4, 13, 5, 7, 6, 8, 9, 10" (document 02, No. 3: 39
+-- directly after 4; No. 1: 37 after 6). Assumes nothing.
 use Prim.Native.Nat.{ℕ, zero, suc, _+_, _-_, _*_, _/_, _%_}
 use mathlib.Core.List.{List, [], _∷_, _++_}
 use mathlib.Core.Bool.{Bool, true, false, cond, not, _&&_, _||_}
@@ -7,7 +7,7 @@ use mathlib.Core.Option.{Option, none, some}
 use lib.ListN.{length, take}
 use lib.Dec.{ltb, leb, eqb}
 use Rattle.base.specs.Lists.{some-of}
-use Rattle.columns.specs.Columns.{columns, blank, number}
+use Rattle.columns.specs.Columns.{columns, column, isBlank, blank, number}
 use Rattle.lines.specs.Lines.{Line, linesOf, skipped}
 use Rattle.calendar.specs.Calendar.{dateIn, periodOf}
 use Rattle.calendar.specs.declared.Date.{Date}
@@ -18,10 +18,11 @@ use Rattle.bitfield.specs.BitField.{bitsIn, framed}
 use Rattle.forms.specs.Form.{Row, formOf}
 use Rattle.forms.specs.declared.Form.{Form}
 use Rattle.forms.specs.declared.Form.the-variants.{Fits, Broken}
-use Rattle.forms.specs.Columns.{dateColumns, bitFieldColumns, stopColumns, interchangeColumns}
+use Rattle.forms.specs.Columns.{dateColumns, bitFieldColumns, stopColumns, interchangeColumns, classColumns}
 use Rattle.names.specs.Names.{isNameList}
-use Rattle.timetable.specs.Delivery.{Period, BitField, StopRecord, Interchange}
+use Rattle.timetable.specs.Delivery.{Period, BitField, StopRecord, Interchange, CategoryClass}
 use Rattle.timetable.specs.Offences.{offenceAt, given, formOffence, _<|>_, first}
+use Rattle.timetable.specs.Plan.{threeBytes}
 use Rattle.timetable.specs.declared.Offence.{Offence}
 
 -- ---- what a line holds: nothing (skipped), nothing that can be read (broken, at a column), or a record
@@ -197,3 +198,43 @@ unfoldable pub interchangesFirst : List StopRecord → List Line → Option Offe
 interchangesFirst stops ls =
     first (interchangeLineOffence stops) [] ls
     <|> given (eqb (length (held-in interchangeOf ls)) 0) 2 (length ls + 1)
+
+-- ---- 6 ZUGART (document 02, No. 1): "its lengths and lines checked after UMSTEIGB's"
+
+-- "code 1-3", "class 5-6"
+abbrev pub classOf : Line → Held CategoryClass
+classOf l =
+    holding classColumns
+    (λ (l : Line). record { code = threeBytes 1 (l .text); class = number (columns 5 6 (l .text)) })
+    l
+
+-- the categories of ZUGART
+abbrev pub classesIn : List ℕ → List CategoryClass
+classesIn f = held-in classOf (linesOf f)
+
+abbrev pub hasClass : ℕ → List CategoryClass → Bool
+hasClass code classes = some-of (λ (c : CategoryClass). eqb (c .code) code) classes
+
+-- "tariff group 8 (A to H or blank)": whether a line has one
+abbrev pub hasTariff : List ℕ → Bool
+hasTariff text = not (isBlank (column 8 text))
+
+-- whether the lines of a file have one, in order, those that are skipped left out
+abbrev pub tariffOf : Line → Held Bool
+tariffOf l = holding classColumns (λ (l : Line). hasTariff (l .text)) l
+
+-- "37 for a tariff group missing or alone (first line that has one where the file's first has none, or the other way)"
+abbrev pub tariffOffence : List Bool → ℕ → Bool → Option Offence
+tariffOffence [] line has = none
+tariffOffence (first ∷ earlier) line has = given (cond first (not has) has) 37 line
+
+-- "6 for a repeated code, then 37"
+abbrev pub classOffence : List CategoryClass → List Bool → ℕ → List ℕ → CategoryClass → Option Offence
+classOffence earlier tariffs line text c = given (hasClass (c .code) earlier) 6 line <|> tariffOffence tariffs line (hasTariff text)
+
+-- 4, then those
+abbrev pub classLineOffence : List Line → Line → Option Offence
+classLineOffence before l = heldOffence (classOffence (held-in classOf before) (held-in tariffOf before) (l .no) (l .text)) (l .no) (classOf l)
+
+unfoldable pub classesFirst : List Line → Option Offence
+classesFirst ls = first classLineOffence [] ls

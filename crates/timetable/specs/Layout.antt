@@ -4,9 +4,10 @@ use Prim.Native.Nat.{ℕ, _+_, _*_}
 
 -- ---- sizes in words
 
--- "Header: words used, first day, n, bit fields B, stops S, interchange records U, services V, place of first service."
+-- "Header: words used, first day, n, bit fields B, stops S, interchange records U, services V, place of first service."; document 02, No. 1: "The header
+-- grows to nine words, the last being the count of categories"
 abbrev pub headerSize : ℕ
-headerSize = 8
+headerSize = 9
 
 -- "per bit field 13 (number, 12 words)"
 abbrev pub bitFieldSize : ℕ
@@ -19,6 +20,10 @@ stopSize = 3
 -- "interchange 3 (number, two times)"
 abbrev pub interchangeSize : ℕ
 interchangeSize = 3
+
+-- No. 1: "a section of two words each (code, class) stands before the services"
+abbrev pub classSize : ℕ
+classSize = 2
 
 -- "Service: .. 11 words."; document 02, No. 8: "A service record gains a twelfth word, its kind"
 abbrev pub serviceHead : ℕ
@@ -56,9 +61,9 @@ helperLine = 4
 abbrev pub recordSize : ℕ → ℕ → ℕ → ℕ → ℕ
 recordSize c g v a = serviceHead + callSize * c + categorySize * g + daySize * v + extraSize * a
 
--- the place of the first service: "8 + 13B + 3S + 3U"
-abbrev pub firstService : ℕ → ℕ → ℕ → ℕ
-firstService b s u = headerSize + bitFieldSize * b + stopSize * s + interchangeSize * u
+-- the place of the first service: "8 + 13B + 3S + 3U"; by No. 1, 9 + 13B + 3S + 3U + 2K
+abbrev pub firstService : ℕ → ℕ → ℕ → ℕ → ℕ
+firstService b s u k = headerSize + bitFieldSize * b + stopSize * s + interchangeSize * u + classSize * k
 
 -- ---- kinds of services. No. 8: "its kind (0 for *Z, 1 for *T, ..)"
 
@@ -77,6 +82,10 @@ mostFileBytes = 16777216
 -- "A period of n days has 1 to 380."
 abbrev pub mostPeriodDays : ℕ
 mostPeriodDays = 380
+
+-- "26 class over 13"; No. 1: "21 .. refuses a class over 13"
+abbrev pub mostClass : ℕ
+mostClass = 13
 
 -- "13 in one service over 200 calls, 50 *G, 50 *A VE or 100 other *A"
 abbrev pub mostCalls : ℕ

@@ -9,7 +9,7 @@ use Rattle.lines.specs.Lines.{linesOf}
 use Rattle.timetable.specs.Layout.{helperHead, helperLine, mostFileBytes}
 use Rattle.timetable.specs.Delivery.{Files, Delivery}
 use Rattle.timetable.specs.Offences.{_<|>_, given}
-use Rattle.timetable.specs.Files.{periodFirst, periodIn, bitFieldsIn, bitFieldsFirst, stopsIn, stopsFirst, interchangesIn, interchangesFirst}
+use Rattle.timetable.specs.Files.{periodFirst, periodIn, bitFieldsIn, bitFieldsFirst, stopsIn, stopsFirst, interchangesIn, interchangesFirst, classesIn, classesFirst}
 use Rattle.timetable.specs.Service.{serviceOf, blocks}
 use Rattle.timetable.specs.Checks.{planFirst}
 use Rattle.timetable.specs.Table.{tableWords}
@@ -25,10 +25,12 @@ delivered f = record {
   fields = bitFieldsIn (f .bitfeld);
   stops = stopsIn (f .bahnhof);
   interchanges = interchangesIn (f .umsteigb);
+  classes = classesIn (f .zugart);
   services = map serviceOf (blocks (linesOf (f .fplan)));
 }
 
--- ---- "First, lengths in file order; then files 1 to 5, each by line; .. Last, 20."
+-- ---- "First, lengths in file order; then files 1 to 5, each by line; .. Last, 20." Document 02, No. 1: "ZUGART is file 6, its lengths and lines checked
+-- after UMSTEIGB's", so before FPLAN's
 
 -- an offence with its file
 pub record Where : Type 0 where
@@ -45,16 +47,19 @@ tooLong f s = inFile f (given (ltb mostFileBytes (length s)) 1 0)
 
 -- "First, lengths in file order"
 unfoldable pub lengthOffence : Files → Option Where
-lengthOffence f = tooLong 1 (f .eckdaten) <|> tooLong 2 (f .bitfeld) <|> tooLong 3 (f .bahnhof) <|> tooLong 4 (f .umsteigb) <|> tooLong 5 (f .fplan)
+lengthOffence f =
+    tooLong 1 (f .eckdaten) <|> tooLong 2 (f .bitfeld) <|> tooLong 3 (f .bahnhof) <|> tooLong 4 (f .umsteigb) <|> tooLong 6 (f .zugart)
+    <|> tooLong 5 (f .fplan)
 
--- "then files 1 to 5, each by line"
+-- "then files 1 to 5, each by line" (No. 1: 6 after 4)
 unfoldable pub contentOffence : Files → Option Where
 contentOffence f =
     inFile 1 (periodFirst (linesOf (f .eckdaten)))
     <|> inFile 2 (bitFieldsFirst (delivered f .period .days) (linesOf (f .bitfeld)))
     <|> inFile 3 (stopsFirst (linesOf (f .bahnhof)))
     <|> inFile 4 (interchangesFirst (delivered f .stops) (linesOf (f .umsteigb)))
-    <|> inFile 5 (planFirst (delivered f .fields) (delivered f .stops) (delivered f .period .days) (linesOf (f .fplan)))
+    <|> inFile 6 (classesFirst (linesOf (f .zugart)))
+    <|> inFile 5 (planFirst (delivered f .fields) (delivered f .stops) (delivered f .classes) (delivered f .period .days) (linesOf (f .fplan)))
 
 -- the first offence of all
 unfoldable pub offence : Files → Option Where
@@ -81,7 +86,7 @@ refusedOr none later = later
 abbrev pub shortOr : ℕ → ℕ → ℕ → Loaded → Loaded
 shortOr number lent needed later = cond (ltb lent needed) (Refused number 0 0 0 needed) later
 
--- Lengths; No. 13: "51, directly after 1, for fewer helper words, file 0, line 0, with the words needed"; files 1 to 5; "Last, 20": "20 table lent too
+-- Lengths; No. 13: "51, directly after 1, for fewer helper words, file 0, line 0, with the words needed"; the files' lines; "Last, 20": "20 table lent too
 -- short", file 0, line 0. "Acceptance returns words used".
 unfoldable pub loaded : Files → ℕ → ℕ → Loaded
 loaded f room helper =

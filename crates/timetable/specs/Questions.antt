@@ -9,11 +9,11 @@ use Rattle.base.specs.Lists.{every, find, below}
 use Rattle.calendar.specs.Calendar.{dayOf}
 use Rattle.calendar.specs.declared.Date.{Date}
 use Rattle.calendar.specs.declared.Date.the-variants.{Day, NoSuchDate}
-use Rattle.timetable.specs.Delivery.{Period, BitField, StopRecord, Interchange, CategoryRange, DayRange, Service, Delivery}
+use Rattle.timetable.specs.Delivery.{Period, BitField, StopRecord, Interchange, CategoryClass, CategoryRange, DayRange, Service, Delivery}
 use Rattle.timetable.specs.Offences.{_<|>_}
-use Rattle.timetable.specs.Files.{hasStop}
+use Rattle.timetable.specs.Files.{hasStop, hasClass}
 use Rattle.timetable.specs.Ranges.{hasArrival, hasDeparture}
-use Rattle.timetable.specs.Layout.{rowSize}
+use Rattle.timetable.specs.Layout.{rowSize, mostClass}
 use Rattle.timetable.specs.Legs.{fieldKnown, covers, covering, fieldRuns, stretches, legCount, operatedLegs}
 use Rattle.timetable.specs.Load.{onto}
 use Rattle.timetable.specs.Runs.{hasRun, lateness}
@@ -83,9 +83,31 @@ minutesFor c a b = cond (firstTimeClass a && firstTimeClass b) (c .firstTime) (c
 unfoldable pub interchangeAsked : List ℕ → ℕ → ℕ → ℕ → InterchangeAnswer
 interchangeAsked w n a b =
     cond (isTable w)
-    (cond (leb a 13 && leb b 13)
+    (cond (leb a mostClass && leb b mostClass)
     (cond (hasStop n (tableOf w .stops)) (Minutes (minutesFor (interchangeAtStop (tableOf w) n) a b)) (InterchangeRefused 27))
     (InterchangeRefused 26))
+    (InterchangeRefused 21)
+
+-- ---- document 02, No. 1: "The planner wants to ask the interchange time between two services, not two classes." "The new question takes a stop and two
+-- categories." The question between two classes stays.
+
+abbrev pub classBy : Option CategoryClass → ℕ
+classBy none = 0
+classBy (some c) = c .class
+
+-- the class of a category that is listed; "Lookups take the first match."
+unfoldable pub classFor : Delivery → ℕ → ℕ
+classFor d code = classBy (find (λ (c : CategoryClass). eqb (c .code) code) (d .classes))
+
+-- 21, 27, "38 .., in the question, after 27" (either category); a class over 13 is not met in a table (21), so there is no 26
+unfoldable pub betweenAsked : List ℕ → ℕ → ℕ → ℕ → InterchangeAnswer
+betweenAsked w n a b =
+    cond (isTable w)
+    (cond (hasStop n (tableOf w .stops))
+    (cond (hasClass a (tableOf w .classes) && hasClass b (tableOf w .classes))
+    (Minutes (minutesFor (interchangeAtStop (tableOf w) n) (classFor (tableOf w) a) (classFor (tableOf w) b)))
+    (InterchangeRefused 38))
+    (InterchangeRefused 27))
     (InterchangeRefused 21)
 
 -- ---- "Walk of service, repeat, date"

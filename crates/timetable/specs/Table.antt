@@ -7,15 +7,16 @@ use lib.ListN.{length, getD, take, drop}
 use lib.Dec.{ltb, leb, eqb}
 use Rattle.base.specs.Lists.{every, gathered}
 use Rattle.calendar.specs.Calendar.{lastDay}
-use Rattle.timetable.specs.Layout.{headerSize, bitFieldSize, stopSize, interchangeSize, serviceHead, callSize, categorySize, daySize, extraSize, recordSize, firstService}
-use Rattle.timetable.specs.Layout.{mostPeriodDays, mostCalls, mostCategories, mostDays, mostExtras, latestTime, allFlags}
-use Rattle.timetable.specs.Delivery.{Period, BitField, StopRecord, Interchange, Legs, CategoryRange, DayRange, ExtraRange, Service, Delivery}
+use Rattle.timetable.specs.Layout.{headerSize, bitFieldSize, stopSize, interchangeSize, classSize, serviceHead, callSize, categorySize, daySize, extraSize, recordSize, firstService}
+use Rattle.timetable.specs.Layout.{mostPeriodDays, mostClass, mostCalls, mostCategories, mostDays, mostExtras, latestTime, allFlags}
+use Rattle.timetable.specs.Delivery.{Period, BitField, StopRecord, Interchange, CategoryClass, Legs, CategoryRange, DayRange, ExtraRange, Service, Delivery}
 use Rattle.timetable.specs.Ranges.{inOrder}
 use Rattle.timetable.specs.Runs.{openingSound}
 use Rattle.timetable.specs.declared.Call.{Call}
 use Rattle.timetable.specs.declared.Opening.{Opening}
 
--- ---- as load writes it: "per bit field 13 (number, 12 words), stop 3 .., interchange 3 (number, two times), then services, all in file order"
+-- ---- as load writes it: "per bit field 13 (number, 12 words), stop 3 .., interchange 3 (number, two times), then services, all in file order";
+-- No. 1's section stands between the interchange records and the services
 
 abbrev pub bitFieldWords : BitField → List ℕ
 bitFieldWords b = b .number ∷ b .words
@@ -25,6 +26,10 @@ stopWords s = s .number ∷ s .offset ∷ s .size ∷ []
 
 abbrev pub interchangeWords : Interchange → List ℕ
 interchangeWords c = c .number ∷ c .firstTime ∷ c .secondTime ∷ []
+
+-- document 02, No. 1: "a section of two words each (code, class)"
+abbrev pub classWords : CategoryClass → List ℕ
+classWords c = c .code ∷ c .class ∷ []
 
 -- "calls of 4 (stop, arrival, departure, flags ..)"; document 02, No. 5: "Each call grows from 4 to 7 words: number and the two administration words
 -- follow the flags."
@@ -56,15 +61,17 @@ serviceWords s =
     headWords s
     ++ (gathered callWords (s .calls) ++ (gathered categoryWords (s .categories) ++ (gathered dayWords (s .days) ++ gathered extraWords (s .extras))))
 
--- all after the header
+-- all after the header; No. 1: the section of categories "stands before the services"
 abbrev pub sections : Delivery → List ℕ
 sections d =
     gathered bitFieldWords (d .fields)
     ++ (gathered stopWords (d .stops)
     ++ (gathered interchangeWords (d .interchanges)
-    ++ gathered serviceWords (d .services)))
+    ++ (gathered classWords (d .classes)
+    ++ gathered serviceWords (d .services))))
 
--- "Header: words used, first day, n, bit fields B, stops S, interchange records U, services V, place of first service."
+-- "Header: words used, first day, n, bit fields B, stops S, interchange records U, services V, place of first service."; No. 1: "nine words, the last being
+-- the count of categories"
 unfoldable pub tableWords : Delivery → List ℕ
 tableWords d =
     (headerSize + length (sections d))
@@ -74,7 +81,8 @@ tableWords d =
     ∷ length (d .stops)
     ∷ length (d .interchanges)
     ∷ length (d .services)
-    ∷ firstService (length (d .fields)) (length (d .stops)) (length (d .interchanges))
+    ∷ firstService (length (d .fields)) (length (d .stops)) (length (d .interchanges)) (length (d .classes))
+    ∷ length (d .classes)
     ∷ sections d
 
 -- ---- any words read back
@@ -96,6 +104,9 @@ stopAt w = record { number = word w 0; offset = word w 1; size = word w 2 }
 
 abbrev pub interchangeAt : List ℕ → Interchange
 interchangeAt w = record { number = word w 0; firstTime = word w 1; secondTime = word w 2 }
+
+abbrev pub classAt : List ℕ → CategoryClass
+classAt w = record { code = word w 0; class = word w 1 }
 
 abbrev pub callAt : List ℕ → Call
 callAt w = record { stop = word w 0; arrival = word w 1; departure = word w 2; flags = word w 3; number = word w 4; high = word w 5; low = word w 6 }
@@ -183,6 +194,9 @@ services# w = word w 6
 abbrev pub servicesPlace : List ℕ → ℕ
 servicesPlace w = word w 7
 
+abbrev pub classes# : List ℕ → ℕ
+classes# w = word w 8
+
 -- the words used, from the front of the words lent
 abbrev pub used : List ℕ → List ℕ
 used w = take (usedWords w) w
@@ -193,6 +207,7 @@ tableOf w = record {
   fields = rowsIn bitFieldAt bitFieldSize (bitFields# w) (drop headerSize (used w));
   stops = rowsIn stopAt stopSize (stops# w) (drop (headerSize + bitFieldSize * bitFields# w) (used w));
   interchanges = rowsIn interchangeAt interchangeSize (interchanges# w) (drop (headerSize + bitFieldSize * bitFields# w + stopSize * stops# w) (used w));
+  classes = rowsIn classAt classSize (classes# w) (drop (headerSize + bitFieldSize * bitFields# w + stopSize * stops# w + interchangeSize * interchanges# w) (used w));
   services = servicesIn (services# w) (drop (servicesPlace w) (used w));
 }
 
@@ -235,15 +250,22 @@ recordsSound zero w = eqb (length w) 0
 recordsSound (suc v) w = recordSound w && recordsSound v (drop (recordWords w) w)
 
 -- "fewer than 8, or words used under 8 or over those lent; n not 1 to 380, or last day after 31.12.2199; U is 0;
--- word 7 is not 8 + 13B + 3S + 3U or is beyond words used": of the words lent, and of words 0 to 5 and 7
-unfoldable pub headSound : ℕ → ℕ → ℕ → ℕ → ℕ → ℕ → ℕ → ℕ → Bool
-headSound lent end first n b s u place =
+-- word 7 is not 8 + 13B + 3S + 3U or is beyond words used" (document 02, No. 1: "21 reads the new sizes": 9 for 8, and 9 + 13B + 3S + 3U + 2K): of the
+-- words lent, and of words 0 to 5, 7 and 8
+unfoldable pub headSound : ℕ → ℕ → ℕ → ℕ → ℕ → ℕ → ℕ → ℕ → ℕ → Bool
+headSound lent end first n b s u place k =
     leb headerSize end && (leb end lent
     && (leb 1 n && (leb n mostPeriodDays && (leb (first + n) (lastDay + 1)
-    && (leb 1 u && (eqb place (firstService b s u) && leb place end))))))
+    && (leb 1 u && (eqb place (firstService b s u k) && leb place end))))))
+
+-- No. 1: "and refuses a class over 13"
+abbrev pub classSound : CategoryClass → Bool
+classSound c = leb (c .class) mostClass
 
 -- "Any words are not a table (21) exactly if": this is false
 unfoldable pub isTable : List ℕ → Bool
 isTable w =
-    leb headerSize (length w) && (headSound (length w) (usedWords w) (firstDay w) (periodDays w) (bitFields# w) (stops# w) (interchanges# w) (servicesPlace w)
-    && recordsSound (services# w) (drop (servicesPlace w) (used w)))
+    leb headerSize (length w)
+    && (headSound (length w) (usedWords w) (firstDay w) (periodDays w) (bitFields# w) (stops# w) (interchanges# w) (servicesPlace w) (classes# w)
+    && (every classSound (tableOf w .classes)
+    && recordsSound (services# w) (drop (servicesPlace w) (used w))))

@@ -6,8 +6,8 @@ ghost use mathlib.Core.Path.{_≡_};
 ghost use mathlib.Core.List.{[], _∷_};
 ghost use mathlib.Core.Option.{some};
 ghost use Rattle.timetable.specs.Offences.{offenceAt, verdictBy};
-ghost use Rattle.timetable.specs.Layout.{headerSize, bitFieldSize, stopSize, interchangeSize, serviceHead, callSize, categorySize, daySize, extraSize, rowSize, helperHead, helperLine};
-ghost use Rattle.timetable.specs.Layout.{mostFileBytes, mostPeriodDays, mostCalls, mostCategories, mostDays, mostExtras, mostRepeats, mostRunning, latestTime, allFlags, kindZ, kindT};
+ghost use Rattle.timetable.specs.Layout.{headerSize, bitFieldSize, stopSize, interchangeSize, classSize, serviceHead, callSize, categorySize, daySize, extraSize, rowSize, helperHead, helperLine};
+ghost use Rattle.timetable.specs.Layout.{mostFileBytes, mostPeriodDays, mostClass, mostCalls, mostCategories, mostDays, mostExtras, mostRepeats, mostRunning, latestTime, allFlags, kindZ, kindT};
 ghost use Rattle.timetable.specs.Ranges.{inOrder};
 
 // ---- what a line of FPLAN says
@@ -175,13 +175,15 @@ pub enum Walked {
 
 // ---- the table's sizes, in words (specs/Layout; `sizes_tied` ties the two)
 
-pub const HEADER_WORDS: usize = 8;
+pub const HEADER_WORDS: usize = 9;
 
 pub const BIT_FIELD_WORDS: usize = 13;
 
 pub const STOP_WORDS: usize = 3;
 
 pub const INTERCHANGE_WORDS: usize = 3;
+
+pub const CLASS_WORDS: usize = 2;
 
 pub const SERVICE_WORDS: usize = 12;
 
@@ -221,6 +223,8 @@ pub const SERVICES_AT: usize = 6;
 
 pub const FIRST_SERVICE_AT: usize = 7;
 
+pub const CLASSES_AT: usize = 8;
+
 // ---- where the words of a service's head stand
 
 pub const SIZE_AT: usize = 0;
@@ -258,6 +262,9 @@ pub const MOST_FILE_BYTES: usize = 16777216;
 
 // "A period of n days has 1 to 380."
 pub const MOST_PERIOD_DAYS: u32 = 380;
+
+// "class over 13" (26, and of a table 21)
+pub const MOST_CLASS: u32 = 13;
 
 // What one service may have (13).
 pub const MOST_CALLS: u32 = 200;
@@ -298,14 +305,15 @@ pub fn in_order(loose: bool, from: u32, to: u32) -> bool
 }
 
 // The sizes that the contracts name, by the names that the code uses.
-pub fn sizes_tied() -> [usize; 12]
-    ensures { λ r. ⌜ r ≡ headerSize ∷ bitFieldSize ∷ stopSize ∷ interchangeSize ∷ serviceHead ∷ callSize ∷ categorySize ∷ daySize ∷ extraSize ∷ rowSize ∷ helperHead ∷ helperLine ∷ [] ⌝ }
+pub fn sizes_tied() -> [usize; 13]
+    ensures { λ r. ⌜ r ≡ headerSize ∷ bitFieldSize ∷ stopSize ∷ interchangeSize ∷ classSize ∷ serviceHead ∷ callSize ∷ categorySize ∷ daySize ∷ extraSize ∷ rowSize ∷ helperHead ∷ helperLine ∷ [] ⌝ }
 {
     [
         HEADER_WORDS,
         BIT_FIELD_WORDS,
         STOP_WORDS,
         INTERCHANGE_WORDS,
+        CLASS_WORDS,
         SERVICE_WORDS,
         CALL_WORDS,
         CATEGORY_WORDS,
@@ -318,12 +326,13 @@ pub fn sizes_tied() -> [usize; 12]
 }
 
 // The limits and the kinds, in the same way.
-pub fn limits_tied() -> [usize; 12]
-    ensures { λ r. ⌜ r ≡ mostFileBytes ∷ mostPeriodDays ∷ mostCalls ∷ mostCategories ∷ mostDays ∷ mostExtras ∷ mostRepeats ∷ mostRunning ∷ latestTime ∷ allFlags ∷ kindZ ∷ kindT ∷ [] ⌝ }
+pub fn limits_tied() -> [usize; 13]
+    ensures { λ r. ⌜ r ≡ mostFileBytes ∷ mostPeriodDays ∷ mostClass ∷ mostCalls ∷ mostCategories ∷ mostDays ∷ mostExtras ∷ mostRepeats ∷ mostRunning ∷ latestTime ∷ allFlags ∷ kindZ ∷ kindT ∷ [] ⌝ }
 {
     [
         MOST_FILE_BYTES,
         MOST_PERIOD_DAYS as usize,
+        MOST_CLASS as usize,
         MOST_CALLS as usize,
         MOST_CATEGORIES as usize,
         MOST_DAYS as usize,

@@ -17,23 +17,23 @@ use Rattle.timetable.specs.Trial.{trialWords as words}
 
 -- the trial week with other operating days: `ranges` (bit field, from, to)
 abbrev withDays : ℕ → List ℕ → List ℕ
-withDays n ranges = set (set (set (take 76 words) 0 (76 + 3 * n)) 33 (43 + 3 * n)) 41 n ++ ranges
+withDays n ranges = set (set (set (take 79 words) 0 (79 + 3 * n)) 36 (43 + 3 * n)) 44 n ++ ranges
 
 -- 05.12.2025 is a Friday; the service runs Monday to Friday
 pub walks : (walked words 0 0 5 12 2025 40 ≡ Listed 4)
     × (walked words 0 0 6 12 2025 0 ≡ NotRunning)
     × (walked words 0 0 5 12 2025 39 ≡ Refused 29 40)
-    × (walked (take 78 words) 1 1 31 11 2025 0 ≡ Refused 21 0)
+    × (walked (take 81 words) 1 1 31 11 2025 0 ≡ Refused 21 0)
     × (walked words 1 1 31 11 2025 0 ≡ Refused 22 0)
     × (walked words 1 1 8 12 2025 0 ≡ Refused 23 0)
     × (walked words 1 1 5 12 2025 0 ≡ Refused 24 0)
     × (walked words 0 1 5 12 2025 0 ≡ Refused 25 0)
-    × (walked (set (set words 78 2) 76 7) 0 0 5 12 2025 0 ≡ Refused 31 0)
-    × (walked (set words 78 2) 0 0 6 12 2025 0 ≡ Refused 34 0)
-    × (walked (set (set words 45 5) 48 0) 0 0 5 12 2025 0 ≡ Refused 32 0)
-    × (walked (set (set words 48 0) 74 1) 0 0 5 12 2025 0 ≡ Refused 36 0)
-    × (walked (set words 53 479) 0 0 5 12 2025 0 ≡ Refused 36 0)
-    × (walked (set words 75 2) 0 0 5 12 2025 0 ≡ Refused 33 0)
+    × (walked (set (set words 81 2) 79 7) 0 0 5 12 2025 0 ≡ Refused 31 0)
+    × (walked (set words 81 2) 0 0 6 12 2025 0 ≡ Refused 34 0)
+    × (walked (set (set words 48 5) 51 0) 0 0 5 12 2025 0 ≡ Refused 32 0)
+    × (walked (set (set words 51 0) 77 1) 0 0 5 12 2025 0 ≡ Refused 36 0)
+    × (walked (set words 56 479) 0 0 5 12 2025 0 ≡ Refused 36 0)
+    × (walked (set words 78 2) 0 0 5 12 2025 0 ≡ Refused 33 0)
     × (walked (withDays 3 (0 ∷ 0 ∷ 1 ∷ 1 ∷ 1 ∷ 2 ∷ 0 ∷ 2 ∷ 3 ∷ [])) 0 0 6 12 2025 0 ≡ Refused 35 0)
     × (walked (withDays 3 (0 ∷ 0 ∷ 1 ∷ 1 ∷ 1 ∷ 2 ∷ 0 ∷ 2 ∷ 3 ∷ [])) 0 0 5 12 2025 40 ≡ Listed 4)
 unfolding every some-of countIf find upto bit yearsBefore monthsBefore exists dayOf _<|>_ fieldRuns stretches rowsIn serviceAt servicesIn tableOf recordSound recordsSound headSound isTable interchangeAtStop firstRefusal idleLegs leadingLegs callsRefusal rowsOf journey walkOf hasRun lateness openingSound
@@ -41,15 +41,20 @@ walks = (refl, refl, refl, refl, refl, refl, refl, refl, refl, refl, refl, refl,
 
 -- on a Saturday only the last leg runs, here in the second repeat, 60 minutes later each, and with number 43 at its first call; the words after the
 -- rows stay
-pub last-leg : walkRows (set (set (set (withDays 2 (1 ∷ 0 ∷ 2 ∷ 0 ∷ 2 ∷ 3 ∷ [])) 37 2) 38 60) 63 43) 0 2 6 12 2025 (replicate 22 9)
+pub last-leg : walkRows (set (set (set (withDays 2 (1 ∷ 0 ∷ 2 ∷ 0 ∷ 2 ∷ 3 ∷ [])) 40 2) 41 60) 66 43) 0 2 6 12 2025 (replicate 22 9)
     ≡ 1000033 ∷ 0 ∷ 635 ∷ 2 ∷ 43 ∷ 4605266 ∷ 5396831 ∷ 4342100 ∷ 2 ∷ 3 ∷ 1000022 ∷ 655 ∷ 0 ∷ 1 ∷ 42 ∷ 4605266 ∷ 5396831 ∷ 0 ∷ 2 ∷ 3 ∷ 9 ∷ 9 ∷ []
 unfolding every some-of countIf find upto bit yearsBefore monthsBefore exists dayOf _<|>_ fieldRuns stretches onto rowsIn serviceAt servicesIn tableOf recordSound recordsSound headSound isTable interchangeAtStop firstRefusal idleLegs leadingLegs callsRefusal rowsOf journey walkOf hasRun lateness openingSound
 last-leg = refl
 
 -- document 02, No. 8: the same service opened by a *T, running time 240 and density 450: run 3 is 23 minutes late, run 32 is the last
 abbrev dial : List ℕ
-dial = set (set (set words 37 240) 38 450) 44 1
+dial = set (set (set words 40 240) 41 450) 47 1
 
 pub dial-runs : (getD (walkRows dial 0 3 5 12 2025 (replicate 40 0)) 2 0 ≡ 503) × (walked dial 0 32 5 12 2025 40 ≡ Listed 4) × (walked dial 0 33 5 12 2025 40 ≡ Refused 25 0)
 unfolding every some-of countIf find upto bit yearsBefore monthsBefore exists dayOf _<|>_ fieldRuns stretches onto rowsIn serviceAt servicesIn tableOf recordSound recordsSound headSound isTable interchangeAtStop firstRefusal idleLegs leadingLegs callsRefusal rowsOf journey walkOf hasRun lateness openingSound
 dial-runs = (refl, refl, refl)
+
+-- document 02, No. 1: of words from elsewhere a walk does not ask whether its categories are listed
+pub unlisted : walked (set words 34 7) 0 0 5 12 2025 40 ≡ Listed 4
+unfolding every some-of countIf find upto bit yearsBefore monthsBefore exists dayOf _<|>_ fieldRuns stretches rowsIn serviceAt servicesIn tableOf recordSound recordsSound headSound isTable interchangeAtStop firstRefusal idleLegs leadingLegs callsRefusal rowsOf journey walkOf hasRun lateness openingSound
+unlisted = refl

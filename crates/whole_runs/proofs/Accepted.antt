@@ -10,7 +10,7 @@ use lib.ListN.{length, drop, length-append}
 use lib.Seq.{drop-at}
 use lib.Dec.{ltb, leb, eqb}
 use borrow.Author.Tests.{le-leb, le-ltb, ltb-false, eqb-false, eq-eqb}
-use Rattle.base.specs.Lists.{All, nil, cons, gathered}
+use Rattle.base.specs.Lists.{All, nil, cons, every, gathered}
 use Rattle.base.proofs.Laws.{apart}
 use Rattle.calendar.specs.Calendar.{lastDay}
 use Rattle.lines.specs.Lines.{linesOf}
@@ -20,16 +20,17 @@ use Rattle.timetable.specs.Offences.{_<|>_}
 use Rattle.timetable.specs.Load.{Where, delivered, lengthOffence, contentOffence, offence, onto, helperNeeded, refusedOr, shortOr, loaded, writtenBy, written}
 use Rattle.timetable.specs.Layout.{headerSize, serviceHead, firstService, mostPeriodDays, mostCalls, mostCategories, mostDays, mostExtras}
 use Rattle.timetable.specs.Table.{serviceSize, serviceWords, sections, tableWords}
-use Rattle.timetable.specs.Table.{recordWords, calls#, categories#, days#, extras#, usedWords, firstDay, periodDays, bitFields#, stops#, interchanges#, services#, servicesPlace}
-use Rattle.timetable.specs.Table.{tableOf, recordSound, recordsSound, headSound, isTable}
+use Rattle.timetable.specs.Table.{recordWords, calls#, categories#, days#, extras#, usedWords, firstDay, periodDays, bitFields#, stops#, interchanges#, services#, servicesPlace, classes#}
+use Rattle.timetable.specs.Table.{tableOf, recordSound, recordsSound, headSound, classSound, isTable}
 use Rattle.timetable.specs.Questions.{dateOf, dayBy, dayAsked, minutesFor, interchangeAtStop, interchangeAsked, journey, walkOf}
 use Rattle.timetable.specs.declared.InterchangeAnswer.the-variants.{Minutes, Refused as InterchangeRefused}
 use Rattle.timetable.specs.declared.Loaded.{Loaded}
 use Rattle.timetable.specs.declared.Loaded.the-variants.{Accepted, Refused}
 use Rattle.timetable.proofs.Offences.{then-none, given-none}
 use Rattle.timetable.proofs.Records.{twelve, service-length, service-back}
-use Rattle.whole_runs.proofs.Back.{words-length, used-back, to-services, sections-length, fields-twelve, table-back}
+use Rattle.whole_runs.proofs.Back.{words-length, used-back, to-services, sections-length, words-back, fields-twelve, table-back}
 use Rattle.whole_runs.proofs.Clear.{Clear, clear}
+use Rattle.whole_runs.proofs.ClassLines.{classes-sound}
 use Rattle.whole_runs.proofs.Period.{PeriodSound, period-sound}
 use Rattle.whole_runs.proofs.Right.{Right, services-right}
 
@@ -77,11 +78,12 @@ pub record Sound (d : Delivery) : Type 0 where
   pub twelves : All twelve (d .fields)
   pub period : PeriodSound (d .period)
   pub interchanges : 1 ≤ length (d .interchanges)
+  pub classes : every classSound (d .classes) ≡ true
   pub services : All (Right d) (d .services)
 
-header-words : (d : Delivery) (r : List ℕ) → (usedWords (tableWords d ++ r) ≡ headerSize + length (sections d)) × (firstDay (tableWords d ++ r) ≡ d .period .start) × (periodDays (tableWords d ++ r) ≡ d .period .days) × (bitFields# (tableWords d ++ r) ≡ length (d .fields)) × (stops# (tableWords d ++ r) ≡ length (d .stops)) × (interchanges# (tableWords d ++ r) ≡ length (d .interchanges)) × (services# (tableWords d ++ r) ≡ length (d .services)) × (servicesPlace (tableWords d ++ r) ≡ firstService (length (d .fields)) (length (d .stops)) (length (d .interchanges)))
+header-words : (d : Delivery) (r : List ℕ) → (usedWords (tableWords d ++ r) ≡ headerSize + length (sections d)) × (firstDay (tableWords d ++ r) ≡ d .period .start) × (periodDays (tableWords d ++ r) ≡ d .period .days) × (bitFields# (tableWords d ++ r) ≡ length (d .fields)) × (stops# (tableWords d ++ r) ≡ length (d .stops)) × (interchanges# (tableWords d ++ r) ≡ length (d .interchanges)) × (services# (tableWords d ++ r) ≡ length (d .services)) × (servicesPlace (tableWords d ++ r) ≡ firstService (length (d .fields)) (length (d .stops)) (length (d .interchanges)) (length (d .classes))) × (classes# (tableWords d ++ r) ≡ length (d .classes))
 unfolding tableWords
-header-words d r = (refl, refl, refl, refl, refl, refl, refl, refl)
+header-words d r = (refl, refl, refl, refl, refl, refl, refl, refl, refl)
 
 pub sound-table : (d : Delivery) → Sound d → (rest : List ℕ) → isTable (tableWords d ++ rest) ≡ true
 unfolding isTable headSound
@@ -89,10 +91,12 @@ sound-table d h rest =
     let q = header-words d rest in
     let u = headerSize + length (sections d) in
     let p = h .period in
-    let at = firstService (length (d .fields)) (length (d .stops)) (length (d .interchanges)) in
+    let at = firstService (length (d .fields)) (length (d .stops)) (length (d .interchanges)) (length (d .classes)) in
     let l : length (tableWords d ++ rest) ≡ u + length rest = length-append (tableWords d) rest ∙ rw (words-length d) in
     let z = sections-length d (h .twelves) in
     rw (
+      words-back d (h .twelves) rest,
+      h .classes,
       used-back d rest,
       q .0,
       q .1,
@@ -102,6 +106,7 @@ sound-table d h rest =
       q .5,
       q .6,
       q .7,
+      q .8,
       l,
       to-services d (h .twelves),
       le-leb headerSize (u + length rest) (omega arith),
@@ -126,6 +131,7 @@ clear-sound f h = record {
   twelves = fields-twelve (linesOf (f .bitfeld));
   period = period-sound (linesOf (f .eckdaten)) (h .period);
   interchanges = some-record (length (held-in interchangeOf (linesOf (f .umsteigb)))) (given-none _ 2 _ (then-none _ _ (h .interchanges) .1));
+  classes = classes-sound (linesOf (f .zugart));
   services = services-right f h;
 }
 

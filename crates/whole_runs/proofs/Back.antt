@@ -19,11 +19,11 @@ use Rattle.forms.specs.Columns.{bitFieldColumns}
 use Rattle.timetable.specs.Delivery.{Files, Delivery}
 use Rattle.timetable.specs.Files.{skip, listed, held-in, heldBy, bitFieldOf}
 use Rattle.timetable.specs.Load.{delivered}
-use Rattle.timetable.specs.Table.{bitFieldWords, stopWords, interchangeWords, serviceWords, sections, tableWords, usedWords}
-use Rattle.timetable.specs.Layout.{headerSize, bitFieldSize, stopSize, interchangeSize, firstService}
-use Rattle.timetable.specs.Table.{rowsIn, bitFieldAt, stopAt, interchangeAt, servicesIn, used, tableOf}
+use Rattle.timetable.specs.Table.{bitFieldWords, stopWords, interchangeWords, classWords, serviceWords, sections, tableWords, usedWords}
+use Rattle.timetable.specs.Layout.{headerSize, bitFieldSize, stopSize, interchangeSize, classSize, firstService}
+use Rattle.timetable.specs.Table.{rowsIn, bitFieldAt, stopAt, interchangeAt, classAt, servicesIn, used, tableOf}
 use Rattle.whole_runs.proofs.Lists.{all-append}
-use Rattle.timetable.proofs.Records.{past, twelve, fields-back, fields-length, stops-back, stops-length, interchanges-back, interchanges-length, services-back}
+use Rattle.timetable.proofs.Records.{past, twelve, fields-back, fields-length, stops-back, stops-length, interchanges-back, interchanges-length, classes-back, classes-length, services-back}
 
 -- ---- the table
 
@@ -46,38 +46,46 @@ module _ (d : Delivery) (h : All twelve (d .fields)) where
   U : List ℕ
   U = gathered interchangeWords (d .interchanges)
 
+  K : List ℕ
+  K = gathered classWords (d .classes)
+
   Z : List ℕ
   Z = gathered serviceWords (d .services)
 
   b : ℕ
   b = headerSize + bitFieldSize * length (d .fields)
 
-  to-stops : drop b (tableWords d) ≡ S ++ (U ++ Z)
-  unfolding tableWords S U Z b
-  to-stops = past (tableWords d) (gathered bitFieldWords (d .fields)) (S ++ (U ++ Z)) headerSize (bitFieldSize * length (d .fields)) refl (fields-length h)
+  to-stops : drop b (tableWords d) ≡ S ++ (U ++ (K ++ Z))
+  unfolding tableWords S U K Z b
+  to-stops = past (tableWords d) (gathered bitFieldWords (d .fields)) (S ++ (U ++ (K ++ Z))) headerSize (bitFieldSize * length (d .fields)) refl (fields-length h)
 
-  to-interchanges : drop (b + stopSize * length (d .stops)) (tableWords d) ≡ U ++ Z
+  to-interchanges : drop (b + stopSize * length (d .stops)) (tableWords d) ≡ U ++ (K ++ Z)
   unfolding S
-  to-interchanges = past (tableWords d) S (U ++ Z) b (stopSize * length (d .stops)) to-stops (stops-length (d .stops))
+  to-interchanges = past (tableWords d) S (U ++ (K ++ Z)) b (stopSize * length (d .stops)) to-stops (stops-length (d .stops))
+
+  to-classes : drop (b + stopSize * length (d .stops) + interchangeSize * length (d .interchanges)) (tableWords d) ≡ K ++ Z
+  unfolding U
+  to-classes = past (tableWords d) U (K ++ Z) (b + stopSize * length (d .stops)) (interchangeSize * length (d .interchanges)) to-interchanges (interchanges-length (d .interchanges))
 
   -- the services stand from their place on
-  pub to-services : drop (firstService (length (d .fields)) (length (d .stops)) (length (d .interchanges))) (tableWords d) ≡ gathered serviceWords (d .services)
-  unfolding U Z b
-  to-services = past (tableWords d) U Z (b + stopSize * length (d .stops)) (interchangeSize * length (d .interchanges)) to-interchanges (interchanges-length (d .interchanges))
+  pub to-services : drop (firstService (length (d .fields)) (length (d .stops)) (length (d .interchanges)) (length (d .classes))) (tableWords d) ≡ gathered serviceWords (d .services)
+  unfolding K Z b
+  to-services = past (tableWords d) K Z (b + stopSize * length (d .stops) + interchangeSize * length (d .interchanges)) (classSize * length (d .classes)) to-classes (classes-length (d .classes))
 
-  pub sections-length : length (sections d) ≡ bitFieldSize * length (d .fields) + stopSize * length (d .stops) + interchangeSize * length (d .interchanges) + length (gathered serviceWords (d .services))
-  sections-length = simp length-append (omega (arith, fields-length h, stops-length (d .stops), interchanges-length (d .interchanges)))
+  pub sections-length : length (sections d) ≡ bitFieldSize * length (d .fields) + stopSize * length (d .stops) + interchangeSize * length (d .interchanges) + classSize * length (d .classes) + length (gathered serviceWords (d .services))
+  sections-length = simp length-append (omega (arith, fields-length h, stops-length (d .stops), interchanges-length (d .interchanges), classes-length (d .classes)))
 
   pub words-back : (rest : List ℕ) → tableOf (tableWords d ++ rest) ≡ d
-  unfolding tableOf tableWords S U Z b
+  unfolding tableOf tableWords S U K Z b
   words-back rest =
       let u = used-back d rest in
       λ i. record {
         period = d .period;
-        fields = (ap (λ (w : List ℕ). rowsIn bitFieldAt bitFieldSize (length (d .fields)) (drop headerSize w)) u ∙ fields-back (S ++ (U ++ Z)) h) i;
-        stops = (ap (λ (w : List ℕ). rowsIn stopAt stopSize (length (d .stops)) (drop b w)) u ∙ (ap (rowsIn stopAt stopSize (length (d .stops))) to-stops ∙ stops-back (d .stops) (U ++ Z))) i;
-        interchanges = (ap (λ (w : List ℕ). rowsIn interchangeAt interchangeSize (length (d .interchanges)) (drop (b + stopSize * length (d .stops)) w)) u ∙ (ap (rowsIn interchangeAt interchangeSize (length (d .interchanges))) to-interchanges ∙ interchanges-back (d .interchanges) Z)) i;
-        services = (ap (λ (w : List ℕ). servicesIn (length (d .services)) (drop (firstService (length (d .fields)) (length (d .stops)) (length (d .interchanges))) w)) u ∙ (ap (servicesIn (length (d .services))) (to-services ∙ sym (append-nil Z)) ∙ services-back (d .services) [])) i;
+        fields = (ap (λ (w : List ℕ). rowsIn bitFieldAt bitFieldSize (length (d .fields)) (drop headerSize w)) u ∙ fields-back (S ++ (U ++ (K ++ Z))) h) i;
+        stops = (ap (λ (w : List ℕ). rowsIn stopAt stopSize (length (d .stops)) (drop b w)) u ∙ (ap (rowsIn stopAt stopSize (length (d .stops))) to-stops ∙ stops-back (d .stops) (U ++ (K ++ Z)))) i;
+        interchanges = (ap (λ (w : List ℕ). rowsIn interchangeAt interchangeSize (length (d .interchanges)) (drop (b + stopSize * length (d .stops)) w)) u ∙ (ap (rowsIn interchangeAt interchangeSize (length (d .interchanges))) to-interchanges ∙ interchanges-back (d .interchanges) (K ++ Z))) i;
+        classes = (ap (λ (w : List ℕ). rowsIn classAt classSize (length (d .classes)) (drop (b + stopSize * length (d .stops) + interchangeSize * length (d .interchanges)) w)) u ∙ (ap (rowsIn classAt classSize (length (d .classes))) to-classes ∙ classes-back (d .classes) Z)) i;
+        services = (ap (λ (w : List ℕ). servicesIn (length (d .services)) (drop (firstService (length (d .fields)) (length (d .stops)) (length (d .interchanges)) (length (d .classes))) w)) u ∙ (ap (servicesIn (length (d .services))) (to-services ∙ sym (append-nil Z)) ∙ services-back (d .services) [])) i;
       }
 
 -- ---- what files hold

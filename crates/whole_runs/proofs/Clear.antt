@@ -10,7 +10,7 @@ use Rattle.base.specs.Lists.{All, nil, cons, gathered}
 use Rattle.lines.specs.Lines.{Line, linesOf}
 use Rattle.timetable.specs.Delivery.{Files, CategoryRange, DayRange, Delivery}
 use Rattle.timetable.specs.Offences.{first}
-use Rattle.timetable.specs.Files.{Held, listed, held-in, periodFirst, bitFieldsFirst, stopsFirst, interchangesFirst}
+use Rattle.timetable.specs.Files.{Held, listed, held-in, periodFirst, bitFieldsFirst, stopsFirst, interchangesFirst, classesFirst}
 use Rattle.timetable.specs.Plan.{toldIn, tolds, asRange, saidOn}
 use Rattle.timetable.specs.Service.{blocks, calledOn, callsOf, serviceOf}
 use Rattle.timetable.specs.Checks.{ownOffence, timesFirst, endsFirst, eachOnce, torn, serviceChecks, serviceFirst, servicesFirst, headFirst, planFirst}
@@ -59,7 +59,7 @@ all-said ok say off one ls e =
 -- ---- a service without an offence
 
 pub record Fair (d : Delivery) (ls : List Line) : Type 0 where
-  pub own : first (ownOffence (d .fields) (d .stops)) [] ls ≡ none
+  pub own : first (ownOffence (d .fields) (d .stops) (d .classes)) [] ls ≡ none
   pub two : ltb (length (callsOf ls)) 2 ≡ false
   pub times : timesFirst (length (callsOf ls)) 0 0 (calledOn ls) ≡ none
   pub ranges : endsFirst (callsOf ls) (saidOn asRange ls) ≡ none
@@ -67,7 +67,7 @@ pub record Fair (d : Delivery) (ls : List Line) : Type 0 where
   pub days : eachOnce (λ (r : DayRange). r .legs) (legCount (serviceOf ls)) (serviceOf ls .days) ≡ true
   pub whole : torn (d .fields) (d .period .days) (serviceOf ls) ≡ false
 
-fair : (d : Delivery) (ls : List Line) → serviceFirst (d .fields) (d .stops) (d .period .days) ls ≡ none → Fair d ls
+fair : (d : Delivery) (ls : List Line) → serviceFirst (d .fields) (d .stops) (d .classes) (d .period .days) ls ≡ none → Fair d ls
 unfolding serviceFirst serviceChecks
 fair d ls e =
     let o = then-none _ _ e in
@@ -82,11 +82,11 @@ fair d ls e =
       whole = given-none _ 19 _ (v .1);
     }
 
-all-fair : (d : Delivery) (bs : List (List Line)) → servicesFirst (d .fields) (d .stops) (d .period .days) bs ≡ none → All (Fair d) bs
+all-fair : (d : Delivery) (bs : List (List Line)) → servicesFirst (d .fields) (d .stops) (d .classes) (d .period .days) bs ≡ none → All (Fair d) bs
 unfolding servicesFirst
 all-fair d [] e = nil
 all-fair d (b ∷ bs) e =
-    let o = then-none (serviceFirst (d .fields) (d .stops) (d .period .days) b) (servicesFirst (d .fields) (d .stops) (d .period .days) bs) e in
+    let o = then-none (serviceFirst (d .fields) (d .stops) (d .classes) (d .period .days) b) (servicesFirst (d .fields) (d .stops) (d .classes) (d .period .days) bs) e in
     cons (fair d b (o .0)) (all-fair d bs (o .1))
 
 -- ---- a delivery without an offence
@@ -96,18 +96,20 @@ pub record Clear (f : Files) : Type 0 where
   pub fields : bitFieldsFirst (delivered f .period .days) (linesOf (f .bitfeld)) ≡ none
   pub stops : stopsFirst (linesOf (f .bahnhof)) ≡ none
   pub interchanges : interchangesFirst (delivered f .stops) (linesOf (f .umsteigb)) ≡ none
+  pub classes : classesFirst (linesOf (f .zugart)) ≡ none
   pub head : headFirst (linesOf (f .fplan)) ≡ none
   pub services : All (Fair (delivered f)) (blocks (linesOf (f .fplan)))
 
 pub clear : (f : Files) → offence f ≡ none → Clear f
 unfolding contentOffence offence planFirst
 clear f e =
-    let o1 = then-none _ _ (then-none _ _ e .1) in let o2 = then-none _ _ (o1 .1) in let o3 = then-none _ _ (o2 .1) in let o4 = then-none _ _ (o3 .1) in
+    let o1 = then-none _ _ (then-none _ _ e .1) in let o2 = then-none _ _ (o1 .1) in let o3 = then-none _ _ (o2 .1) in let o4 = then-none _ _ (o3 .1) in let o5 = then-none _ _ (o4 .1) in
     record {
       period = in-none 1 _ (o1 .0);
       fields = in-none 2 _ (o2 .0);
       stops = in-none 3 _ (o3 .0);
       interchanges = in-none 4 _ (o4 .0);
-      head = then-none _ _ (in-none 5 _ (o4 .1)) .0;
-      services = all-fair (delivered f) _ (then-none _ _ (in-none 5 _ (o4 .1)) .1);
+      classes = in-none 6 _ (o5 .0);
+      head = then-none _ _ (in-none 5 _ (o5 .1)) .0;
+      services = all-fair (delivered f) _ (then-none _ _ (in-none 5 _ (o5 .1)) .1);
     }

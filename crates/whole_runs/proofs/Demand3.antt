@@ -41,6 +41,7 @@ use Rattle.whole_runs.proofs.Stretch.{one-stretch}
 use Rattle.whole_runs.proofs.Resolved.{legs-resolved, stretch-resolved}
 use Rattle.whole_runs.proofs.Rows.{Interchanges, inside, stretched}
 use Rattle.whole_runs.proofs.Announced.{rows-announce}
+use Rattle.whole_runs.proofs.ClassLines.{services-listed, rows-classed}
 use Rattle.whole_runs.proofs.Any.{runs-nowhere}
 
 -- ---- a day of a service
@@ -137,6 +138,7 @@ walk-demand f c w is holds i r d m y day s a =
         leg-days = leg-day (delivered f) s h k;
         runs-by = runs-by (s .opening);
         announced = rows-announce (blocks (linesOf (f .fplan))) i s (from-text f c i s (a .service)) (delivered f);
+        classed = rows-classed f c s (services-listed f c i s (a .service));
       };
     }
 

@@ -7,6 +7,7 @@ pub mod Clear
 pub mod Period
 pub mod Lines
 pub mod Right
+pub mod ClassLines
 pub mod Accepted
 pub mod Once
 pub mod Text
@@ -22,3 +23,4 @@ pub mod Slack
 pub mod Numbers
 pub mod StopLines
 pub mod StopNames
+pub mod Classes

@@ -13,7 +13,7 @@ use Rattle.base.specs.Lists.{All, nil, cons, gathered}
 use Rattle.base.proofs.Laws.{apart, clash}
 use Rattle.lines.specs.Lines.{Line}
 use Rattle.timetable.specs.Layout.{mostCalls}
-use Rattle.timetable.specs.Delivery.{BitField, StopRecord, Legs, DayRange, Delivery}
+use Rattle.timetable.specs.Delivery.{BitField, StopRecord, CategoryClass, Legs, DayRange, Delivery}
 use Rattle.timetable.specs.Offences.{offenceAt}
 use Rattle.timetable.specs.Files.{hasStop}
 use Rattle.timetable.specs.Plan.{toldIn, tolds, asCall, asRange, rangesOf, isPart, ofPart, partLines, saidOn}
@@ -51,8 +51,8 @@ range-limit before r u p h = go (isPart p r) refl
     go true q = let z : length (partLines p before) < most p = subst (λ (x : Part). length (partLines x before) < most x) (same-part (r .part) p q) u in omega arith
     go false q = omega arith
 
-module _ (fields : List BitField) (stops : List StopRecord) where
-  limit : (t : Told) (before : List Line) (line : ℕ) → toldOffence fields stops before line t ≡ none → Limits before
+module _ (fields : List BitField) (stops : List StopRecord) (classes : List CategoryClass) where
+  limit : (t : Told) (before : List Line) (line : ℕ) → toldOffence fields stops classes before line t ≡ none → Limits before
       → (length (callsOf before) + length (asCall t) ≤ mostCalls) × ((p : Part) → length (partLines p before) + length (gathered (ofPart p) (asRange t)) ≤ most p)
   unfolding gathered
   limit Skip before line o h = let c = h .calls in (omega arith, λ p. let r = h .ranges p in omega arith)
@@ -67,7 +67,7 @@ module _ (fields : List BitField) (stops : List StopRecord) where
       let u = leb-false mostCalls (length (callsOf before)) (given-none _ 13 line (then-none _ _ o .0)) in
       (omega arith, λ p. let r = h .ranges p in omega arith)
 
-  limits-more : (before : List Line) (l : Line) → ownOffence fields stops before l ≡ none → Limits before → Limits (before ++ (l ∷ []))
+  limits-more : (before : List Line) (l : Line) → ownOffence fields stops classes before l ≡ none → Limits before → Limits (before ++ (l ∷ []))
   limits-more before l o h =
       let m = limit (toldIn (l .text)) before (l .no) o h in
       record {
@@ -77,7 +77,7 @@ module _ (fields : List BitField) (stops : List StopRecord) where
 
 pub limits : (d : Delivery) (ls : List Line) → Fair d ls → Limits ls
 unfolding tolds gathered saidOn holding calledOn
-limits d ls h = first-keeps (ownOffence (d .fields) (d .stops)) Limits (limits-more (d .fields) (d .stops)) ls (h .own) (record { calls = omega arith; ranges = none-yet })
+limits d ls h = first-keeps (ownOffence (d .fields) (d .stops) (d .classes)) Limits (limits-more (d .fields) (d .stops) (d .classes)) ls (h .own) (record { calls = omega arith; ranges = none-yet })
   where
     none-yet : (p : Part) → 0 ≤ most p
     none-yet p = omega arith
@@ -95,7 +95,7 @@ module _ (d : Delivery) where
   FieldKnown b = fieldKnown b (d .fields) ≡ true
 
   abbrev told : List Line → ℕ → Told → Option Offence
-  told = toldOffence (d .fields) (d .stops)
+  told = toldOffence (d .fields) (d .stops) (d .classes)
 
   read-one : (before : List Line) (line : ℕ) (t : Told) → told before line t ≡ none → Read t
   read-one before line t o = (
@@ -120,7 +120,7 @@ module _ (d : Delivery) where
   field-one before line Other e = nil
   field-one before line (Broken c) e = nil
   field-one before line (Opens o) e = nil
-  field-one before line (Ranges r) e = cons {x = r} (not-false _ (given-none _ 10 line (then-none _ _ e .1))) nil
+  field-one before line (Ranges r) e = cons {x = r} (not-false _ (given-none _ 10 line (then-none _ _ (then-none _ _ e .1) .0))) nil
   field-one before line (Calls c) e = nil
 
   -- a range has its line's bit field
@@ -136,18 +136,18 @@ module _ (d : Delivery) where
 module _ (d : Delivery) (ls : List Line) (h : Fair d ls) where
   pub lines-read : All Read (tolds ls)
   unfolding tolds
-  lines-read = first-keeps (ownOffence (d .fields) (d .stops)) (λ (b : List Line). All Read (tolds b)) (λ before l o a. subst (All Read) (sym (tolds-more before l)) (all-append Read a (cons {x = toldIn (l .text)} (read-one d before (l .no) (toldIn (l .text)) o) nil))) ls (h .own) nil
+  lines-read = first-keeps (ownOffence (d .fields) (d .stops) (d .classes)) (λ (b : List Line). All Read (tolds b)) (λ before l o a. subst (All Read) (sym (tolds-more before l)) (all-append Read a (cons {x = toldIn (l .text)} (read-one d before (l .no) (toldIn (l .text)) o) nil))) ls (h .own) nil
 
   pub stops-known : All (StopKnown d) (callsOf ls)
   stops-known =
       calls-all (LineKnown d) (StopKnown d) (λ a l k. k) ls
-      (all-said (LineKnown d) asCall (ownOffence (d .fields) (d .stops)) (λ before l o. stop-one d before (l .no) (toldIn (l .text)) o) ls (h .own))
+      (all-said (LineKnown d) asCall (ownOffence (d .fields) (d .stops) (d .classes)) (λ before l o. stop-one d before (l .no) (toldIn (l .text)) o) ls (h .own))
 
   pub fields-known : All (λ (r : DayRange). FieldKnown d (r .field)) (serviceOf ls .days)
   unfolding serviceOf
   fields-known =
       fields-of d (callsOf ls) Days (all-part (λ (r : RangeLine). FieldKnown d (r .field)) Days ls
-      (all-said (λ (r : RangeLine). FieldKnown d (r .field)) asRange (ownOffence (d .fields) (d .stops)) (λ before l o. field-one d before (l .no) (toldIn (l .text)) o) ls (h .own)))
+      (all-said (λ (r : RangeLine). FieldKnown d (r .field)) asRange (ownOffence (d .fields) (d .stops) (d .classes)) (λ before l o. field-one d before (l .no) (toldIn (l .text)) o) ls (h .own)))
 
 -- ---- 16: each line of a range gives one range
 

@@ -20,26 +20,27 @@ use Rattle.forms.specs.Kinds.{kindOf}
 use Rattle.forms.specs.declared.Kind.{Kind}
 use Rattle.forms.specs.declared.Kind.the-variants.{Opening as OpeningKind, Frequency as FrequencyKind, Category as CategoryKind, Attribute as AttributeKind, Schedule as ScheduleKind, Other as OtherKind}
 use Rattle.forms.specs.declared.LineKind.{LineKind}
-use Rattle.forms.specs.declared.LineKind.the-variants.{Date, BitField, Stop, Interchange, Opening, Frequency, Category, Attribute, Schedule}
+use Rattle.forms.specs.declared.LineKind.the-variants.{Date, BitField, Stop, Interchange, CategoryClass, Opening, Frequency, Category, Attribute, Schedule}
 use Rattle.forms.proofs.Leftmost.{broken-from-1}
 use Rattle.forms.specs.declared.Form.{Form}
 use Rattle.forms.specs.declared.Form.the-variants.{Fits, Broken}
 use Rattle.lines.specs.Lines.{Line, linesOf, skipped}
 use Rattle.names.specs.Names.{isNameList}
-use Rattle.timetable.specs.Delivery.{Files, BitField as BitFieldRecord, StopRecord, Interchange as InterchangeRecord, CategoryRange, DayRange, Service}
+use Rattle.timetable.specs.Delivery.{Files, BitField as BitFieldRecord, StopRecord, Interchange as InterchangeRecord, CategoryClass as ClassRecord, CategoryRange, DayRange, Service}
 use Rattle.timetable.specs.declared.Offence.{Offence}
 use Rattle.timetable.specs.Offences.{offenceAt, given, formOffence, _<|>_, first}
 use Rattle.timetable.specs.Files.{skip, held-in, heldBy, heldOffence, noDate, noPeriod, dayNumber, dateLineOffence, periodLineOffence, periodFirst}
 use Rattle.timetable.specs.Files.{hasField, bitFieldOf, bitFieldOffence, bitFieldLineOffence, bitFieldsFirst, hasStop, nameField, stopOf, namedStopOffence, stopLineOffence, stopsFirst}
 use Rattle.timetable.specs.Files.{hasInterchange, interchangeOf, interchangeOffence, interchangeLineOffence, interchangesFirst}
+use Rattle.timetable.specs.Files.{hasClass, classOf, hasTariff, tariffOf, tariffOffence, classOffence, classLineOffence, classesFirst}
 use Rattle.timetable.specs.Table.{tableWords, tableOf, isTable}
 use Rattle.timetable.specs.Plan.{openingIn, frequencyIn, categoryIn, attributeIn, callIn, formed, toldBy, toldIn, asRange, partLines, saidOn}
 use Rattle.timetable.specs.Service.{headLines, blocks, firstLine, calledOn, callsOf, legsOn, serviceOf}
 use Rattle.timetable.specs.Legs.{fieldKnown, fieldRuns, legCount}
-use Rattle.timetable.specs.Checks.{most, toldOffence, isNone, eachOnce, torn, timesStated, timesRise, lastStated, timesFirst, endsFirst, legsFirst, serviceChecks, serviceFirst, servicesFirst, planFirst}
+use Rattle.timetable.specs.Checks.{most, categoryListed, toldOffence, isNone, eachOnce, torn, timesStated, timesRise, lastStated, timesFirst, endsFirst, legsFirst, serviceChecks, serviceFirst, servicesFirst, planFirst}
 use Rattle.timetable.specs.Load.{delivered, Where, inFile, tooLong, lengthOffence, contentOffence, helperNeeded, refusedOr, shortOr, onto, loaded, helpedBy, helped}
-use Rattle.timetable.specs.Layout.{mostFileBytes, mostCalls}
-use Rattle.timetable.specs.Questions.{minutesFor, interchangeAtStop, dateOf, Dated, undated, dated, dayBy, dayAsked, interchangeAsked, walked}
+use Rattle.timetable.specs.Layout.{mostFileBytes, mostClass, mostCalls}
+use Rattle.timetable.specs.Questions.{minutesFor, interchangeAtStop, dateOf, Dated, undated, dated, dayBy, dayAsked, interchangeAsked, classFor, betweenAsked, walked}
 use Rattle.timetable.specs.declared.Call.{Call}
 use Rattle.timetable.specs.declared.RangeLine.{RangeLine}
 use Rattle.timetable.specs.declared.Told.{Told}
@@ -110,7 +111,7 @@ unfolding first
 by-line off h before [] o e = apart (cc)
 by-line off h before (l ∷ ls) o e = either (off before l) (first off (before ++ (l ∷ [])) ls) (h before l) (by-line off h (before ++ (l ∷ [])) ls) o e
 
--- files 1 to 4
+-- files 1 to 4 and 6
 
 by-date : (l : Line) → Numbered (dateLineOffence l)
 by-date l = either _ _ (by-form (formOf dateColumns (l .text)) (l .no) (broken-from-1 Date (l .text))) (by-given (noDate (dateIn (l .text))) 5 (l .no) refl)
@@ -161,6 +162,16 @@ module _ (stops : List StopRecord) where
   unfolding interchangesFirst
   by-interchanges ls = either _ _ (by-line _ by-interchange [] ls) (by-given (eqb (length (held-in interchangeOf ls)) 0) 2 (length ls + 1) refl)
 
+by-tariff : (tariffs : List Bool) (line : ℕ) (has : Bool) → Numbered (tariffOffence tariffs line has)
+by-tariff [] line has o e = apart (cc)
+by-tariff (first ∷ earlier) line has o e = by-given (cond first (not has) has) 37 line refl o e
+
+by-class : (before : List Line) (l : Line) → Numbered (classLineOffence before l)
+by-class before l =
+    by-held (classOffence (held-in classOf before) (held-in tariffOf before) (l .no) (l .text)) (λ c.
+    either _ _ (by-given (hasClass (c .code) (held-in classOf before)) 6 (l .no) refl) (by-tariff (held-in tariffOf before) (l .no) (hasTariff (l .text))))
+    CategoryClass (l .no) (l .text) _
+
 -- FPLAN
 
 -- what a line of FPLAN says, where its form is broken at a column
@@ -194,14 +205,15 @@ unfolding endsFirst
 by-ends cs [] o e = apart (cc)
 by-ends cs (r ∷ rs) o e = either _ _ (by-given (isNone (legsOn cs (r .1))) 16 (r .0) refl) (by-ends cs rs) o e
 
-module _ (fields : List BitFieldRecord) (stops : List StopRecord) (n : ℕ) where
-  by-told : (before : List Line) (line : ℕ) (t : Told) → ((c : ℕ) → t ≡ ToldBroken c → 1 ≤ c) → Numbered (toldOffence fields stops before line t)
+module _ (fields : List BitFieldRecord) (stops : List StopRecord) (classes : List ClassRecord) (n : ℕ) where
+  by-told : (before : List Line) (line : ℕ) (t : Told) → ((c : ℕ) → t ≡ ToldBroken c → 1 ≤ c) → Numbered (toldOffence fields stops classes before line t)
   by-told before line Skip h o e = apart (cc)
   by-told before line Other h o e = it 11 line 0 (without 11 refl) o e
   by-told before line (ToldBroken c) h o e = by-form (Broken c) line (λ d z. let w : c ≡ d = cc in omega (arith, w, h c refl)) o e
   by-told before line (Opens y) h o e = apart (cc)
   by-told before line (Ranges r) h o e =
-      either _ _ (by-given (leb (most (r .part)) (length (partLines (r .part) before))) 13 line refl) (by-given (not (fieldKnown (r .field) fields)) 10 line refl) o e
+      either _ _ (by-given (leb (most (r .part)) (length (partLines (r .part) before))) 13 line refl)
+      (either _ _ (by-given (not (fieldKnown (r .field) fields)) 10 line refl) (by-given (not (categoryListed (r .part) (r .name) classes)) 38 line refl)) o e
   by-told before line (Calls c) h o e =
       either _ _ (by-given (leb mostCalls (length (callsOf before))) 13 line refl) (by-given (not (hasStop (c .stop) stops)) 9 line refl) o e
 
@@ -217,12 +229,12 @@ module _ (fields : List BitFieldRecord) (stops : List StopRecord) (n : ℕ) wher
       (either _ _ (by-call (length (callsOf ls)) 0 0 (calledOn ls))
       (either _ _ (by-ends (callsOf ls) (saidOn asRange ls)) (by-legs (firstLine ls .no) (serviceOf ls))))
 
-  by-service : (bs : List (List Line)) → Numbered (servicesFirst fields stops n bs)
+  by-service : (bs : List (List Line)) → Numbered (servicesFirst fields stops classes n bs)
   unfolding servicesFirst serviceFirst
   by-service [] o e = apart (cc)
   by-service (b ∷ bs) o e = either _ _ (either _ _ (by-line _ (λ before l. by-told before (l .no) (toldIn (l .text)) (told-from-1 (l .text))) [] b) (by-check b)) (by-service bs) o e
 
-  by-plan : (ls : List Line) → Numbered (planFirst fields stops n ls)
+  by-plan : (ls : List Line) → Numbered (planFirst fields stops classes n ls)
   unfolding planFirst
   by-plan ls = either _ _ (by-line _ (λ before l. by-given (not (skipped (l .text))) 12 (l .no) refl) [] (headLines ls)) (by-service (blocks ls))
 
@@ -233,13 +245,14 @@ module _ {w : Where} where
   by-file f (some x) h e = let z : x ≡ w .offence = cc in let p = h x refl in subst (λ (y : Offence). Inside (y .number) (y .column)) z p
 
   content-inside : (f : Files) → contentOffence f ≡ some w → Inside (w .offence .number) (w .offence .column)
-  unfolding contentOffence bitFieldsFirst stopsFirst
+  unfolding contentOffence bitFieldsFirst stopsFirst classesFirst
   content-inside f e =
       one-of _ _ e (by-file 1 _ (by-period (linesOf (f .eckdaten))))
       (λ e. one-of _ _ e (by-file 2 _ (by-line _ (by-field (delivered f .period .days)) [] (linesOf (f .bitfeld))))
       (λ e. one-of _ _ e (by-file 3 _ (by-line _ by-stop [] (linesOf (f .bahnhof))))
       (λ e. one-of _ _ e (by-file 4 _ (by-interchanges (delivered f .stops) (linesOf (f .umsteigb))))
-      (by-file 5 _ (by-plan (delivered f .fields) (delivered f .stops) (delivered f .period .days) (linesOf (f .fplan)))))))
+      (λ e. one-of _ _ e (by-file 6 _ (by-line _ by-class [] (linesOf (f .zugart))))
+      (by-file 5 _ (by-plan (delivered f .fields) (delivered f .stops) (delivered f .classes) (delivered f .period .days) (linesOf (f .fplan))))))))
 
   -- a file's length is an offence 1
   by-length : (f : ℕ) (s : List ℕ) → tooLong f s ≡ some w → w .offence ≡ offenceAt 1 0
@@ -253,7 +266,7 @@ module _ {w : Where} where
   unfolding lengthOffence
   length-1 f e =
       one-of _ _ e (by-length 1 (f .eckdaten)) (λ e. one-of _ _ e (by-length 2 (f .bitfeld)) (λ e. one-of _ _ e (by-length 3 (f .bahnhof))
-      (λ e. one-of _ _ e (by-length 4 (f .umsteigb)) (by-length 5 (f .fplan)))))
+      (λ e. one-of _ _ e (by-length 4 (f .umsteigb)) (λ e. one-of _ _ e (by-length 6 (f .zugart)) (by-length 5 (f .fplan))))))
 
 -- ---- the answers
 
@@ -360,7 +373,7 @@ day-numbered w d m y b number e = go (isTable w) e
 
 pub interchange-numbered : (w : List ℕ) (n a b number : ℕ) → interchangeAsked w n a b ≡ InterchangeRefused number → 1 ≤ number
 unfolding interchangeAsked
-interchange-numbered w n a b number e = go (isTable w) (leb a 13 && leb b 13) (hasStop n (tableOf w .stops)) e
+interchange-numbered w n a b number e = go (isTable w) (leb a mostClass && leb b mostClass) (hasStop n (tableOf w .stops)) e
   where
     go : (t u v : Bool)
         → cond t (cond u (cond v (Minutes (minutesFor (interchangeAtStop (tableOf w) n) a b)) (InterchangeRefused 27)) (InterchangeRefused 26)) (InterchangeRefused 21) ≡ InterchangeRefused number
@@ -368,6 +381,18 @@ interchange-numbered w n a b number e = go (isTable w) (leb a 13 && leb b 13) (h
     go true true true e = apart (cc)
     go true true false e = let z : _≡_ {A = ℕ} 27 number = cc in omega (arith, z)
     go true false v e = let z : _≡_ {A = ℕ} 26 number = cc in omega (arith, z)
+    go false u v e = let z : _≡_ {A = ℕ} 21 number = cc in omega (arith, z)
+
+pub between-numbered : (w : List ℕ) (n a b number : ℕ) → betweenAsked w n a b ≡ InterchangeRefused number → 1 ≤ number
+unfolding betweenAsked
+between-numbered w n a b number e = go (isTable w) (hasStop n (tableOf w .stops)) (hasClass a (tableOf w .classes) && hasClass b (tableOf w .classes)) e
+  where
+    go : (t u v : Bool)
+        → cond t (cond u (cond v (Minutes (minutesFor (interchangeAtStop (tableOf w) n) (classFor (tableOf w) a) (classFor (tableOf w) b))) (InterchangeRefused 38)) (InterchangeRefused 27)) (InterchangeRefused 21) ≡ InterchangeRefused number
+        → 1 ≤ number
+    go true true true e = apart (cc)
+    go true true false e = let z : _≡_ {A = ℕ} 38 number = cc in omega (arith, z)
+    go true false v e = let z : _≡_ {A = ℕ} 27 number = cc in omega (arith, z)
     go false u v e = let z : _≡_ {A = ℕ} 21 number = cc in omega (arith, z)
 
 pub walk-numbered : (w : List ℕ) (i r d m y room number needed : ℕ) → walked w i r d m y room ≡ WalkRefused number needed → 1 ≤ number

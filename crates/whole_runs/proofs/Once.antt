@@ -1,4 +1,4 @@
--- "6 number seen earlier in the same file": in an accepted delivery no number stands twice in BITFELD, BAHNHOF or UMSTEIGB, so the first match is the
+-- "6 number seen earlier in the same file": in an accepted delivery no number stands twice in BITFELD, BAHNHOF or UMSTEIGB and no code in ZUGART, so the first match is the
 -- only one, and what is looked up by a line's number is that line's own. Assumes nothing.
 use mathlib.Core.Path.{_≡_, refl, sym, ap, _∙_, subst}
 use mathlib.Core.List.{List, [], _∷_, _++_, append-nil}
@@ -11,9 +11,9 @@ use Rattle.base.specs.Lists.{All, nil, cons, some-of, find}
 use Rattle.base.proofs.Laws.{apart, clash}
 use Rattle.bitfield.specs.BitField.{runsOn}
 use Rattle.lines.specs.Lines.{Line, linesOf}
-use Rattle.timetable.specs.Delivery.{Files, BitField, StopRecord, Interchange}
+use Rattle.timetable.specs.Delivery.{Files, BitField, StopRecord, Interchange, CategoryClass}
 use Rattle.timetable.specs.Offences.{first}
-use Rattle.timetable.specs.Files.{Held, skip, broken, held, listed, held-in, heldOffence, bitFieldOf, bitFieldOffence, bitFieldsFirst, stopOf, namedStopOffence, stopsFirst, hasInterchange, interchangeOf, interchangeOffence, interchangesFirst}
+use Rattle.timetable.specs.Files.{Held, skip, broken, held, listed, held-in, heldOffence, bitFieldOf, bitFieldOffence, bitFieldsFirst, stopOf, namedStopOffence, stopsFirst, hasInterchange, interchangeOf, interchangeOffence, interchangesFirst, classOf, tariffOf, classOffence, classesFirst}
 use Rattle.timetable.specs.Legs.{fieldRuns}
 use Rattle.timetable.specs.Load.{delivered}
 use Rattle.timetable.specs.Questions.{interchangeBy, interchangeAtStop}
@@ -59,7 +59,7 @@ module _ {X : Type 0} (number : X → ℕ) where
   Own all x = find (λ (y : X). eqb (number y) (number x)) all ≡ some x
 
   -- none of some records has a number
-  abbrev Unseen : List X → ℕ → Type 0
+  abbrev pub Unseen : List X → ℕ → Type 0
   Unseen xs n = some-of (λ (y : X). eqb (number y) n) xs ≡ false
 
   alone : (x : X) → Own (x ∷ []) x
@@ -147,3 +147,14 @@ interchanges-at f h =
     all-to (Own (λ (y : Interchange). y .number) (delivered f .interchanges)) (λ (x : Interchange). interchangeAtStop (delivered f) (x .number) ≡ x)
     (λ x e. ap (λ (o : Option Interchange). interchangeBy o (delivered f .interchanges)) e)
     (delivered f .interchanges) (interchanges-own f h)
+
+-- ---- 6 ZUGART (document 02, No. 1)
+
+pub class-unseen : (line : ℕ) (text : List ℕ) (earlier : List CategoryClass) (tariffs : List Bool) (h : Held CategoryClass) → heldOffence (classOffence earlier tariffs line text) line h ≡ none → All (λ (c : CategoryClass). Unseen (λ (y : CategoryClass). y .code) earlier (c .code)) (listed h)
+class-unseen line text earlier tariffs skip e = nil
+class-unseen line text earlier tariffs (broken c) e = nil
+class-unseen line text earlier tariffs (held c) e = cons {x = c} (given-none _ 6 line (then-none _ _ e .0)) nil
+
+pub classes-own : (f : Files) → Clear f → All (Own (λ (y : CategoryClass). y .code) (delivered f .classes)) (delivered f .classes)
+unfolding delivered classesFirst
+classes-own f h = own-held (λ (y : CategoryClass). y .code) classOf _ (λ before l o. class-unseen (l .no) (l .text) (held-in classOf before) (held-in tariffOf before) (classOf l) o) (linesOf (f .zugart)) (h .classes)

@@ -17,7 +17,7 @@ use Rattle.timetable.specs.Layout.{rowSize, allFlags}
 use Rattle.timetable.specs.Delivery.{Files, Interchange, CategoryRange, Service, Delivery}
 use Rattle.timetable.specs.Legs.{covers}
 use Rattle.timetable.specs.Load.{onto, loaded, written, helped}
-use Rattle.timetable.specs.Questions.{dayAsked, interchangeAsked, walked, walkRows}
+use Rattle.timetable.specs.Questions.{dayAsked, interchangeAsked, betweenAsked, walked, walkRows}
 use Rattle.timetable.specs.declared.Call.{Call}
 use Rattle.timetable.specs.declared.DayAnswer.{DayAnswer}
 use Rattle.timetable.specs.declared.InterchangeAnswer.{InterchangeAnswer}
@@ -43,6 +43,9 @@ day-no-slack w d m y field a b = a ∙ sym b
 
 pub interchange-no-slack : (w : List ℕ) (n x y : ℕ) {a b : InterchangeAnswer} → a ≡ interchangeAsked w n x y → b ≡ interchangeAsked w n x y → a ≡ b
 interchange-no-slack w n x y a b = a ∙ sym b
+
+pub between-no-slack : (w : List ℕ) (n x y : ℕ) {a b : InterchangeAnswer} → a ≡ betweenAsked w n x y → b ≡ betweenAsked w n x y → a ≡ b
+between-no-slack w n x y a b = a ∙ sym b
 
 -- ---- demand 3
 

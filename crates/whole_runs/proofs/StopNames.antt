@@ -1,11 +1,10 @@
 -- The question for a stop's name: of any words and bytes the answer is a name inside the bytes (`name-in-bytes`), a refusal has a number of at least 1
 -- (`name-numbered`); of an accepted delivery the answer is the stop's own line's (`own-name`), and only 40 and 27 are left (`name-refusals`).
 -- specs/StopNames.antt states it. Assumes nothing.
-use mathlib.Core.Path.{_≡_, refl, sym, ap, _∙_}
+use mathlib.Core.Path.{_≡_, refl, sym, ap, _∙_, subst}
 use mathlib.Core.List.{List, []}
 use mathlib.Core.Bool.{Bool, true, false, cond}
 use mathlib.Core.Option.{Option, none, some}
-use mathlib.Core.Logic.{_⊎_, inl, inr}
 use Prim.Native.Nat.{ℕ, _+_, _-_, _≤_}
 use native.Mathlib.Omega.{arith}
 use lib.ListN.{length, drop, getElem?, length-take}
@@ -27,7 +26,7 @@ use Rattle.timetable.specs.Table.{tableOf, isTable}
 use Rattle.timetable.specs.StopNames.{stopNumbered, nameInside, nameBytes, partFrom, nameWithin, stopName, stopNameAsked}
 use Rattle.timetable.specs.declared.Loaded.the-variants.{Accepted}
 use Rattle.timetable.specs.declared.NameAnswer.the-variants.{Part, Refused}
-use Rattle.whole_runs.specs.StopNames.{InBytes, OwnName}
+use Rattle.whole_runs.specs.StopNames.{InBytes, OwnName, NameRefused, outside-list, unknown-stop}
 use Rattle.whole_runs.proofs.Lists.{all-elem}
 use Rattle.whole_runs.proofs.Clear.{clear}
 use Rattle.whole_runs.proofs.Accepted.{no-offence, table-is, table-holds}
@@ -119,18 +118,18 @@ module _ (f : Files) (t : List ℕ) (helper u : ℕ) (e : loaded f (length t) he
       by-line a s found (eqb-true (s .number) stop (on .fits)) (on .index) (on .line) (on .there) (on .holds) part n answer
 
   -- Of the refusals only 40 and 27 are left, each exactly for its reason.
-  pub name-refusals : (number : ℕ) → stopNameAsked (written f t helper) (f .bahnhof) stop language type ≡ Refused number
-      → ((number ≡ 40) × (askable language type ≡ false)) ⊎ ((number ≡ 27) × (hasStop stop (delivered f .stops) ≡ false))
+  pub name-refusals : (number : ℕ) → stopNameAsked (written f t helper) (f .bahnhof) stop language type ≡ Refused number → NameRefused (delivered f .stops) stop language type number
   name-refusals number k = go (askable language type) refl (hasStop stop (delivered f .stops)) refl
     where
-      go : (a : Bool) → askable language type ≡ a → (h : Bool) → hasStop stop (delivered f .stops) ≡ h
-          → ((number ≡ 40) × (a ≡ false)) ⊎ ((number ≡ 27) × (h ≡ false))
+      go : (a : Bool) → askable language type ≡ a → (h : Bool) → hasStop stop (delivered f .stops) ≡ h → NameRefused (delivered f .stops) stop language type number
       go false p h q =
           let z : Refused number ≡ Refused 40 = sym k ∙ asked-of ∙ ap (λ (x : Bool). cond x (stopName (f .bahnhof) (wantedBy language type) (stopNumbered stop (delivered f .stops))) (Refused 40)) p in
-          inl (let y : _≡_ {A = ℕ} number 40 = cc in y, refl)
+          let y : _≡_ {A = ℕ} 40 number = cc in
+          subst (NameRefused (delivered f .stops) stop language type) y (outside-list p)
       go true p false q =
           let z : Refused number ≡ Refused 27 =
           sym k ∙ asked-of ∙ ap (λ (x : Bool). cond x (stopName (f .bahnhof) (wantedBy language type) (stopNumbered stop (delivered f .stops))) (Refused 40)) p
           ∙ ap (stopName (f .bahnhof) (wantedBy language type)) (none-found (λ (s : StopRecord). eqb (s .number) stop) (delivered f .stops) q) in
-          inr (let y : _≡_ {A = ℕ} number 27 = cc in y, refl)
+          let y : _≡_ {A = ℕ} 27 number = cc in
+          subst (NameRefused (delivered f .stops) stop language type) y (unknown-stop p q)
       go true p true q = let z : Refused number ≡ Part _ _ = sym k ∙ own-name p q .answer in apart (cc)

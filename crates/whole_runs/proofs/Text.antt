@@ -15,7 +15,7 @@ use Rattle.forms.specs.declared.Form.the-variants.{Fits, Broken}
 use Rattle.lines.specs.Lines.{Line, linesOf, skipped}
 use Rattle.timetable.specs.Delivery.{Files, BitField}
 use Rattle.timetable.specs.Offences.{given, first}
-use Rattle.timetable.specs.Files.{Held, skip, broken, listed, held-in, heldBy, holding, heldOffence, bitFieldsFirst, stopsFirst, interchangesFirst}
+use Rattle.timetable.specs.Files.{Held, skip, broken, listed, held-in, heldBy, holding, heldOffence, bitFieldsFirst, stopsFirst, interchangesFirst, classesFirst}
 use Rattle.timetable.specs.Plan.{opens}
 use Rattle.timetable.specs.Service.{headLines, blocks, serviceOf}
 use Rattle.timetable.specs.Legs.{fieldRuns}
@@ -26,9 +26,9 @@ use Rattle.whole_runs.specs.Text.{Records, no-line, skips, gives, EveryL
 use Rattle.whole_runs.proofs.Clear.{Clear}
 use Rattle.whole_runs.proofs.Period.{three-lines}
 use Rattle.whole_runs.proofs.Right.{from-text}
-use Rattle.whole_runs.proofs.Once.{fields-run, stops-own, interchanges-own}
+use Rattle.whole_runs.proofs.Once.{fields-run, stops-own, interchanges-own, classes-own}
 
--- ---- BITFELD, BAHNHOF, UMSTEIGB
+-- ---- BITFELD, BAHNHOF, UMSTEIGB, ZUGART
 
 -- a line without an offence is not broken
 whole-line : {X : Type 0} (own : X → Option Offence) (line : ℕ) (h : Held X) → heldOffence own line h ≡ none → (c : ℕ) → h ≡ broken c → ⊥
@@ -75,12 +75,13 @@ head-skipped before (l ∷ ls) e =
 -- ---- the delivery
 
 pub every-line : (f : Files) → Clear f → EveryLine f
-unfolding delivered bitFieldsFirst stopsFirst interchangesFirst
+unfolding delivered bitFieldsFirst stopsFirst interchangesFirst classesFirst
 every-line f h = record {
   eckdaten = three-lines (linesOf (f .eckdaten)) (h .period);
   bitfeld = records _ _ _ (λ before l o. whole-line _ _ _ o) [] (linesOf (f .bitfeld)) (h .fields);
   bahnhof = records _ _ _ (λ before l o. whole-line _ _ _ o) [] (linesOf (f .bahnhof)) (h .stops);
   umsteigb = records _ _ _ (λ before l o. whole-line _ _ _ o) [] (linesOf (f .umsteigb)) (then-none _ _ (h .interchanges) .0);
+  zugart = records _ _ _ (λ before l o. whole-line _ _ _ o) [] (linesOf (f .zugart)) (h .classes);
   fplan = blocks-whole (linesOf (f .fplan));
   before = head-skipped [] (headLines (linesOf (f .fplan))) (h .head);
   blocks-read = length-map (blocks (linesOf (f .fplan))) serviceOf;
@@ -98,4 +99,5 @@ own-text f h = record {
   daily = daily (delivered f .fields);
   own-stop = stops-own f h;
   own-interchange = interchanges-own f h;
+  own-class = classes-own f h;
 }

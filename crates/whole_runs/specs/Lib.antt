@@ -1,4 +1,5 @@
 pub mod Text
 pub mod Rows
+pub mod Classes
 pub mod Promise
 pub mod StopNames

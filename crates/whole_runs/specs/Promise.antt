@@ -25,6 +25,7 @@ use Rattle.timetable.specs.declared.Opening.{Opening}
 use Rattle.timetable.specs.declared.Walked.{Walked}
 use Rattle.timetable.specs.declared.Walked.the-variants.{Listed, NotRunning, Refused}
 use Rattle.whole_runs.specs.Text.{FromText, Announces, OwnText}
+use Rattle.whole_runs.specs.Classes.{OwnClass}
 use Rattle.whole_runs.specs.Rows.{RunsNowhere, Unbroken, rowWord, Stretched}
 
 -- what is asked: a service of the delivery, a repeat that it has, and a date in the period
@@ -60,6 +61,8 @@ pub record OwnRun (f : Files) (i : ℕ) (s : Service) (k : ℕ) : Type 0 where
   -- document 02, No. 5: the number and administration that a row states are those that the text says hold at its call, wherever the stretch begins
   pub announced : {r : ℕ} {ws : List ℕ} (x : Stretched (delivered f) s r k ws) (q : ℕ) → q ≤ x .legs
       → Announces (service .lines) (x .start + q) (rowWord ws q 4) (rowWord ws q 5) (rowWord ws q 6)
+  -- document 02, No. 1: "Demand 3 adds that every category a walk lists has a class": exactly one, from its own line of ZUGART (the last row has no category)
+  pub classed : {r : ℕ} {ws : List ℕ} (x : Stretched (delivered f) s r k ws) (q : ℕ) → q < x .legs → OwnClass f (rowWord ws q 7)
 
 -- ---- what the walk is, before the room is looked at
 

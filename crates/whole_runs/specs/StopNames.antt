@@ -3,15 +3,17 @@
 -- refused by 41 or 39. Proved in proofs/StopNames.antt: `name-in-bytes`, `own-name`, `name-refusals`. Assumes nothing.
 use mathlib.Core.Path.{_≡_}
 use mathlib.Core.List.{List}
+use mathlib.Core.Bool.{true, false}
 use mathlib.Core.Option.{some}
 use Prim.Native.Nat.{ℕ, _+_, _≤_}
 use lib.ListN.{length, take, drop, getElem?}
 use Rattle.columns.specs.Columns.{columns, number}
 use Rattle.lines.specs.Lines.{Line, linesOf}
 use Rattle.names.specs.Grammar.{IsName}
-use Rattle.names.specs.Names.{wantedBy, nameFor}
+use Rattle.names.specs.Names.{askable, wantedBy, nameFor}
 use Rattle.names.specs.declared.Name.{Name}
-use Rattle.timetable.specs.Files.{held, stopOf, nameLength, nameField}
+use Rattle.timetable.specs.Delivery.{StopRecord}
+use Rattle.timetable.specs.Files.{held, hasStop, stopOf, nameLength, nameField}
 use Rattle.timetable.specs.declared.NameAnswer.{NameAnswer}
 use Rattle.timetable.specs.declared.NameAnswer.the-variants.{Part, Refused}
 
@@ -35,3 +37,8 @@ pub record OwnName (bahnhof : List ℕ) (stop language type : ℕ) (a : NameAnsw
   pub in-columns : 12 + name .place + name .size ≤ 62
   pub in-line : 12 + name .place + name .size ≤ length (line .text)
   pub bytes : take (name .size) (drop (line .start + 12 + name .place) bahnhof) ≡ take (name .size) (drop (12 + name .place) (line .text))
+
+-- what it is refused by, of an accepted delivery with these stops: "in order, 21, 40 .., 27, 41 .., 39", of which two are left
+pub data NameRefused (stops : List StopRecord) (stop language type : ℕ) : ℕ → Type 0 where
+  outside-list : askable language type ≡ false → NameRefused stops stop language type 40
+  unknown-stop : askable language type ≡ true → hasStop stop stops ≡ false → NameRefused stops stop language type 27

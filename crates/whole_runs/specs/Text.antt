@@ -1,4 +1,4 @@
--- "The days, calls and categories are those of that same delivery's text": what an accepted delivery holds is what the lines of its five files say.
+-- "The days, calls and categories are those of that same delivery's text": what an accepted delivery holds is what the lines of its six files say.
 -- Every line of every file was read, so no record is dropped unseen, and what is looked up by a line's number is that line's own.
 -- Proved in proofs/Text.antt: `own-text`. Assumes nothing.
 use mathlib.Core.Path.{_≡_}
@@ -15,8 +15,8 @@ use Rattle.calendar.specs.declared.Date.the-variants.{Day}
 use Rattle.forms.specs.Form.{fits}
 use Rattle.forms.specs.Columns.{dateColumns}
 use Rattle.lines.specs.Lines.{Line, linesOf, skipped}
-use Rattle.timetable.specs.Delivery.{Files, Period, BitField, StopRecord, Interchange, Service}
-use Rattle.timetable.specs.Files.{Held, held, bitFieldOf, stopOf, interchangeOf}
+use Rattle.timetable.specs.Delivery.{Files, Period, BitField, StopRecord, Interchange, CategoryClass, Service}
+use Rattle.timetable.specs.Files.{Held, held, bitFieldOf, stopOf, interchangeOf, classOf}
 use Rattle.timetable.specs.Plan.{tolds, asCall, partLines}
 use Rattle.timetable.specs.Service.{headLines, blocks, openingOf, serviceOf}
 use Rattle.timetable.specs.Legs.{fieldRuns}
@@ -37,7 +37,7 @@ pub record ThreeLines (ls : List Line) (p : Period) : Type 0 where
   pub start : dateIn (first .text) ≡ Day (p .start)
   pub end : dateIn (second .text) ≡ Day (p .start + p .days - 1)
 
--- BITFELD, BAHNHOF, UMSTEIGB: each line is skipped, or gives the next record
+-- BITFELD, BAHNHOF, UMSTEIGB, ZUGART: each line is skipped, or gives the next record
 pub data Records {X : Type 0} (of : Line → Held X) : List Line → List X → Type 0 where
   no-line : Records of [] []
   skips : {l : Line} {ls : List Line} {xs : List X} → skipped (l .text) ≡ true → Records of ls xs → Records of (l ∷ ls) xs
@@ -81,6 +81,7 @@ pub record EveryLine (f : Files) : Type 0 where
   pub bitfeld : Records bitFieldOf (linesOf (f .bitfeld)) (delivered f .fields)
   pub bahnhof : Records stopOf (linesOf (f .bahnhof)) (delivered f .stops)
   pub umsteigb : Records interchangeOf (linesOf (f .umsteigb)) (delivered f .interchanges)
+  pub zugart : Records classOf (linesOf (f .zugart)) (delivered f .classes)
   -- a line of FPLAN stands before the first *Z line, and then it is skipped, or in one block; each block is a service
   pub fplan : headLines (linesOf (f .fplan)) ++ gathered (λ (b : List Line). b) (blocks (linesOf (f .fplan))) ≡ linesOf (f .fplan)
   pub before : All (λ (l : Line). skipped (l .text) ≡ true) (headLines (linesOf (f .fplan)))
@@ -96,3 +97,5 @@ pub record OwnText (f : Files) : Type 0 where
   -- what is found in BAHNHOF and UMSTEIGB by a line's number is that line's own
   pub own-stop : All (λ (x : StopRecord). find (λ (y : StopRecord). eqb (y .number) (x .number)) (delivered f .stops) ≡ some x) (delivered f .stops)
   pub own-interchange : All (λ (x : Interchange). find (λ (y : Interchange). eqb (y .number) (x .number)) (delivered f .interchanges) ≡ some x) (delivered f .interchanges)
+  -- document 02, No. 1: what is found in ZUGART by a line's code is that line's own
+  pub own-class : All (λ (x : CategoryClass). find (λ (y : CategoryClass). eqb (y .code) (x .code)) (delivered f .classes) ≡ some x) (delivered f .classes)

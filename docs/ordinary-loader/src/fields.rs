@@ -72,6 +72,12 @@ impl<'a> Line<'a> {
         }
     }
 
+    /// One byte, in a column that may hold only these.
+    pub fn one_of(&self, column: usize, bytes: &[u8]) -> Result<u8, Broken> {
+        let byte = self.text.get(column - 1).copied().unwrap_or(b' ');
+        Some(byte).filter(|byte| bytes.contains(byte)).ok_or(Broken(column))
+    }
+
     /// Bytes of which none is blank.
     pub fn no_blanks(&self, first: usize, last: usize) -> Result<&'a [u8], Broken> {
         let field = self.columns(first, last);

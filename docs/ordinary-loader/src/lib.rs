@@ -20,8 +20,9 @@ mod table;
 
 pub use refusal::Refusal;
 
+use plan::Known;
 use refusal::{number, Offence};
-use sections::{BitFields, Stops};
+use sections::{BitFields, Categories, Stops};
 use table::Table;
 
 /// "file over 16,777,216 bytes"
@@ -40,12 +41,16 @@ pub struct Files<'a> {
     pub umsteigb: &'a [u8],
     /// FPLAN: the services.
     pub fplan: &'a [u8],
+    /// ZUGART: the categories.
+    pub zugart: &'a [u8],
 }
 
 impl<'a> Files<'a> {
-    /// Each file with its number, in the order in which they are checked.
-    fn numbered(&self) -> [(u32, &'a [u8]); 5] {
-        [(1, self.eckdaten), (2, self.bitfeld), (3, self.bahnhof), (4, self.umsteigb), (5, self.fplan)]
+    /// Each file with its number, in the order in which they are checked: "ZUGART is file 6, its lengths and lines checked after UMSTEIGB's" (document 02,
+    /// No. 1).
+    fn numbered(&self) -> [(u32, &'a [u8]); 6] {
+        let [eckdaten, bitfeld, bahnhof, umsteigb] = [self.eckdaten, self.bitfeld, self.bahnhof, self.umsteigb];
+        [(1, eckdaten), (2, bitfeld), (3, bahnhof), (4, umsteigb), (6, self.zugart), (5, self.fplan)]
     }
 }
 
@@ -61,16 +66,17 @@ pub fn load(files: &Files<'_>, lent: &mut [u32]) -> Result<u32, Refusal> {
     Ok(needed)
 }
 
-/// The words of a delivery's table, or the first offence (1 to 19, or 39).
+/// The words of a delivery's table, or the first offence (1 to 19, or 37 to 39).
 pub fn words_of(files: &Files<'_>) -> Result<Vec<u32>, Refusal> {
     check_lengths(files)?;
-    let [eckdaten, bitfeld, bahnhof, umsteigb, fplan] = files.numbered();
+    let [eckdaten, bitfeld, bahnhof, umsteigb, zugart, fplan] = files.numbered();
     let period = of(eckdaten, period::read)?;
     let mut table = Table::new(&period);
     let fields: BitFields = of(bitfeld, |file| sections::read_bit_fields(file, &period, &mut table))?;
     let stops: Stops = of(bahnhof, |file| sections::read_stops(file, &mut table))?;
     of(umsteigb, |file| sections::read_interchanges(file, &stops, &mut table))?;
-    of(fplan, |file| plan::read(file, &stops, &fields, &mut table))?;
+    let categories: Categories = of(zugart, |file| sections::read_categories(file, &mut table))?;
+    of(fplan, |file| plan::read(file, &Known { stops, fields, categories }, &mut table))?;
     Ok(table.finish())
 }
 

@@ -4,7 +4,7 @@ use crate::fields::End;
 use crate::lines::{is_blank, records, Broken, Line};
 use crate::refusal::{number, Offence};
 use crate::route::Call;
-use crate::sections::{BitFields, Stops};
+use crate::sections::{BitFields, Categories, Stops};
 use crate::service::{Attribute, Opening, Range, Service};
 use crate::table::{packed, Table, KIND_T, KIND_Z};
 
@@ -13,6 +13,13 @@ const MOST_CALLS: usize = 200;
 const MOST_CATEGORIES: usize = 50;
 const MOST_DAYS: usize = 50;
 const MOST_OTHERS: usize = 100;
+
+/// What the files before it list.
+pub struct Known {
+    pub stops: Stops,
+    pub fields: BitFields,
+    pub categories: Categories,
+}
 
 /// The kinds of lines.
 enum Kind {
@@ -39,7 +46,8 @@ fn kind_of(line: &Line<'_>) -> Option<Kind> {
 }
 
 /// "service by service: every line's own checks, then the service's checks"
-pub fn read(file: &[u8], stops: &Stops, fields: &BitFields, table: &mut Table) -> Result<(), Offence> {
+pub fn read(file: &[u8], known: &Known, table: &mut Table) -> Result<(), Offence> {
+    let Known { stops, fields, categories } = known;
     let mut current: Option<Service> = None;
     for line in records(file) {
         match (kind_of(&line), &mut current) {
@@ -53,7 +61,7 @@ pub fn read(file: &[u8], stops: &Stops, fields: &BitFields, table: &mut Table) -
             }
             (_, None) => return Err(line.offence(number::NOT_OPENED)),
             (None, _) => return Err(line.offence(number::OTHER_KIND)),
-            (Some(Kind::G), Some(service)) => add_category(&line, service)?,
+            (Some(Kind::G), Some(service)) => add_category(&line, service, categories)?,
             (Some(Kind::A), Some(service)) => add_attribute(&line, service, fields)?,
             (Some(Kind::Schedule), Some(service)) => add_call(&line, service, stops)?,
         }
@@ -69,10 +77,14 @@ fn finish(service: &Option<Service>, fields: &BitFields, table: &mut Table) -> R
     Ok(())
 }
 
-/// *G: 4, 13.
-fn add_category(line: &Line<'_>, service: &mut Service) -> Result<(), Offence> {
+/// *G: 4, 13, 38.
+fn add_category(line: &Line<'_>, service: &mut Service, categories: &Categories) -> Result<(), Offence> {
     let range = line.formed(category_in(line))?;
-    push(&mut service.categories, range, MOST_CATEGORIES, line)
+    push(&mut service.categories, range, MOST_CATEGORIES, line)?;
+    match categories.has(range.given) {
+        true => Ok(()),
+        false => Err(line.offence(number::CATEGORY_UNKNOWN)),
+    }
 }
 
 /// *A: 4, 13, 10.

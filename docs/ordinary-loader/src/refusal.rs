@@ -22,15 +22,17 @@ pub mod number {
     pub const DAYS_COVER: u32 = 18;
     pub const STRETCHES: u32 = 19;
     pub const TABLE_SHORT: u32 = 20;
+    pub const TARIFF_GROUP: u32 = 37;
+    pub const CATEGORY_UNKNOWN: u32 = 38;
     pub const NAMES: u32 = 39;
 }
 
 /// A refusal of a delivery.
 #[derive(Clone, Copy, Debug, PartialEq, Eq)]
 pub struct Refusal {
-    /// 1 to 20, or 39.
+    /// 1 to 20, or 37 to 39.
     pub number: u32,
-    /// 1 ECKDATEN, 2 BITFELD, 3 BAHNHOF, 4 UMSTEIGB, 5 FPLAN; 0 for 20.
+    /// 1 ECKDATEN, 2 BITFELD, 3 BAHNHOF, 4 UMSTEIGB, 5 FPLAN, 6 ZUGART; 0 for 20.
     pub file: u32,
     /// The line, counted from 1; 0 for 1 and 20.
     pub line: u32,

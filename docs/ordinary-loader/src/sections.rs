@@ -1,4 +1,4 @@
-//! BITFELD, BAHNHOF and UMSTEIGB: their records, each looked up by its number.
+//! BITFELD, BAHNHOF, UMSTEIGB and ZUGART: their records, each looked up by its number or code.
 
 use std::collections::{HashMap, HashSet};
 
@@ -8,13 +8,14 @@ use crate::lines::{is_blank, lines, records, Broken, Line};
 use crate::names::is_list;
 use crate::period::Period;
 use crate::refusal::{number, Offence};
-use crate::table::Table;
+use crate::table::{packed, Table};
 
 /// The stop of the first record of UMSTEIGB, and of no stop.
 const EVERY_STOP: u32 = 9_999_999;
 
 const MOST_MINUTES: u32 = 60;
 const ANY_MINUTES: u32 = 99;
+const MOST_CLASS: u32 = 13;
 
 /// The bit fields by number. A blank one is 0, daily.
 pub struct BitFields {
@@ -40,6 +41,17 @@ pub struct Stops {
 impl Stops {
     pub fn has(&self, stop: u32) -> bool {
         self.known.contains(&stop)
+    }
+}
+
+/// The categories by code.
+pub struct Categories {
+    known: HashSet<u32>,
+}
+
+impl Categories {
+    pub fn has(&self, code: u32) -> bool {
+        self.known.contains(&code)
     }
 }
 
@@ -134,4 +146,40 @@ fn interchange_in(line: &Line<'_>) -> Result<(u32, [u32; 2]), Broken> {
     let second = line.count(12, 13, ANY_MINUTES)?;
     line.unnamed(14, 14)?;
     Ok((stop, [first, second]))
+}
+
+/// ZUGART: 4, 6, 37.
+pub fn read_categories(file: &[u8], table: &mut Table) -> Result<Categories, Offence> {
+    let mut categories = Categories { known: HashSet::new() };
+    let mut first_has_group = None;
+    for line in records(file) {
+        let (code, class, has_group) = line.formed(category_in(&line))?;
+        if !categories.known.insert(code) {
+            return Err(line.offence(number::REPEATED));
+        }
+        if *first_has_group.get_or_insert(has_group) != has_group {
+            return Err(line.offence(number::TARIFF_GROUP));
+        }
+        table.category(code, class);
+    }
+    Ok(categories)
+}
+
+/// "code 1-3 (column 1 not blank), class 5-6 (count to 13), tariff group 8 (A to H or blank), output control 10 (0 to 7), output text 12-19 (any),
+/// supplement 21 (0 to 2), flag 23 (N, B, F or blank), and from 25 free": code, class, and whether there is a tariff group.
+fn category_in(line: &Line<'_>) -> Result<(u32, u32, bool), Broken> {
+    let code = line.code(1, 3)?;
+    line.unnamed(4, 4)?;
+    let class = line.count(5, 6, MOST_CLASS)?;
+    line.unnamed(7, 7)?;
+    let group = line.one_of(8, b"ABCDEFGH ")?;
+    line.unnamed(9, 9)?;
+    line.one_of(10, b"01234567")?;
+    line.unnamed(11, 11)?;
+    line.unnamed(20, 20)?;
+    line.one_of(21, b"012")?;
+    line.unnamed(22, 22)?;
+    line.one_of(23, b"NBF ")?;
+    line.unnamed(24, 24)?;
+    Ok((packed(code), class, group != b' '))
 }

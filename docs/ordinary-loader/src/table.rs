@@ -6,7 +6,7 @@ use crate::period::Period;
 use crate::route::Call;
 use crate::service::{Found, Ranges, Service};
 
-const HEADER_WORDS: usize = 8;
+const HEADER_WORDS: usize = 9;
 const SERVICE_WORDS: usize = 12;
 const CALL_WORDS: usize = 7;
 const CATEGORY_WORDS: usize = 3;
@@ -21,12 +21,14 @@ const DEPARTURE: u32 = 2;
 const NO_ALIGHTING: u32 = 4;
 const NO_BOARDING: u32 = 8;
 
-/// A table as far as it is written: "Then per bit field 13, stop 3, interchange 3, then services, all in file order."
+/// A table as far as it is written: "Then per bit field 13, stop 3, interchange 3, then services, all in file order"; "a section of two words each (code,
+/// class) stands before the services" (document 02, No. 1).
 pub struct Table {
     words: Vec<u32>,
     bit_fields: u32,
     stops: u32,
     interchanges: u32,
+    categories: u32,
     services: u32,
     first_service: usize,
 }
@@ -36,7 +38,15 @@ impl Table {
         let mut words = vec![0; HEADER_WORDS];
         words[1] = period.first_day;
         words[2] = period.days;
-        Table { words, bit_fields: 0, stops: 0, interchanges: 0, services: 0, first_service: HEADER_WORDS }
+        Table {
+            words,
+            bit_fields: 0,
+            stops: 0,
+            interchanges: 0,
+            categories: 0,
+            services: 0,
+            first_service: HEADER_WORDS,
+        }
     }
 
     /// "number, 12 words"
@@ -56,6 +66,12 @@ impl Table {
     pub fn interchange(&mut self, stop: u32, [first, second]: [u32; 2]) {
         self.interchanges += 1;
         self.section(&[stop, first, second]);
+    }
+
+    /// "code, class"
+    pub fn category(&mut self, code: u32, class: u32) {
+        self.categories += 1;
+        self.section(&[code, class]);
     }
 
     /// Words before the services.
@@ -105,11 +121,13 @@ impl Table {
     }
 
     /// All words, with the header's counts: "words used, first day, n, bit fields B, stops S, interchange records U,
-    /// services V, place of first service".
+    /// services V, place of first service"; "the last being the count of categories".
     pub fn finish(mut self) -> Vec<u32> {
         self.words[0] = self.words.len() as u32;
-        let counts = [self.bit_fields, self.stops, self.interchanges, self.services, self.first_service as u32];
-        self.words[3..HEADER_WORDS].copy_from_slice(&counts);
+        let counts = [self.bit_fields, self.stops, self.interchanges, self.services];
+        self.words[3..7].copy_from_slice(&counts);
+        self.words[7] = self.first_service as u32;
+        self.words[8] = self.categories;
         self.words
     }
 }

@@ -87,6 +87,18 @@ impl<'a> Table<'a> {
         answered(answer.number, 0, answer.minutes)
     }
 
+    /// The minutes to change at a stop from a category to a category, each as a word ([`category_word`](crate::by_number::category_word)).
+    ///
+    /// # Errors
+    ///
+    /// 21, 27 or 38.
+    pub fn interchange_between(self, stop: u32, arriving: u32, departing: u32) -> Result<u32, Refusal> {
+        let (words, used) = (self.words.as_ptr(), self.words.len());
+        // SAFETY: pointer and length are those of a slice.
+        let answer = unsafe { raw::estelunya_interchange_between(words, used, stop, arriving, departing) };
+        answered(answer.number, 0, answer.minutes)
+    }
+
     /// Walks a run that starts on a date: service by its index from 0 in FPLAN's order, repeat 0 for the run itself, else the
     /// number of one of its [`runs`](Table::runs).
     ///

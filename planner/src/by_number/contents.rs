@@ -1,4 +1,4 @@
-//! What a table lists: its services, stops and bit fields, read from the places that document 01's section "Table" gives them.
+//! What a table lists: its services, stops, bit fields and categories, read from the places that document 01's section "Table" gives them.
 //!
 //! None of this asks the archive, or whether the words are a table ([`Table::day`] and the other questions do): of words
 //! that are none it tells what stands in these places, or nothing where there are no such words.
@@ -6,8 +6,8 @@
 use super::ask::Table;
 use crate::handles::Listed;
 use crate::layout::{
-    BIT_FIELDS_AT, BIT_FIELD_WORDS, FIRST_SERVICE_AT, HEADER_WORDS, INTERCHANGES_AT, INTERCHANGE_WORDS, NUMBER_AT,
-    PERIOD_DAYS_AT, SERVICES_AT, SERVICE_WORDS, SIZE_AT, STOPS_AT, STOP_WORDS, USED_AT,
+    BIT_FIELDS_AT, BIT_FIELD_WORDS, CLASSES_AT, CLASS_WORDS, FIRST_SERVICE_AT, HEADER_WORDS, INTERCHANGES_AT,
+    INTERCHANGE_WORDS, NUMBER_AT, PERIOD_DAYS_AT, SERVICES_AT, SERVICE_WORDS, SIZE_AT, STOPS_AT, STOP_WORDS, USED_AT,
 };
 use crate::runs::Runs;
 
@@ -59,6 +59,16 @@ impl<'a> Table<'a> {
         bahnhof.get(start..)?.get(..length)
     }
 
+    /// How many categories there are; 0 where there are fewer words than a header has.
+    pub fn categories(self) -> u32 {
+        self.header(CLASSES_AT)
+    }
+
+    /// The class of a category, 0 to 13, by its [word](crate::by_number::category_word); `None` if the category is not in the table.
+    pub fn class_of(self, category: u32) -> Option<u32> {
+        self.class_records().find(|record| record[0] == category).map(|record| record[1])
+    }
+
     /// The words of the bits of the bit field with this number.
     pub(crate) fn bit_field_words(self, number: u32) -> Option<&'a [u32]> {
         self.bit_field_records().find(|record| record[0] == number).map(|record| &record[1..])
@@ -87,8 +97,13 @@ impl<'a> Table<'a> {
 
     /// Stop and two times of each interchange record, in UMSTEIGB's order.
     pub(crate) fn interchange_records(self) -> impl Listed<&'a [u32]> {
-        let first = self.first_stop() + STOP_WORDS as u64 * u64::from(self.stops());
-        self.from(first).chunks_exact(INTERCHANGE_WORDS).take(self.header(INTERCHANGES_AT) as usize)
+        self.from(self.first_interchange()).chunks_exact(INTERCHANGE_WORDS).take(self.header(INTERCHANGES_AT) as usize)
+    }
+
+    /// Code and class of each category, in ZUGART's order.
+    pub(crate) fn class_records(self) -> impl Listed<&'a [u32]> {
+        let first = self.first_interchange() + INTERCHANGE_WORDS as u64 * u64::from(self.header(INTERCHANGES_AT));
+        self.from(first).chunks_exact(CLASS_WORDS).take(self.categories() as usize)
     }
 
     /// The head of each service, in FPLAN's order.
@@ -104,6 +119,11 @@ impl<'a> Table<'a> {
     /// The place of the first stop: header and bit fields stand before it.
     fn first_stop(self) -> u64 {
         HEADER_WORDS as u64 + BIT_FIELD_WORDS as u64 * u64::from(self.header(BIT_FIELDS_AT))
+    }
+
+    /// The place of the first interchange record: the stops stand before it.
+    fn first_interchange(self) -> u64 {
+        self.first_stop() + STOP_WORDS as u64 * u64::from(self.stops())
     }
 }
 

@@ -5,7 +5,7 @@ use std::fmt;
 use crate::raw;
 use crate::refusal::{File, LoadRefusal, Offence};
 
-/// The five files of a delivery, each as its bytes.
+/// The six files of a delivery, each as its bytes.
 #[derive(Clone, Copy, PartialEq, Eq)]
 pub struct Files<'a> {
     /// ECKDATEN: the period.
@@ -18,6 +18,8 @@ pub struct Files<'a> {
     pub umsteigb: &'a [u8],
     /// FPLAN: the services.
     pub fplan: &'a [u8],
+    /// ZUGART: the categories of services, each with its class.
+    pub zugart: &'a [u8],
 }
 
 /// The lengths of the files.
@@ -29,6 +31,7 @@ impl fmt::Debug for Files<'_> {
             .field("bahnhof", &self.bahnhof.len())
             .field("umsteigb", &self.umsteigb.len())
             .field("fplan", &self.fplan.len())
+            .field("zugart", &self.zugart.len())
             .finish()
     }
 }
@@ -88,7 +91,7 @@ pub fn helper_words(files: &Files<'_>) -> Result<usize, LoadRefusal> {
 ///
 /// As of [`load`], and [`Offence::HelperTooShort`].
 pub fn load_with(files: &Files<'_>, table: &mut [u32], helper: &mut [u32]) -> Result<Loaded, LoadRefusal> {
-    let Files { eckdaten, bitfeld, bahnhof, umsteigb, fplan } = *files;
+    let Files { eckdaten, bitfeld, bahnhof, umsteigb, fplan, zugart } = *files;
     // SAFETY: each pointer and length is that of a slice, and the two mutable slices overlap no other.
     let answer = unsafe {
         raw::estelunya_load(
@@ -102,6 +105,8 @@ pub fn load_with(files: &Files<'_>, table: &mut [u32], helper: &mut [u32]) -> Re
             umsteigb.len(),
             fplan.as_ptr(),
             fplan.len(),
+            zugart.as_ptr(),
+            zugart.len(),
             table.as_mut_ptr(),
             table.len(),
             helper.as_mut_ptr(),

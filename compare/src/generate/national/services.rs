@@ -8,7 +8,14 @@ use crate::generate::plan::{random_cuts, Call, Change};
 use crate::generate::rng::Rng;
 
 const ADMINISTRATIONS: [&str; 5] = ["FERRY_", "80____", "000011", "BLS_33", "PAG801"];
-const CATEGORIES: [&str; 10] = ["ICE", "IC", "IR", "RE", "RB", "S", "BUS", "TRM", "BAT", "FUN"];
+/// The categories with their classes.
+#[rustfmt::skip]
+pub const CATEGORIES: [(&str, u32); 40] = [
+    ("ICE", 0), ("TGV", 0), ("RJ", 0), ("EC", 1), ("IC", 1), ("ICN", 1), ("EN", 1), ("CNL", 1), ("IR", 2), ("RX", 2),
+    ("D", 2), ("RE", 3), ("R", 3), ("RB", 3), ("REX", 3), ("BAT", 4), ("FAE", 4), ("BAV", 4), ("KAT", 4), ("S", 5),
+    ("SN", 5), ("SZ", 5), ("BUS", 6), ("NFB", 6), ("NFO", 6), ("EXB", 6), ("TX", 6), ("NB", 6), ("KB", 6), ("FUN", 7),
+    ("GB", 7), ("LB", 7), ("SL", 7), ("ZB", 7), ("ARZ", 8), ("EXT", 8), ("TRM", 9), ("T", 9), ("NFT", 9), ("M", 9),
+];
 const CODES: [&str; 6] = ["FA", "B", "WR", "KL", "RO", "X"];
 
 /// What services are made of: the numbers of all stops and bit fields.
@@ -145,7 +152,7 @@ fn categories(rng: &mut Rng, calls: &[Call]) -> Vec<String> {
     let parts = rng.pick(&[1, 1, 1, 1, 1, 1, 1, 2, 2, 3]);
     let cuts = random_cuts(rng, calls.len() - 1, parts);
     let range = |ends: &[usize]| {
-        let category = rng.pick(&CATEGORIES);
+        let (category, _) = rng.pick(&CATEGORIES);
         range_line(rng, calls, ends, |from, to| g(category, from, to))
     };
     cuts.windows(2).map(range).collect()

@@ -1,6 +1,6 @@
 use Rattle.base.proofs.Laws.{tests}
 use Rattle.forms.specs.Rows.{ruleOf}
-use Rattle.forms.proofs.Rules.{rules}
+use Rattle.forms.proofs.Rules.{time-rule, end-rule}
 use Rattle.forms.proofs.fits_rule.Statement.{statement}
 use Rattle.forms.proofs.fits_rule.Tie as tie
 
@@ -58,6 +58,12 @@ blank-or-requires-3 c κs = search tests
 fits-from-one-requires : tie.Need-fits-from-one-requires
 fits-from-one-requires c κs = search tests
 
+letter-or-blank-requires : tie.Need-letter-or-blank-requires
+letter-or-blank-requires c κs = search tests
+
+flag-or-blank-requires : tie.Need-flag-or-blank-requires
+flag-or-blank-requires c κs = search tests
+
 cast-t18 : tie.Need-cast-t18
 cast-t18 c = search tests
 
@@ -106,11 +112,11 @@ returns-10 c = search (tests, c .before .match .keys10)
 
 returns-11 : tie.Need-returns-11
 unfolding ruleOf
-returns-11 c = search (rules, c .before .before .match .keys11)
+returns-11 c = search (time-rule, c .before .before .match .keys11)
 
 returns-12 : tie.Need-returns-12
 unfolding ruleOf
-returns-12 c = search (rules, c .before .before .match .keys12)
+returns-12 c = search (end-rule, c .before .before .match .keys12)
 
 returns-13 : tie.Need-returns-13
 unfolding ruleOf
@@ -130,7 +136,15 @@ returns-16 c = search (tests, c .before .match .keys16)
 
 returns-17 : tie.Need-returns-17
 unfolding ruleOf
-returns-17 c = search tests
+returns-17 c = search (tests, c .before .match .keys17)
+
+returns-18 : tie.Need-returns-18
+unfolding ruleOf
+returns-18 c = search (tests, c .before .match .keys18)
+
+returns-19 : tie.Need-returns-19
+unfolding ruleOf
+returns-19 c = search tests
 
 pub fits-rule-spec : {M : Type 1} → statement M
 fits-rule-spec =
@@ -154,6 +168,8 @@ fits-rule-spec =
     cast-t16
     blank-or-requires-3
     fits-from-one-requires
+    letter-or-blank-requires
+    flag-or-blank-requires
     cast-t18
     every-in-requires-4
     returns
@@ -172,4 +188,6 @@ fits-rule-spec =
     returns-14
     returns-15
     returns-16
-    returns-17)
+    returns-17
+    returns-18
+    returns-19)

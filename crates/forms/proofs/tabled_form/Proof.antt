@@ -85,6 +85,15 @@ slice-aggregate-form-of-9 c = search tests
 form-of-requires-9 : tie.Need-form-of-requires-9
 form-of-requires-9 c κs = search tests
 
+enum-told-10 : tie.Need-enum-told-10
+enum-told-10 c = search tests
+
+slice-aggregate-form-of-10 : tie.Need-slice-aggregate-form-of-10
+slice-aggregate-form-of-10 c = search tests
+
+form-of-requires-10 : tie.Need-form-of-requires-10
+form-of-requires-10 c κs = search tests
+
 returns : tie.Need-returns
 unfolding rowsOf ruleOf
 returns c = of-kind (c .before .before .before .before .before .args .line .now) (c .before .before .enum-told .given .1) (c .form-of .ensures)
@@ -121,6 +130,10 @@ returns-9 : tie.Need-returns-9
 unfolding rowsOf ruleOf
 returns-9 c = of-kind (c .before .before .before .before .before .args .line .now) (c .before .before .enum-told9 .given .1) (c .form-of9 .ensures)
 
+returns-10 : tie.Need-returns-10
+unfolding rowsOf ruleOf
+returns-10 c = of-kind (c .before .before .before .before .before .args .line .now) (c .before .before .enum-told10 .given .1) (c .form-of10 .ensures)
+
 pub tabled-form-spec : {M : Type 1} → statement M
 tabled-form-spec =
     tie.close
@@ -152,6 +165,9 @@ tabled-form-spec =
     enum-told-9
     slice-aggregate-form-of-9
     form-of-requires-9
+    enum-told-10
+    slice-aggregate-form-of-10
+    form-of-requires-10
     returns
     returns-2
     returns-3
@@ -160,4 +176,5 @@ tabled-form-spec =
     returns-6
     returns-7
     returns-8
-    returns-9)
+    returns-9
+    returns-10)

@@ -38,6 +38,9 @@ enum-told-8 c = search usual
 enum-told-9 : tie.Need-enum-told-9
 enum-told-9 c = search usual
 
+enum-told-10 : tie.Need-enum-told-10
+enum-told-10 c = search usual
+
 returns : tie.Need-returns
 returns c = search usual
 
@@ -65,6 +68,9 @@ returns-8 c = search usual
 returns-9 : tie.Need-returns-9
 returns-9 c = search usual
 
+returns-10 : tie.Need-returns-10
+returns-10 c = search usual
+
 pub usual-form-spec : {M : Type 1} → statement M
 usual-form-spec =
     tie.close
@@ -81,6 +87,7 @@ usual-form-spec =
     enum-told-7
     enum-told-8
     enum-told-9
+    enum-told-10
     returns
     returns-2
     returns-3
@@ -89,4 +96,5 @@ usual-form-spec =
     returns-6
     returns-7
     returns-8
-    returns-9)
+    returns-9
+    returns-10)

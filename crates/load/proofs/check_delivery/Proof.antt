@@ -1,7 +1,7 @@
 use mathlib.Core.Path.{_∙_}
 use Rattle.base.proofs.Laws.{tests}
-use Rattle.load.proofs.Helper.{lent-fields, lent-stops, lent-interchanges, maps-inside, fields-held, stops-still}
-use Rattle.load.proofs.Files.{days-few, fields-few, stops-few, interchanges-few, words-few, plan-out, all-right, orders}
+use Rattle.load.proofs.Helper.{lent-fields, lent-stops, stops-inside, lent-interchanges, lent-index, maps-inside, fields-held, stops-still}
+use Rattle.load.proofs.Files.{days-few, fields-few, stops-few, interchanges-few, classes-few, words-few, classes-out, plan-out, all-right, orders}
 use Rattle.load.proofs.check_delivery.Statement.{statement}
 use Rattle.load.proofs.check_delivery.Tie as tie
 
@@ -42,7 +42,7 @@ stops-in-requires : tie.Need-stops-in-requires
 stops-in-requires c κs =
     let fields = c .before .before .before .before .before .before in
     let period = fields .before .before .before .before .before in
-    let start = period .before .before .before .before .before .before .before in
+    let start = period .before .before .before .before .before .before .before .before in
     (start .pre .0 .bahnhof, search (lent-stops, start .pre .0, start .pre .1, fields .fields-in .ensures .1))
 
 enum-known-stop-section : tie.Need-enum-known-stop-section
@@ -65,9 +65,9 @@ interchanges-in-requires c κs =
     let stops = c .before .before .before .before .before .before in
     let fields = stops .before .before .before .before .before .before .before in
     let period = fields .before .before .before .before .before in
-    let start = period .before .before .before .before .before .before .before in (
-      start .pre .0 .umsteigb,
-      (stops .stops-in .ensures .1 .held _ _ (c .before .before .stop-section .given .1), lent-interchanges _ _ _ _ _ _ _ (start .pre .0) (start .pre .1) _ _ (fields .fields-in .ensures .1) _ _ (stops .stops-in .ensures .1)),
+    let start = period .before .before .before .before .before .before .before .before in (
+      (start .pre .0 .umsteigb, stops-inside _ _ _ _ _ _ _ _ (start .pre .0) (start .pre .1) _ _ (fields .fields-in .ensures .1) _ _ (stops .stops-in .ensures .1)),
+      (stops .stops-in .ensures .1 .held _ _ (c .before .before .stop-section .given .1), lent-interchanges _ _ _ _ _ _ _ _ (start .pre .0) (start .pre .1) _ _ (fields .fields-in .ensures .1) _ _ (stops .stops-in .ensures .1)),
     )
 
 enum-known-interchange-section : tie.Need-enum-known-interchange-section
@@ -85,19 +85,19 @@ same-length-3 c = search tests
 returns-4 : tie.Need-returns-4
 returns-4 c = search orders
 
-plan-by-requires : tie.Need-plan-by-requires
-plan-by-requires c κs =
+classes-in-requires : tie.Need-classes-in-requires
+classes-in-requires c κs =
     let interchanges = c .before .before .before .before .before .before in
     let stops = interchanges .before .before .before .before .before .before .before in
     let fields = stops .before .before .before .before .before .before .before in
     let period = fields .before .before .before .before .before in
-    let start = period .before .before .before .before .before .before .before in (
-      (start .pre .0 .fplan, search (days-few, period .check-period .ensures, fields .before .before .before .period .given .1), maps-inside _ _ _ _ _ _ _ (start .pre .0) (start .pre .1) _ _ (fields .fields-in .ensures .1) _ _ (stops .stops-in .ensures .1) _ (interchanges .interchanges-in .kept .1 .1 .0) (interchanges .interchanges-in .ensures .1)),
-      (fields-held _ _ _ _ _ _ _ (start .pre .0) (start .pre .1) _ _ (fields .fields-in .ensures .1) _ _ (stops .stops-in .ensures .1) _ (interchanges .interchanges-in .kept .1 .1 .0) (interchanges .interchanges-in .ensures .1) _ _ (stops .before .before .before .field-section .given .1), stops-still _ _ _ _ _ _ _ (start .pre .0) (start .pre .1) _ _ (fields .fields-in .ensures .1) _ _ (stops .stops-in .ensures .1) _ (interchanges .interchanges-in .kept .1 .1 .0) (interchanges .interchanges-in .ensures .1) _ _ (interchanges .before .before .before .stop-section .given .1)),
+    let start = period .before .before .before .before .before .before .before .before in (
+      start .pre .0 .zugart,
+      lent-index _ _ _ _ _ _ _ _ (start .pre .0) (start .pre .1) _ _ (fields .fields-in .ensures .1) _ _ (stops .stops-in .ensures .1) _ (interchanges .interchanges-in .kept .1 .1 .0) (interchanges .interchanges-in .ensures .1 .0) (interchanges .interchanges-in .ensures .1 .1),
     )
 
-enum-known-plan : tie.Need-enum-known-plan
-enum-known-plan c = search tests
+enum-known-class-section : tie.Need-enum-known-class-section
+enum-known-class-section c = search tests
 
 enum-told-5 : tie.Need-enum-told-5
 enum-told-5 c = search tests
@@ -110,8 +110,65 @@ same-length-4 c = search tests
 
 returns-5 : tie.Need-returns-5
 returns-5 c =
+    let classes = c .before .before .before .before .before in
+    let interchanges = classes .before .before .before .before .before .before .before in
+    let stops = interchanges .before .before .before .before .before .before .before in
+    let fields = stops .before .before .before .before .before .before .before in
+    let period = fields .before .before .before .before .before in
+    search (
+      classes-out,
+      period .check-period .ensures,
+      fields .before .before .before .period .given .1,
+      fields .fields-in .ensures .0,
+      stops .before .before .before .field-section .given .1,
+      stops .stops-in .ensures .0,
+      interchanges .before .before .before .stop-section .given .1,
+      interchanges .interchanges-in .ensures .0,
+      classes .before .before .before .interchange-section .given .1,
+      classes .classes-in .ensures .0,
+      c .before .enum-told5 .given .1,
+      c .refused5 .ensures,
+    )
+
+plan-by-requires : tie.Need-plan-by-requires
+plan-by-requires c κs =
+    let classes = c .before .before .before .before .before .before in
+    let interchanges = classes .before .before .before .before .before .before .before in
+    let stops = interchanges .before .before .before .before .before .before .before in
+    let fields = stops .before .before .before .before .before .before .before in
+    let period = fields .before .before .before .before .before in
+    let start = period .before .before .before .before .before .before .before .before in (
+      (start .pre .0 .fplan, search (days-few, period .check-period .ensures, fields .before .before .before .period .given .1), maps-inside _ _ _ _ _ _ _ _ (start .pre .0) (start .pre .1) _ _ (fields .fields-in .ensures .1) _ _ (stops .stops-in .ensures .1) _ (interchanges .interchanges-in .kept .1 .1 .0) (interchanges .interchanges-in .ensures .1 .0) _ _ (classes .classes-in .ensures .1)),
+      (
+        fields-held _ _ _ _ _ _ _ _ (start .pre .0) (start .pre .1) _ _ (fields .fields-in .ensures .1) _ _ (stops .stops-in .ensures .1) _ (interchanges .interchanges-in .kept .1 .1 .0) (interchanges .interchanges-in .ensures .1 .0) _ _ (classes .classes-in .ensures .1) _ _ (stops .before .before .before .field-section .given .1),
+        stops-still _ _ _ _ _ _ _ _ (start .pre .0) (start .pre .1) _ _ (fields .fields-in .ensures .1) _ _ (stops .stops-in .ensures .1) _ (interchanges .interchanges-in .kept .1 .1 .0) (interchanges .interchanges-in .ensures .1 .0) _ _ (classes .classes-in .ensures .1) _ _ (interchanges .before .before .before .stop-section .given .1),
+        classes .classes-in .ensures .1 .held _ _ (c .before .before .class-section .given .1),
+      ),
+    )
+
+enum-known-plan : tie.Need-enum-known-plan
+enum-known-plan c = search tests
+
+enum-told-6 : tie.Need-enum-told-6
+enum-told-6 c = search tests
+
+refused-requires-6 : tie.Need-refused-requires-6
+refused-requires-6 c κs = search tests
+
+same-length-5 : tie.Need-same-length-5
+same-length-5 c =
     let plan = c .before .before .before in
-    let interchanges = plan .before .before .before .before .before .before .before in
+    let classes = plan .before .before .before .before .before .before .before in
+    let interchanges = classes .before .before .before .before .before .before .before in
+    let stops = interchanges .before .before .before .before .before .before .before in
+    let fields = stops .before .before .before .before .before .before .before in
+    classes .classes-in .kept .1 .0 ∙ (interchanges .interchanges-in .kept .1 .1 .0 ∙ (stops .stops-in .kept .1 .0 ∙ fields .fields-in .kept .1 .1 .0))
+
+returns-6 : tie.Need-returns-6
+returns-6 c =
+    let plan = c .before .before .before in
+    let classes = plan .before .before .before .before .before .before .before in
+    let interchanges = classes .before .before .before .before .before .before .before in
     let stops = interchanges .before .before .before .before .before .before .before in
     let fields = stops .before .before .before .before .before .before .before in
     let period = fields .before .before .before .before .before in
@@ -124,38 +181,44 @@ returns-5 c =
       stops .stops-in .ensures .0,
       interchanges .before .before .before .stop-section .given .1,
       interchanges .interchanges-in .ensures .0,
-      plan .before .before .before .interchange-section .given .1,
+      classes .before .before .before .interchange-section .given .1,
+      classes .classes-in .ensures .0,
+      plan .before .before .before .class-section .given .1,
       plan .plan-by .ensures,
-      c .before .enum-told5 .given .1,
-      c .refused5 .ensures,
+      c .before .enum-told6 .given .1,
+      c .refused6 .ensures,
     )
 
 header-of-requires : tie.Need-header-of-requires
 header-of-requires c κs =
     let plan = c .before .before .before in
-    let interchanges = plan .before .before .before .before .before .before .before in
+    let classes = plan .before .before .before .before .before .before .before in
+    let interchanges = classes .before .before .before .before .before .before .before in
     let stops = interchanges .before .before .before .before .before .before .before in
     let fields = stops .before .before .before .before .before .before .before in
     let period = fields .before .before .before .before .before in
-    let start = period .before .before .before .before .before .before .before in (
+    let start = period .before .before .before .before .before .before .before .before in (
       search (fields-few, fields .fields-in .ensures .0, stops .before .before .before .field-section .given .1, start .pre .0 .bitfeld),
       search (stops-few, stops .stops-in .ensures .0, interchanges .before .before .before .stop-section .given .1, start .pre .0 .bahnhof),
-      search (interchanges-few, interchanges .interchanges-in .ensures .0, plan .before .before .before .interchange-section .given .1, start .pre .0 .umsteigb),
+      search (interchanges-few, interchanges .interchanges-in .ensures .0, classes .before .before .before .interchange-section .given .1, start .pre .0 .umsteigb),
+      search (classes-few, classes .classes-in .ensures .0, plan .before .before .before .class-section .given .1, start .pre .0 .zugart),
       search (words-few, plan .plan-by .ensures, c .before .plan .given .1, start .pre .0 .fplan),
     )
 
-same-length-5 : tie.Need-same-length-5
-same-length-5 c =
+same-length-6 : tie.Need-same-length-6
+same-length-6 c =
     let plan = c .before .before .before .before in
-    let interchanges = plan .before .before .before .before .before .before .before in
+    let classes = plan .before .before .before .before .before .before .before in
+    let interchanges = classes .before .before .before .before .before .before .before in
     let stops = interchanges .before .before .before .before .before .before .before in
     let fields = stops .before .before .before .before .before .before .before in
-    interchanges .interchanges-in .kept .1 .1 .0 ∙ (stops .stops-in .kept .1 .0 ∙ fields .fields-in .kept .1 .1 .0)
+    classes .classes-in .kept .1 .0 ∙ (interchanges .interchanges-in .kept .1 .1 .0 ∙ (stops .stops-in .kept .1 .0 ∙ fields .fields-in .kept .1 .1 .0))
 
-returns-6 : tie.Need-returns-6
-returns-6 c =
+returns-7 : tie.Need-returns-7
+returns-7 c =
     let plan = c .before .before .before .before in
-    let interchanges = plan .before .before .before .before .before .before .before in
+    let classes = plan .before .before .before .before .before .before .before in
+    let interchanges = classes .before .before .before .before .before .before .before in
     let stops = interchanges .before .before .before .before .before .before .before in
     let fields = stops .before .before .before .before .before .before .before in
     let period = fields .before .before .before .before .before in
@@ -168,7 +231,9 @@ returns-6 c =
       stops .stops-in .ensures .0,
       interchanges .before .before .before .stop-section .given .1,
       interchanges .interchanges-in .ensures .0,
-      plan .before .before .before .interchange-section .given .1,
+      classes .before .before .before .interchange-section .given .1,
+      classes .classes-in .ensures .0,
+      plan .before .before .before .class-section .given .1,
       plan .plan-by .ensures,
       c .before .before .plan .given .1,
       c .header-of .ensures,
@@ -201,12 +266,18 @@ check-delivery-spec =
     refused-requires-4
     same-length-3
     returns-4
-    plan-by-requires
-    enum-known-plan
+    classes-in-requires
+    enum-known-class-section
     enum-told-5
     refused-requires-5
     same-length-4
     returns-5
-    header-of-requires
+    plan-by-requires
+    enum-known-plan
+    enum-told-6
+    refused-requires-6
     same-length-5
-    returns-6)
+    returns-6
+    header-of-requires
+    same-length-6
+    returns-7)

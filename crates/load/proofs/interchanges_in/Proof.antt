@@ -1,7 +1,10 @@
 use Rattle.base.proofs.Laws.{tests}
-use Rattle.load.proofs.Helper.{split-inside, split-stops, split-lent, front-stays}
+use Rattle.load.proofs.Helper.{split-inside, split-stops, split-lent, front-stays, index-stays}
 use Rattle.load.proofs.interchanges_in.Statement.{statement}
 use Rattle.load.proofs.interchanges_in.Tie as tie
+
+sub-end : tie.Need-sub-end
+sub-end c = search tests
 
 mul-check-interchanges : tie.Need-mul-check-interchanges
 mul-check-interchanges c = search tests
@@ -22,12 +25,13 @@ same-length : tie.Need-same-length
 same-length c = search tests
 
 returns : tie.Need-returns
-returns c = (search tests, search front-stays)
+returns c = (search tests, (search front-stays, search index-stays))
 
 pub interchanges-in-spec : {M : Type 1} → statement M
 interchanges-in-spec =
     tie.close
     (tie.spec
+    sub-end
     mul-check-interchanges
     sub-check-interchanges
     part-check-interchanges-start

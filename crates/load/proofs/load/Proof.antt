@@ -1,6 +1,6 @@
 use Rattle.base.proofs.Laws.{tests}
 use Rattle.load.proofs.Answers.{refusing, loading, words-fit, none-stray, none-over, room-enough}
-use Rattle.load.proofs.Files.{all-short, short-fields, short-stops, short-interchanges, short-plan}
+use Rattle.load.proofs.Files.{all-short, short-fields, short-stops, short-interchanges, short-classes, short-plan}
 use Rattle.load.proofs.load.Statement.{statement}
 use Rattle.load.proofs.load.Tie as tie
 
@@ -13,8 +13,8 @@ returns c = (search refusing, (search refusing, search refusing))
 room-for-requires : tie.Need-room-for-requires
 room-for-requires c κs = (search short-fields, search short-stops, search short-interchanges)
 
-cast-t21 : tie.Need-cast-t21
-cast-t21 c = search words-fit
+cast-t23 : tie.Need-cast-t23
+cast-t23 c = search words-fit
 
 returns-2 : tie.Need-returns-2
 returns-2 c = (search refusing, (search refusing, search refusing))
@@ -47,7 +47,7 @@ put-table-requires c κs =
     let enough = lent .before .before in
     let room = enough .before .before in
     let short = room .before in (
-      (search (short-fields, short .before .too-long .ensures, short .if1 .left), search (short-stops, short .before .too-long .ensures, short .if1 .left), search (short-interchanges, short .before .too-long .ensures, short .if1 .left), search (short-plan, short .before .too-long .ensures, short .if1 .left)),
+      (search (short-fields, short .before .too-long .ensures, short .if1 .left), search (short-stops, short .before .too-long .ensures, short .if1 .left), search (short-interchanges, short .before .too-long .ensures, short .if1 .left), search (short-classes, short .before .too-long .ensures, short .if1 .left), search (short-plan, short .before .too-long .ensures, short .if1 .left)),
       (
         (
           search (none-stray, short .before .too-long .ensures, short .if1 .left, room .room-for .ensures, enough .if2 .left, lent .check-lent .ensures .0, told .before .delivered2 .given .1),
@@ -79,7 +79,7 @@ load-spec =
     too-long-requires
     returns
     room-for-requires
-    cast-t21
+    cast-t23
     returns-2
     check-lent-requires
     enum-known-delivered

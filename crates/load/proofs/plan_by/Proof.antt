@@ -1,34 +1,49 @@
 use Rattle.base.proofs.Laws.{tests}
-use Rattle.load.proofs.Helper.{map-first, map-part}
+use Rattle.load.proofs.Helper.{map-first, map-part, index-part}
 use Rattle.load.proofs.plan_by.Statement.{statement}
 use Rattle.load.proofs.plan_by.Tie as tie
 
-sub-check-plan : tie.Need-sub-check-plan
-sub-check-plan c = search tests
+sub-fields : tie.Need-sub-fields
+sub-fields c = search tests
 
-part-check-plan-start : tie.Need-part-check-plan-start
-part-check-plan-start c = search tests
+part-fields-start : tie.Need-part-fields-start
+part-fields-start c = search tests
 
-part-check-plan-end : tie.Need-part-check-plan-end
-part-check-plan-end c = search tests
+part-fields-end : tie.Need-part-fields-end
+part-fields-end c = search tests
 
-add-check-plan : tie.Need-add-check-plan
-add-check-plan c = search tests
+add-stops : tie.Need-add-stops
+add-stops c = search tests
 
-mul-check-plan : tie.Need-mul-check-plan
-mul-check-plan c = search tests
+mul-stops : tie.Need-mul-stops
+mul-stops c = search tests
 
-sub-check-plan-2 : tie.Need-sub-check-plan-2
-sub-check-plan-2 c = search tests
+sub-stops : tie.Need-sub-stops
+sub-stops c = search tests
 
-part-check-plan-start-2 : tie.Need-part-check-plan-start-2
-part-check-plan-start-2 c = search tests
+part-stops-start : tie.Need-part-stops-start
+part-stops-start c = search tests
 
-part-check-plan-end-2 : tie.Need-part-check-plan-end-2
-part-check-plan-end-2 c = search tests
+part-stops-end : tie.Need-part-stops-end
+part-stops-end c = search tests
+
+sub-index : tie.Need-sub-index
+sub-index c = search tests
+
+mul-index : tie.Need-mul-index
+mul-index c = search tests
+
+sub-index-2 : tie.Need-sub-index-2
+sub-index-2 c = search tests
+
+part-index-start : tie.Need-part-index-start
+part-index-start c = search tests
+
+part-index-end : tie.Need-part-index-end
+part-index-end c = search tests
 
 check-plan-requires : tie.Need-check-plan-requires
-check-plan-requires c κs = ((search tests, search tests), (search map-first, search map-part))
+check-plan-requires c κs = ((search tests, search tests), (search map-first, search map-part, search index-part))
 
 returns : tie.Need-returns
 returns c = search tests
@@ -37,13 +52,18 @@ pub plan-by-spec : {M : Type 1} → statement M
 plan-by-spec =
     tie.close
     (tie.spec
-    sub-check-plan
-    part-check-plan-start
-    part-check-plan-end
-    add-check-plan
-    mul-check-plan
-    sub-check-plan-2
-    part-check-plan-start-2
-    part-check-plan-end-2
+    sub-fields
+    part-fields-start
+    part-fields-end
+    add-stops
+    mul-stops
+    sub-stops
+    part-stops-start
+    part-stops-end
+    sub-index
+    mul-index
+    sub-index-2
+    part-index-start
+    part-index-end
     check-plan-requires
     returns)

@@ -2,12 +2,12 @@ use mathlib.Core.Path.{_≡_}
 use Prim.Native.Nat.{_+_, _-_, _≤_}
 use lib.ListN.{length}
 use Rattle.lines.specs.Lines.{linesAt}
-use Rattle.timetable.specs.Files.{bitFieldsIn, stopsIn}
+use Rattle.timetable.specs.Files.{bitFieldsIn, stopsIn, classesIn}
 use Rattle.timetable.specs.Service.{blocks}
 use Rattle.timetable.specs.Checks.{servicesFirst}
 use Rattle.draft.specs.Draft.{callsLent, rangesLent}
 use Rattle.base.proofs.Laws.{tests}
-use Rattle.reading.specs.Maps.{FieldMap, StopMap}
+use Rattle.reading.specs.Maps.{FieldMap, StopMap, ClassIndex}
 use Rattle.reading.specs.Reading.{Boundary}
 use Rattle.plan.specs.Services.{blockWords}
 use Rattle.plan.proofs.Checking.{checking}
@@ -15,17 +15,17 @@ use Rattle.plan.proofs.check_services.Statement.{statement}
 use Rattle.plan.proofs.check_services.Tie as tie
 
 abbrev Inv-loop : tie.InvT-loop
-Inv-loop fplan start first bitfeld fields bahnhof stops days calls₀ ranges₀ at₀ line₀ count₀ total₀ calls ranges at line count total =
+Inv-loop fplan start first bitfeld fields bahnhof stops zugart index days calls₀ ranges₀ at₀ line₀ count₀ total₀ calls ranges at line count total =
     (length calls ≡ length calls₀) × (length ranges ≡ length ranges₀)
     × (callsLent ≤ length calls) × (rangesLent ≤ length ranges)
     × Boundary fplan at line
     × (count + length (blocks (linesAt fplan at line)) ≡ length (blocks (linesAt fplan start first)))
     × (total + length (blockWords (blocks (linesAt fplan at line))) ≡ length (blockWords (blocks (linesAt fplan start first))))
-    × (servicesFirst (bitFieldsIn bitfeld) (stopsIn bahnhof) days (blocks (linesAt fplan at line)) ≡ servicesFirst (bitFieldsIn bitfeld) (stopsIn bahnhof) days (blocks (linesAt fplan start first)))
-    × (FieldMap bitfeld fields × StopMap bahnhof stops)
+    × (servicesFirst (bitFieldsIn bitfeld) (stopsIn bahnhof) (classesIn zugart) days (blocks (linesAt fplan at line)) ≡ servicesFirst (bitFieldsIn bitfeld) (stopsIn bahnhof) (classesIn zugart) days (blocks (linesAt fplan start first)))
+    × (FieldMap bitfeld fields × StopMap bahnhof stops × ClassIndex zugart index)
 
 abbrev μ-loop : tie.MeasureT-loop
-μ-loop fplan start first bitfeld fields bahnhof stops days calls₀ ranges₀ at₀ line₀ count₀ total₀ calls ranges at line count total =
+μ-loop fplan start first bitfeld fields bahnhof stops zugart index days calls₀ ranges₀ at₀ line₀ count₀ total₀ calls ranges at line count total =
     length fplan - at
 
 loop-holds : tie.Need-loop-holds Inv-loop μ-loop

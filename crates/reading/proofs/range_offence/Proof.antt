@@ -14,6 +14,9 @@ returns c = search own
 field-known-requires : tie.Need-field-known-requires
 field-known-requires c κs = search own
 
+category-offence-requires : tie.Need-category-offence-requires
+category-offence-requires c κs = search own
+
 returns-2 : tie.Need-returns-2
 returns-2 c = search own
 
@@ -31,6 +34,7 @@ range-offence-spec =
     offends-requires
     returns
     field-known-requires
+    category-offence-requires
     returns-2
     offends-requires-2
     returns-3)

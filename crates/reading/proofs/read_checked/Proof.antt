@@ -3,24 +3,24 @@ use native.Mathlib.Omega.{arith}
 use Prim.Native.Nat.{_-_}
 use lib.ListN.{length}
 use Rattle.base.proofs.Laws.{tests}
-use Rattle.timetable.specs.Files.{bitFieldsIn, stopsIn}
+use Rattle.timetable.specs.Files.{bitFieldsIn, stopsIn, classesIn}
 use Rattle.reading.proofs.Passing.{pass-less}
-use Rattle.reading.proofs.Checking.{Clean, clean-first, clean-within, clean-more, checking}
-use Rattle.reading.specs.Maps.{FieldMap, StopMap}
+use Rattle.reading.proofs.Checking.{Clean, clean-first, refused-first, clean-within, clean-more, checking}
+use Rattle.reading.specs.Maps.{FieldMap, StopMap, ClassIndex}
 use Rattle.reading.proofs.read_checked.Statement.{statement}
 use Rattle.reading.proofs.read_checked.Tie as tie
 
 abbrev Inv-loop : tie.InvT-loop
-Inv-loop fplan at no' bitfeld fields bahnhof stops calls₀ ranges₀ stop counts₀ opening end₀ line₀ calls ranges counts end line =
-    (length calls ≡ length calls₀) × (length ranges ≡ length ranges₀) × Clean (bitFieldsIn bitfeld) (stopsIn bahnhof) fplan at no' opening end line counts calls ranges × (FieldMap bitfeld fields × StopMap bahnhof stops)
+Inv-loop fplan at no' bitfeld fields bahnhof stops zugart index calls₀ ranges₀ stop counts₀ opening end₀ line₀ calls ranges counts end line =
+    (length calls ≡ length calls₀) × (length ranges ≡ length ranges₀) × Clean (bitFieldsIn bitfeld) (stopsIn bahnhof) (classesIn zugart) fplan at no' opening end line counts calls ranges × (FieldMap bitfeld fields × StopMap bahnhof stops × ClassIndex zugart index)
 
 abbrev μ-loop : tie.MeasureT-loop
-μ-loop fplan at no' bitfeld fields bahnhof stops calls₀ ranges₀ stop counts₀ opening end₀ line₀ calls ranges counts end line =
+μ-loop fplan at no' bitfeld fields bahnhof stops zugart index calls₀ ranges₀ stop counts₀ opening end₀ line₀ calls ranges counts end line =
     length fplan - end
 
 -- what the loop is entered with, and the start
 abbrev entry : tie.After-opening-of Inv-loop μ-loop → tie.Start Inv-loop μ-loop
-entry c = c .before .before .before .before .before .before .before .before .before .before .before .before .before .before .before
+entry c = c .before .before .before .before .before .before .before .before .before .before .before .before .before .before .before .before .before
 
 line-from-requires : tie.Need-line-from-requires Inv-loop μ-loop
 line-from-requires c κs = search checking
@@ -47,7 +47,13 @@ enum-known-offence : tie.Need-enum-known-offence Inv-loop μ-loop
 enum-known-offence c = search checking
 
 returns : tie.Need-returns Inv-loop μ-loop
-returns c = search checking
+returns c =
+    let checked = c .before .before .before in
+    let counts = checked .before in
+    let told = counts .before in
+    let cut = told .before .before in
+    let start = cut .before .before .before .before .before .before .before .before .before .before in
+    search (refused-first, start .pre .0 .1, cut .line-from .ensures, told .told-in .ensures, counts .no-counts .ensures, checked .offence-after .ensures)
 
 enum-told : tie.Need-enum-told Inv-loop μ-loop
 enum-told c = search checking

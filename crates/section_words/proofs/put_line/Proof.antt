@@ -35,6 +35,12 @@ enum-told-4 c = search line-puts
 put-interchange-requires : tie.Need-put-interchange-requires
 put-interchange-requires c κs = search line-puts
 
+enum-told-5 : tie.Need-enum-told-5
+enum-told-5 c = search line-puts
+
+put-class-requires : tie.Need-put-class-requires
+put-class-requires c κs = search line-puts
+
 returns : tie.Need-returns
 returns c = search line-puts
 
@@ -59,6 +65,12 @@ same-length-3 c = search line-puts
 returns-5 : tie.Need-returns-5
 returns-5 c = search line-puts
 
+same-length-4 : tie.Need-same-length-4
+same-length-4 c = search line-puts
+
+returns-6 : tie.Need-returns-6
+returns-6 c = search line-puts
+
 pub put-line-spec : {M : Type 1} → statement M
 put-line-spec =
     tie.close
@@ -74,6 +86,8 @@ put-line-spec =
     put-stop-requires
     enum-told-4
     put-interchange-requires
+    enum-told-5
+    put-class-requires
     returns
     returns-2
     same-length
@@ -81,4 +95,6 @@ put-line-spec =
     same-length-2
     returns-4
     same-length-3
-    returns-5)
+    returns-5
+    same-length-4
+    returns-6)

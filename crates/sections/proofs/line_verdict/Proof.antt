@@ -50,6 +50,12 @@ part-interchange-verdict-end c = search line-checks
 interchange-verdict-requires : tie.Need-interchange-verdict-requires
 interchange-verdict-requires c κs = search line-checks
 
+enum-told-5 : tie.Need-enum-told-5
+enum-told-5 c = search line-checks
+
+class-verdict-requires : tie.Need-class-verdict-requires
+class-verdict-requires c κs = search line-checks
+
 returns : tie.Need-returns
 returns c = search line-checks
 
@@ -64,6 +70,9 @@ returns-4 c = search line-checks
 
 returns-5 : tie.Need-returns-5
 returns-5 c = search line-checks
+
+returns-6 : tie.Need-returns-6
+returns-6 c = search line-checks
 
 pub line-verdict-spec : {M : Type 1} → statement M
 line-verdict-spec =
@@ -85,8 +94,11 @@ line-verdict-spec =
     part-interchange-verdict-start
     part-interchange-verdict-end
     interchange-verdict-requires
+    enum-told-5
+    class-verdict-requires
     returns
     returns-2
     returns-3
     returns-4
-    returns-5)
+    returns-5
+    returns-6)

@@ -17,11 +17,8 @@ line-form-requires c κs = search numbering
 enum-told : tie.Need-enum-told
 enum-told c = search numbering
 
-number-end-requires : tie.Need-number-end-requires
-number-end-requires c κs = search numbering
-
-number-in-requires : tie.Need-number-in-requires
-number-in-requires c κs = search numbering
+key-on-requires : tie.Need-key-on-requires
+key-on-requires c κs = search numbering
 
 enum-known-form : tie.Need-enum-known-form
 enum-known-form c = search numbering
@@ -41,8 +38,7 @@ number-on-spec =
     line-kind-requires
     line-form-requires
     enum-told
-    number-end-requires
-    number-in-requires
+    key-on-requires
     enum-known-form
     returns-2
     returns-3)

@@ -1,9 +1,10 @@
+use Rattle.base.proofs.Laws.{tests}
 use Rattle.service.proofs.Drafts.{serving}
 use Rattle.service.proofs.check_service.Statement.{statement}
 use Rattle.service.proofs.check_service.Tie as tie
 
 read-checked-requires : tie.Need-read-checked-requires
-read-checked-requires c κs = search serving
+read-checked-requires c κs = ((search tests, search tests), (search tests, (search tests, search tests)))
 
 enum-known-read : tie.Need-enum-known-read
 enum-known-read c = search serving
@@ -14,7 +15,7 @@ enum-known-read-2 c = search serving
 draft-checks-requires : tie.Need-draft-checks-requires
 draft-checks-requires c κs =
     let read = c .before .before .before .before .before .before .before .before .before in
-    let start = read .before .before .before .before .before .before .before .before .before .before in
+    let start = read .before .before .before .before .before .before .before .before .before .before .before .before in
     (search serving, (start .pre .0 .1, start .pre .1 .1 .0))
 
 same-length : tie.Need-same-length

@@ -11,6 +11,12 @@ header-sound-requires c κs = search whole
 returns-2 : tie.Need-returns-2
 returns-2 c = search whole
 
+classes-sound-requires : tie.Need-classes-sound-requires
+classes-sound-requires c κs = search whole
+
+returns-3 : tie.Need-returns-3
+returns-3 c = search whole
+
 shared-slice-read-size : tie.Need-shared-slice-read-size
 shared-slice-read-size c = search whole
 
@@ -41,8 +47,8 @@ shared-slice-read-records-sound c = search whole
 records-sound-requires : tie.Need-records-sound-requires
 records-sound-requires c κs = search whole
 
-returns-3 : tie.Need-returns-3
-returns-3 c = search whole
+returns-4 : tie.Need-returns-4
+returns-4 c = search whole
 
 pub is-table-spec : {M : Type 1} → statement M
 is-table-spec =
@@ -51,6 +57,8 @@ is-table-spec =
     returns
     header-sound-requires
     returns-2
+    classes-sound-requires
+    returns-3
     shared-slice-read-size
     size-requires
     shared-slice-read-size-2
@@ -61,4 +69,4 @@ is-table-spec =
     part-records-sound-end
     shared-slice-read-records-sound
     records-sound-requires
-    returns-3)
+    returns-4)

@@ -3,8 +3,8 @@
 
 use super::dates::{day_count, period, stated, written, wrong};
 use super::lines::{
-    column, columns, digits, field_at, kind, line, lines, numbered, passed_over, text, Delivery, Kind, Rule, BAHNHOF,
-    BITFELD, ECKDATEN, FPLAN, MOST_BYTES, NAMES, UMSTEIGB,
+    column, columns, digits, field_at, kind, line, lines, numbered, passed_over, text, trimmed, Delivery, Kind, Rule,
+    BAHNHOF, BITFELD, ECKDATEN, FPLAN, MOST_BYTES, NAMES, UMSTEIGB, ZUGART,
 };
 use super::service::{of_delivery, service_of, Finding};
 use super::{form, looks};
@@ -157,7 +157,9 @@ fn finding(delivery: &Delivery, answer: &Answer) -> Finding {
         (3, _) => Finding::says(format!("the file has {} lines", lines(file).count())),
         (4, of) => broken_form(of, bytes, answer),
         (5, _) => date(file, at, bytes),
-        (6, of) => seen_earlier(file, at, bytes, if of == BITFELD { 6 } else { 7 }),
+        (6, BITFELD) => seen_earlier(file, at, bytes, 6),
+        (6, ZUGART) => seen_earlier(file, at, bytes, 3),
+        (6, _) => seen_earlier(file, at, bytes, 7),
         (7, BITFELD) => Finding::at(at, (1, 6), "000000 means \"daily\" and is not listed".to_string()),
         (7, BAHNHOF) if digits(bytes, 1, 7) == Some(9_999_999) => {
             Finding::at(at, (1, 7), "9999999 stands for all stops in UMSTEIGB, and is no stop".to_string())
@@ -192,6 +194,8 @@ fn finding(delivery: &Delivery, answer: &Answer) -> Finding {
             18 => service.cover(false),
             _ => service.stretches(delivery),
         }),
+        (37, _) => tariff_group(file, at, bytes),
+        (38, _) => unlisted(delivery.file(ZUGART), at, bytes),
         (20 | 51, _) => Finding::says(format!("{} words are needed", answer.needed)),
         (39, _) => form::names(bytes).map_or_else(Finding::default, |(place, why)| {
             Finding::at(at, (place, place), format!("column {}: {}", place, why))
@@ -248,6 +252,39 @@ fn seen_earlier(file: &[u8], at: u32, bytes: &[u8], last: usize) -> Finding {
         }
         None => Finding::default(),
     }
+}
+
+/// 37: the file's first category, and this one.
+fn tariff_group(file: &[u8], at: u32, bytes: &[u8]) -> Finding {
+    let (first, other) = match numbered(file).find(|(_, line)| !passed_over(line)) {
+        Some(first) => first,
+        None => return Finding::default(),
+    };
+    let says = match column(bytes, 8) {
+        b' ' => format!("there is no tariff group, and line {} has {}", first, form::named(column(other, 8))),
+        group => format!("the tariff group is {}, and line {} has none", form::named(group), first),
+    };
+    let own = numbered(file).filter(|(_, line)| !passed_over(line) && column(line, 8) != b' ').count();
+    let all = numbered(file).filter(|(_, line)| !passed_over(line)).count();
+    let count = format!("{} of the file's {} categories have one: all must, or none", own, all);
+    Finding { marks: vec![(first, vec![(8, 8)]), (at, vec![(8, 8)])], says: vec![says, count] }
+}
+
+/// 38: a code that is not listed, and what is listed that looks like it.
+fn unlisted(zugart: &[u8], at: u32, bytes: &[u8]) -> Finding {
+    let code = columns(bytes, 4, 6);
+    let mut found = Finding::at(at, (4, 6), format!("there is no line of `{}` in ZUGART", text(&code)));
+    let letters = |code: &[u8]| trimmed(code).to_ascii_uppercase();
+    let alike = |(_, line): &(u32, &[u8])| !passed_over(line) && letters(&columns(line, 1, 3)) == letters(&code);
+    match numbered(zugart).find(alike) {
+        Some((number, line)) => {
+            let listed = text(&columns(line, 1, 3));
+            found.says.push(format!("line {} of ZUGART has `{}`: codes are compared byte by byte", number, listed));
+        }
+        None if lines(zugart).all(passed_over) => found.says.push("ZUGART lists no category at all".to_string()),
+        None => {}
+    }
+    found
 }
 
 fn trimmed_end(bytes: &[u8]) -> &[u8] {
@@ -335,6 +372,11 @@ fn entry(answer: &Answer) -> (&'static str, &'static str, &'static str) {
             "1-7 digits, 9-10 and 12-13 numbers, 8, 11 and 14 blank",
             "set the numbers to the right edge of their columns",
         ),
+        (4, ZUGART) => (
+            "form",
+            "1-3 a code, 5-6 a class, 8 tariff group, 10 output, 21 supplement, 23 flag; 4, 7, 9, 11, 20, 22 and 24 blank",
+            "set the line to its columns; the lines of 5.5.1 (`<text>`, `class00`) are not taken: put a \"%\" in column 1",
+        ),
         (4, _) => (
             "form",
             "a field breaks its rule, or a column that no field has is not blank, or column 59 is not \"%\"",
@@ -353,6 +395,7 @@ fn entry(answer: &Answer) -> (&'static str, &'static str, &'static str) {
         (6, BAHNHOF) => {
             ("number seen earlier", "each stop is listed once", "correct the number, or remove the later line")
         }
+        (6, ZUGART) => ("code seen earlier", "each category is listed once", "keep one of them, or correct the code"),
         (6, _) => ("stop seen earlier", "each stop, and 9999999, has one record", "keep one of them"),
         (7, BITFELD) => (
             "number 000000",
@@ -423,6 +466,16 @@ fn entry(answer: &Answer) -> (&'static str, &'static str, &'static str) {
             "table too short",
             "the delivery is right, but its table needs more words than were lent",
             "nothing in the files: tell the planner's operators",
+        ),
+        (37, _) => (
+            "tariff group missing or alone",
+            "all categories have a tariff group, or none",
+            "give each line its tariff group, or take them all away",
+        ),
+        (38, _) => (
+            "category unknown",
+            "each category of a *G line is in ZUGART of this delivery",
+            "list it there with its class, or correct the code",
         ),
         (39, _) => (
             "name field",

@@ -28,6 +28,7 @@ pub fn why(line: &[u8], field: &Field) -> String {
         Rule::Detail if trimmed(&bytes).starts_with(b"#") => "after `#` come digits only, at least one".to_string(),
         Rule::Detail => format!("beside a stop it is blank, `#` and digits, or a time; {}", time(&bytes)),
         Rule::Time => time(&bytes),
+        Rule::OneOf(bytes_of) => format!("column {} is {}, and must be {}", first, named(bytes[0]), bytes_of),
         Rule::Mark => format!("column 57 is {}, and must be X or blank", named(bytes[0])),
         Rule::Percent => format!("column 59 is {}, and must be \"%\"", named(bytes[0])),
         Rule::Free => String::new(),

@@ -2,7 +2,9 @@
 //! for the copy; for the delivery it is likely. What only follows from a line that was made harmless is left out as far as that can be seen.
 
 use super::explain::Answer;
-use super::lines::{column, columns, kind, numbered, Delivery, Kind, BAHNHOF, BITFELD, ECKDATEN, FPLAN, UMSTEIGB};
+use super::lines::{
+    column, columns, kind, numbered, Delivery, Kind, BAHNHOF, BITFELD, ECKDATEN, FPLAN, UMSTEIGB, ZUGART,
+};
 
 /// Opens a service whose own opening line is broken.
 const OPENING: &[u8] = b"*Z 00000 ______                                           %";
@@ -79,7 +81,7 @@ impl Further {
         match (answer.file, answer.number) {
             (_, 1 | 2 | 3 | 20 | 51) => None,
             (ECKDATEN, _) => self.date(at),
-            (BITFELD | BAHNHOF, _) => self.replace(answer.file, at, b"%"),
+            (BITFELD | BAHNHOF | ZUGART, _) => self.replace(answer.file, at, b"%"),
             (UMSTEIGB, 6 | 9) => self.replace(UMSTEIGB, at, b"%"),
             (UMSTEIGB, _) => {
                 let before = numbered(self.copy.file(UMSTEIGB)).take_while(|(number, _)| *number < at);

@@ -1,7 +1,7 @@
 //! A file's lines and columns, as the loader reads them, and the fields that each kind of line has.
 
 /// The files of a delivery by their numbers, from 1.
-pub const NAMES: [&str; 5] = ["ECKDATEN", "BITFELD", "BAHNHOF", "UMSTEIGB", "FPLAN"];
+pub const NAMES: [&str; 6] = ["ECKDATEN", "BITFELD", "BAHNHOF", "UMSTEIGB", "FPLAN", "ZUGART"];
 /// ECKDATEN.
 pub const ECKDATEN: u32 = 1;
 /// BITFELD.
@@ -12,6 +12,8 @@ pub const BAHNHOF: u32 = 3;
 pub const UMSTEIGB: u32 = 4;
 /// FPLAN.
 pub const FPLAN: u32 = 5;
+/// ZUGART, which is checked before FPLAN.
+pub const ZUGART: u32 = 6;
 
 /// A longer file is refused with 1.
 pub const MOST_BYTES: usize = 16_777_216;
@@ -20,7 +22,7 @@ pub const MOST_BYTES: usize = 16_777_216;
 #[derive(Clone, Debug)]
 pub struct Delivery {
     /// By number, from 1 on.
-    pub files: [Vec<u8>; 5],
+    pub files: [Vec<u8>; 6],
 }
 
 impl Delivery {
@@ -164,6 +166,8 @@ pub enum Rule {
     Detail,
     /// Blank or a time.
     Time,
+    /// One of these bytes.
+    OneOf(&'static str),
     /// X or blank.
     Mark,
     /// "%".
@@ -188,6 +192,16 @@ const RECORDS: &[Field] = &[
     (9, 10, "first time", Rule::Count(60)),
     (12, 13, "second time", Rule::Count(99)),
     (15, usize::MAX, "free", Rule::Free),
+];
+const CATEGORIES: &[Field] = &[
+    (1, 3, "code", Rule::Begins),
+    (5, 6, "class", Rule::Count(13)),
+    (8, 8, "tariff group", Rule::OneOf("A, B, C, D, E, F, G, H or blank")),
+    (10, 10, "output", Rule::OneOf("a digit 0 to 7")),
+    (12, 19, "text for the output", Rule::Free),
+    (21, 21, "supplement", Rule::OneOf("0, 1 or 2")),
+    (23, 23, "flag", Rule::OneOf("N, B, F or blank")),
+    (25, usize::MAX, "free", Rule::Free),
 ];
 const Z: &[Field] = &[
     (4, 8, "number of the service", Rule::Digits),
@@ -238,6 +252,7 @@ pub fn fields(file: u32, line: &[u8]) -> &'static [Field] {
         (BITFELD, _) => BIT_FIELDS,
         (BAHNHOF, _) => STOPS,
         (UMSTEIGB, _) => RECORDS,
+        (ZUGART, _) => CATEGORIES,
         (FPLAN, Kind::Opening) if column(line, 2) == b'T' => T,
         (FPLAN, Kind::Opening) => Z,
         (FPLAN, Kind::Category) => G,

@@ -2,7 +2,7 @@
 //!
 //!     desk [--all] [DIRECTORY]
 //!
-//! It reads the five files by name from the directory (without one: from the directory at hand), of any size. The first line is the
+//! It reads the six files by name from the directory (without one: from the directory at hand), of any size. The first line is the
 //! proved answer: `accepted ..`, `refused N file F line L column C` or `unread file F`. What follows is worked out by this program: the line, the
 //! field, what the number means and how to mend it. `--all` goes on after a refused line and shows what else of the same file is likely to be refused;
 //! it mends nothing. The exit status is 0 for accepted, 1 for refused, 2 for unread. Progress of a long load goes to standard error.
@@ -27,7 +27,7 @@ use std::thread;
 use std::time::{Duration, Instant};
 
 use estelunya_planner::by_number::load;
-use estelunya_planner::layout::{BIT_FIELDS_AT, INTERCHANGES_AT, PERIOD_DAYS_AT, SERVICES_AT, STOPS_AT};
+use estelunya_planner::layout::{BIT_FIELDS_AT, CLASSES_AT, INTERCHANGES_AT, PERIOD_DAYS_AT, SERVICES_AT, STOPS_AT};
 use estelunya_planner::{Files, LoadRefusal};
 
 use explain::{screen, short, Answer};
@@ -115,8 +115,8 @@ fn loaded(delivery: &Delivery) -> Result<Vec<u32>, Answer> {
 }
 
 fn files(delivery: &Delivery) -> Files<'_> {
-    let [eckdaten, bitfeld, bahnhof, umsteigb, fplan] = &delivery.files;
-    Files { eckdaten, bitfeld, bahnhof, umsteigb, fplan }
+    let [eckdaten, bitfeld, bahnhof, umsteigb, fplan, zugart] = &delivery.files;
+    Files { eckdaten, bitfeld, bahnhof, umsteigb, fplan, zugart }
 }
 
 fn answer(refusal: LoadRefusal) -> Answer {
@@ -141,14 +141,15 @@ fn with_progress<T>(work: impl FnOnce() -> T) -> T {
 
 /// The program's line, and a warning for a table that answers nothing and for files that are hardly meant so.
 fn accepted(delivery: &Delivery, words: &[u32]) -> String {
-    let [days, fields, stops, records, services] =
-        [PERIOD_DAYS_AT, BIT_FIELDS_AT, STOPS_AT, INTERCHANGES_AT, SERVICES_AT].map(|at| words[at]);
+    let [days, fields, stops, records, categories, services] =
+        [PERIOD_DAYS_AT, BIT_FIELDS_AT, STOPS_AT, INTERCHANGES_AT, CLASSES_AT, SERVICES_AT].map(|at| words[at]);
     let mut text = format!(
-        "accepted days {} bitfields {} stops {} interchange {} services {} words {}\n",
+        "accepted days {} bitfields {} stops {} interchange {} categories {} services {} words {}\n",
         days,
         fields,
         stops,
         records,
+        categories,
         services,
         words.len()
     );

@@ -8,7 +8,7 @@ use estelunya_planner::by_number::load_with;
 use super::dates::{later, written};
 use super::explain::{screen, Answer};
 use super::form::frame;
-use super::lines::{lines, Delivery, BAHNHOF, BITFELD, ECKDATEN, FPLAN, MOST_BYTES, UMSTEIGB};
+use super::lines::{lines, Delivery, BAHNHOF, BITFELD, ECKDATEN, FPLAN, MOST_BYTES, UMSTEIGB, ZUGART};
 use super::{answer, files, loaded, run, told};
 
 const SCREENS: &str = include_str!("screens.txt");
@@ -21,6 +21,7 @@ fn trial_week() -> Delivery {
             include_bytes!("../../../../crates/ferry/data/BAHNHOF").to_vec(),
             include_bytes!("../../../../crates/ferry/data/UMSTEIGB").to_vec(),
             include_bytes!("../../../../crates/ferry/data/FPLAN").to_vec(),
+            include_bytes!("../../../../crates/ferry/data/ZUGART").to_vec(),
         ],
     }
 }
@@ -90,11 +91,16 @@ fn cases() -> Vec<(&'static str, Delivery, bool)> {
             false,
         ),
         ("4, a detail with +", with_line(FPLAN, 2, &format!("{:58}%", "*G BAT 1000011 1000022        +00855")), false),
+        ("4, class 14", with_line(ZUGART, 1, "BAT 14   0 BAT      0 B"), false),
+        ("4, a tariff group", with_line(ZUGART, 1, "BAT  4 I 0 BAT      0 B"), false),
+        ("4, no supplement", with_line(ZUGART, 1, "BAT  4   0 BAT"), false),
+        ("4, a line of 5.5.1", with_line(ZUGART, 2, "<German>"), false),
         ("5, no such month", with_line(ECKDATEN, 2, "07.13.2025"), false),
         ("5, the end before the start", with_line(ECKDATEN, 2, "30.11.2025"), false),
         ("5, 381 days", with_line(ECKDATEN, 2, "16.12.2026"), false),
         ("6, BITFELD", with_line(BITFELD, 2, &bits("000001", "C06")), false),
         ("6, BAHNHOF", with_line(BAHNHOF, 4, "1000011     Quay A"), false),
+        ("6, ZUGART", with_line(ZUGART, 2, "BAT  5   0 BAT      0 B"), false),
         ("7, BITFELD", with_line(BITFELD, 1, &bits("000000", "FE6")), false),
         ("7, BAHNHOF", with_line(BAHNHOF, 2, "1000000     Quay B"), false),
         ("7, UMSTEIGB", with_line(UMSTEIGB, 1, "1000011  4  5"), false),
@@ -129,6 +135,15 @@ fn cases() -> Vec<(&'static str, Delivery, bool)> {
             ]),
             false,
         ),
+        ("37, alone", with_line(ZUGART, 2, "CAT  5 A 0 CAT      0 B"), false),
+        (
+            "37, missing",
+            with_file(ZUGART, b"% ships\nBAT  4 A 0 BAT      0 B\nCAT  5 B 0 CAT      0 B\nKAT  5   0 KAT      0 B\n"),
+            false,
+        ),
+        ("38", with_line(FPLAN, 2, &format!("{:58}%", "*G CAT")), false),
+        ("38, in small letters", with_line(FPLAN, 2, &format!("{:58}%", "*G bat")), false),
+        ("38, no categories", with_file(ZUGART, b"% none\n"), false),
         ("39, no $", with_line(BAHNHOF, 2, "1000022     Quay B<d>"), false),
         ("39, cut", with_line(BAHNHOF, 2, "1000022     Louvain [B]$<f>$Leuven [B]$<n>$Louvain$<f2>Louv$<f1>"), false),
         ("a byte order mark", with_file(ECKDATEN, &[b"\xEF\xBB\xBF", week.file(ECKDATEN)].concat()), false),
@@ -165,6 +180,8 @@ fn cases() -> Vec<(&'static str, Delivery, bool)> {
     listed.push(("--all, several services", with_file(FPLAN, &plan(&several.concat())), true));
     let records = b"1000011  4  5\n1000022 4 5\n9999999  2  3\n1000044  4  5\n1000011  4  5\n";
     listed.push(("--all, UMSTEIGB", with_file(UMSTEIGB, records), true));
+    let categories = b"BAT  4   0 BAT      0 B\nCAT 14   0 CAT      0\nBAT  4   0 BAT      0 B\nKAT  4 C 0 KAT      0\n<text>\n<German>\n";
+    listed.push(("--all, ZUGART", with_file(ZUGART, categories), true));
     listed
 }
 
@@ -176,8 +193,8 @@ fn titled(name: &str, text: &str) -> String {
 fn all_screens() -> String {
     let mut text: String = cases().iter().map(|(name, delivery, all)| titled(name, &told(delivery, *all).1)).collect();
     let week = trial_week();
-    let short = load_with(&files(&week), &mut [0; 78], &mut [0; 84]).map_err(answer).unwrap_err();
-    let helper = load_with(&files(&week), &mut [0; 79], &mut [0; 83]).map_err(answer).unwrap_err();
+    let short = load_with(&files(&week), &mut [0; 81], &mut [0; 84]).map_err(answer).unwrap_err();
+    let helper = load_with(&files(&week), &mut [0; 82], &mut [0; 83]).map_err(answer).unwrap_err();
     for (name, refusal) in [("20", short), ("51", helper)] {
         text.push_str(&titled(name, &screen(&week, &refusal)));
     }
@@ -208,7 +225,7 @@ fn every_number_has_a_screen() {
     let number =
         |line: &str| line.strip_prefix("refused ").map(|rest| rest.split(' ').next().unwrap().parse::<u32>().unwrap());
     let shown: BTreeSet<u32> = SCREENS.lines().filter_map(number).collect();
-    assert!(shown.into_iter().eq((1..=20).chain([39, 51])));
+    assert!(shown.into_iter().eq((1..=20).chain([37, 38, 39, 51])));
 }
 
 /// Each place that a screen sends to is in REFUSALS.md.
@@ -229,14 +246,19 @@ fn places_in_refusals() {
 fn looks_right() {
     let refused = |delivery: &Delivery| loaded(delivery).map(|_| ()).map_err(|it| (it.number, it.line, it.column));
     let week = trial_week();
-    for (file, wanted) in
-        [(ECKDATEN, (4, 1, 1)), (BITFELD, (4, 1, 1)), (BAHNHOF, (4, 1, 1)), (UMSTEIGB, (4, 1, 1)), (FPLAN, (12, 1, 0))]
-    {
+    for (file, wanted, moved) in [
+        (ECKDATEN, (4, 1, 1), (4, 1, 1)),
+        (BITFELD, (4, 1, 1), (4, 1, 1)),
+        (BAHNHOF, (4, 1, 1), (4, 1, 1)),
+        (UMSTEIGB, (4, 1, 1), (4, 1, 1)),
+        (FPLAN, (12, 1, 0), (12, 1, 0)),
+        (ZUGART, (4, 1, 1), (4, 1, 4)),
+    ] {
         let marked = [b"\xEF\xBB\xBF", week.file(file)].concat();
-        assert_eq!(refused(&with_file(file, &marked)), Err(wanted));
+        assert_eq!(refused(&with_file(file, &marked)), Err(moved));
         let wide: Vec<u8> =
             [0xFF, 0xFE].into_iter().chain(week.file(file).iter().flat_map(|byte| [*byte, 0])).collect();
-        assert_eq!(refused(&with_file(file, &wide)), Err(wanted));
+        assert_eq!(refused(&with_file(file, &wide)), Err(moved));
         let indented = [b" ", week.file(file)].concat();
         assert_eq!(refused(&with_file(file, &indented)), Err(wanted));
     }
@@ -251,6 +273,9 @@ fn looks_right() {
     let remark = with_file(UMSTEIGB, b"9999999  2  3 all stops\r1000011  4  5\r");
     assert_eq!(loaded(&remark).map(|words| words[5]), Ok(1));
     assert_eq!(refused(&cr(FPLAN, "")), Err((14, 1, 0)));
+    assert_eq!(refused(&cr(ZUGART, "CAT  4   0 CAT      0 B\n")), Err((4, 1, 24)));
+    assert_eq!(refused(&with_file(ZUGART, b"CAT  4   0 CAT      0\rBAT  4   0 BAT      0\r")), Err((4, 1, 22)));
+    assert_eq!(refused(&with_file(ZUGART, b"CAT  4   0 CAT      0   Cat\rBAT  4   0 BAT      0\r")), Err((38, 2, 0)));
     assert_eq!(refused(&with_line(FPLAN, 2, &format!("{:58}%", " *G BAT"))), Err((11, 2, 0)));
     assert_eq!(refused(&with_line(FPLAN, 2, &format!("{:58}%", "*G\tBAT"))), Err((11, 2, 0)));
     assert_eq!(refused(&with_line(FPLAN, 1, &format!("{:58}%", "*Z\t00042 FERRY_"))), Err((12, 1, 0)));
@@ -259,9 +284,9 @@ fn looks_right() {
     // lines that are passed over make no service
     assert_eq!(loaded(&with_file(FPLAN, b"% rests\n  \n")).map(|words| words[6]), Ok(0));
     assert_eq!(
-        loaded(&Delivery { files: [week.files[0].clone(), vec![], vec![], week.files[3].clone(), vec![]] })
-            .map(|words| words[6]),
-        Ok(0)
+        loaded(&Delivery { files: [week.files[0].clone(), vec![], vec![], week.files[3].clone(), vec![], vec![]] })
+            .map(|words| (words[6], words[8])),
+        Ok((0, 0))
     );
 }
 
@@ -328,7 +353,7 @@ fn any_bytes() {
     for _ in 0..2_000 {
         let mut delivery = deliveries[next(deliveries.len())].clone();
         for _ in 0..=next(3) {
-            let file = next(5);
+            let file = next(6);
             let bytes = &mut delivery.files[file];
             let at = next(bytes.len() + 1);
             match next(4) {

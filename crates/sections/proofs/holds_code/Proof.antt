@@ -1,0 +1,18 @@
+use Rattle.sections.proofs.Classes.{line-codes}
+use Rattle.sections.proofs.holds_code.Statement.{statement}
+use Rattle.sections.proofs.holds_code.Tie as tie
+
+code-on-requires : tie.Need-code-on-requires
+code-on-requires c κs = search line-codes
+
+skips-requires : tie.Need-skips-requires
+skips-requires c κs = search line-codes
+
+returns : tie.Need-returns
+returns c = search line-codes
+
+returns-2 : tie.Need-returns-2
+returns-2 c = search line-codes
+
+pub holds-code-spec : {M : Type 1} → statement M
+holds-code-spec = tie.close (tie.spec code-on-requires skips-requires returns returns-2)

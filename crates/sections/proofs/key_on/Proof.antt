@@ -1,0 +1,56 @@
+use Rattle.sections.proofs.Lookups.{numbering}
+use Rattle.sections.proofs.key_on.Statement.{statement}
+use Rattle.sections.proofs.key_on.Tie as tie
+
+enum-told : tie.Need-enum-told
+enum-told c = search numbering
+
+number-in-requires : tie.Need-number-in-requires
+number-in-requires c κs = search numbering
+
+enum-told-2 : tie.Need-enum-told-2
+enum-told-2 c = search numbering
+
+number-in-requires-2 : tie.Need-number-in-requires-2
+number-in-requires-2 c κs = search numbering
+
+enum-told-3 : tie.Need-enum-told-3
+enum-told-3 c = search numbering
+
+number-in-requires-3 : tie.Need-number-in-requires-3
+number-in-requires-3 c κs = search numbering
+
+enum-told-4 : tie.Need-enum-told-4
+enum-told-4 c = search numbering
+
+code-on-requires : tie.Need-code-on-requires
+code-on-requires c κs = search numbering
+
+returns : tie.Need-returns
+returns c = search numbering
+
+returns-2 : tie.Need-returns-2
+returns-2 c = search numbering
+
+returns-3 : tie.Need-returns-3
+returns-3 c = search numbering
+
+returns-4 : tie.Need-returns-4
+returns-4 c = search numbering
+
+pub key-on-spec : {M : Type 1} → statement M
+key-on-spec =
+    tie.close
+    (tie.spec
+    enum-told
+    number-in-requires
+    enum-told-2
+    number-in-requires-2
+    enum-told-3
+    number-in-requires-3
+    enum-told-4
+    code-on-requires
+    returns
+    returns-2
+    returns-3
+    returns-4)
