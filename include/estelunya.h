@@ -48,7 +48,7 @@ typedef struct EstelunyaNameResult {
 } EstelunyaNameResult;
 
 typedef struct EstelunyaWalkResult {
-    uint32_t number; /* 0: answered; else the refusal: 21 to 25, 29, 31 to 36 */
+    uint32_t number; /* 0: answered; else the refusal: 21 to 25, 29, 31, 33 to 36 */
     uint32_t rows;   /* the rows listed, two or more; 0 if the service is not running on the date, and if refused */
     uint32_t needed; /* 29: the words needed; else 0 */
 } EstelunyaWalkResult;
@@ -124,8 +124,12 @@ typedef struct EstelunyaDayCountResult {
 #define ESTELUNYA_KIND_T 1u
 
 /*
- * Call: number of the stop; arrival; departure, both in minutes, 0 if there is none; flags; number and administration (two words of three bytes) of the service
- * that hold from this call on
+ * Call: place of the stop among the stops, counted in records from 0, so that its record begins at word
+ *
+ *     ESTELUNYA_HEADER_WORDS + ESTELUNYA_BIT_FIELD_WORDS * (word ESTELUNYA_BIT_FIELDS_AT) + ESTELUNYA_STOP_WORDS * place;
+ *
+ * arrival; departure, both in minutes, 0 if there is none; flags; number and administration (two words of three bytes) of the service that hold from this call on.
+ * (A row shows the stop's number.) A place that is not below the number of stops is no table's: 21.
  */
 #define ESTELUNYA_CALL_WORDS 7
 

@@ -4,9 +4,11 @@
 #
 #   MIB                              FPLAN of so many MiB; stops and bit fields grow with it, to 30,000 and 20,000 at 16 MiB
 #   MIB:STOPS:FIELDS[:NUMBERS]       so many of them; NUMBERS are consecutive (else), equal-ending or random
-#   shortest:MIB[:NUMBERS]           BITFELD, BAHNHOF and UMSTEIGB of so many MiB each, of the shortest records; FPLAN is empty
+#   shortest:MIB[:NUMBERS]           BITFELD, BAHNHOF and UMSTEIGB of so many MiB each, of the shortest records; FPLAN and ZUGART are empty
 #   bitfeld:MIB bahnhof:MIB umsteigb:MIB   the same of one file alone (but UMSTEIGB's stops are in BAHNHOF too)
-#   empty:MIB                        the same of empty lines in all three
+#   zugart:MIB                       ZUGART of so many MiB, of the shortest lines; the other files have only what they must
+#   categories:MIB:COUNT             FPLAN of so many MiB with so many categories (else 40)
+#   empty:MIB                        BITFELD, BAHNHOF and UMSTEIGB of so many empty lines
 #   worst:MIB[:LINES]                BAHNHOF and UMSTEIGB of so many lines (3162), BITFELD of 1000, all numbers of each in one bucket of a map with as many
 #                                    buckets as lines; FPLAN of so many MiB asks for the numbers at the ends of the chains
 #
@@ -19,7 +21,7 @@ case ${*:-} in
 '') set -- 1 4 16 ;;
 worst)
     set -- 4:20000:20000:consecutive 4:20000:20000:equal-ending 4:20000:20000:random bitfeld:16 bahnhof:16 umsteigb:16 shortest:16 \
-        shortest:16:equal-ending shortest:16:random empty:16 worst:4:500 worst:4 worst:4:20000
+        shortest:16:equal-ending shortest:16:random zugart:0.1 categories:4:500 empty:16 worst:4:500 worst:4 worst:4:20000
     ;;
 esac
 command -v valgrind >/dev/null || { echo 'national.sh: no valgrind on the path' >&2; exit 1; }
@@ -68,7 +70,7 @@ instructions() { sed -n 's/^totals: //p' "$place/counted"; }
 deliver() {
     "$national" write "$1" "$place/delivery"
     lines=0
-    for file in BITFELD BAHNHOF UMSTEIGB FPLAN; do
+    for file in BITFELD BAHNHOF UMSTEIGB ZUGART FPLAN; do
         of_file=$(wc -l <"$place/delivery/$file")
         lines=$((lines + of_file))
         printf '%s%s of %s lines' "${separator:-$1: }" "$file" "$of_file"

@@ -24,7 +24,8 @@ pub use case::{counted_helper, damaged, mixed, mutated, oversized, several, some
 pub use day_sets::{arithmetic, Arithmetic};
 pub use names::{name_question, other_bytes, NameQuestion};
 pub use national::{
-    bucket, empty_lines, national, shortest_in, shortest_records, worst_numbers, National, MIB, WORST_STOP_LINES,
+    bucket, empty_lines, national, shortest_categories, shortest_in, shortest_records, worst_numbers, National, MIB,
+    USUAL_CATEGORIES, WORST_STOP_LINES,
 };
 pub use numbers::Numbers;
 pub use questions::{question, Question};

@@ -316,14 +316,16 @@ pub struct Attribute<'t> {
 #[must_use]
 pub struct RouteCall<'t> {
     opened: Opened<'t>,
-    /// Stop, arrival, departure, flags, number, administration in two.
+    /// Place of the stop, arrival, departure, flags, number, administration in two.
     words: &'t [u32],
 }
 
 impl<'t> RouteCall<'t> {
     /// The stop.
     pub fn stop(self) -> Stop<'t> {
-        self.opened.stop(self.words[0])
+        let number = self.opened.table().stop_number(self.words[0]);
+        self.opened
+            .stop(number.unwrap_or_else(|| panic!("the archive accepted a call at stop {} of fewer", self.words[0])))
     }
 
     /// The arrival of the first run in minutes, if the line states one.

@@ -63,7 +63,7 @@ pub const KIND_Z: u32 = 0;
 /// Kind of a service: opened by *T, with a running time and a density.
 pub const KIND_T: u32 = 1;
 
-/// Words of a call: stop, arrival, departure, flags, number, administration (two words).
+/// Words of a call: place of its stop among the stops (counted in records from 0), arrival, departure, flags, number, administration (two words).
 pub const CALL_WORDS: usize = 7;
 /// Words of a *G: category, from, to.
 pub const CATEGORY_WORDS: usize = 3;

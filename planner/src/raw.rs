@@ -53,7 +53,7 @@ pub struct NameResult {
 #[repr(C)]
 #[derive(Clone, Copy, Debug, PartialEq, Eq)]
 pub struct WalkResult {
-    /// 0: answered; else the refusal: 21 to 25, 29, 31 to 36.
+    /// 0: answered; else the refusal: 21 to 25, 29, 31, 33 to 36.
     pub number: u32,
     /// The rows listed; 0 if the service is not running on the day, and if refused.
     pub rows: u32,

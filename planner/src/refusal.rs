@@ -191,7 +191,7 @@ impl fmt::Display for LoadRefusal {
 
 impl Error for LoadRefusal {}
 
-/// Why a question, or arithmetic on operating days, is refused. 31 to 36 cannot occur on the
+/// Why a question, or arithmetic on operating days, is refused. 32 is retired (document 02, No. 10). 31 to 36 cannot occur on the
 /// unaltered table of an accepted delivery, nor 38 for categories of its own runs, nor 39 and 41 with its own BAHNHOF: that is proved.
 #[derive(Clone, Copy, Debug, PartialEq, Eq)]
 #[non_exhaustive]
@@ -220,8 +220,6 @@ pub enum Refusal {
     },
     /// 31: the bit field of a leg's operating days is not in the table.
     BitFieldUnknown,
-    /// 32: the stop of a call is not in the table.
-    CallStopUnknown,
     /// 33: the leg that leaves a call is not covered by exactly one *G range.
     Categories,
     /// 34: a leg is not covered by exactly one range of operating days.
@@ -242,7 +240,7 @@ pub enum Refusal {
     NotAField,
 }
 
-const REFUSALS: [(u32, Refusal, &str); 20] = [
+const REFUSALS: [(u32, Refusal, &str); 19] = [
     (21, Refusal::NotATable, "the words are not a table"),
     (22, Refusal::NoSuchDate, "there is no such date"),
     (23, Refusal::OutsidePeriod, "the date is outside the period"),
@@ -253,7 +251,6 @@ const REFUSALS: [(u32, Refusal, &str); 20] = [
     (28, Refusal::NoSuchBitField, "there is no such bit field in the table"),
     (29, Refusal::RowsTooShort { needed: 0 }, "the rows lent are too short"),
     (31, Refusal::BitFieldUnknown, "the bit field of a leg is not in the table"),
-    (32, Refusal::CallStopUnknown, "the stop of a call is not in the table"),
     (33, Refusal::Categories, "a leg does not have exactly one category"),
     (34, Refusal::OperatingDays, "a leg does not have exactly one range of operating days"),
     (35, Refusal::TwoStretches, "on that day the service runs on two or more separate stretches"),
@@ -266,12 +263,12 @@ const REFUSALS: [(u32, Refusal, &str); 20] = [
 ];
 
 impl Refusal {
-    /// Its number, 21 to 29, 31 to 36 or 38 to 42.
+    /// Its number, 21 to 29, 31, 33 to 36 or 38 to 42.
     pub fn number(self) -> u32 {
         self.entry().0
     }
 
-    /// The refusal of a number, with the words needed if it is 29; `None` unless 21 to 29, 31 to 36 or 38 to 42.
+    /// The refusal of a number, with the words needed if it is 29; `None` unless 21 to 29, 31, 33 to 36 or 38 to 42.
     pub fn from_number(number: u32, needed: u32) -> Option<Refusal> {
         match REFUSALS.iter().find(|entry| entry.0 == number)?.1 {
             Refusal::RowsTooShort { .. } => Some(Refusal::RowsTooShort { needed }),

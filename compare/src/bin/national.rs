@@ -15,7 +15,8 @@ use std::time::Duration;
 use compare::boundary::Boundary;
 use compare::files;
 use compare::generate::{
-    empty_lines, national, shortest_in, shortest_records, worst_numbers, National, Numbers, Rng, MIB, WORST_STOP_LINES,
+    empty_lines, national, shortest_categories, shortest_in, shortest_records, worst_numbers, National, Numbers, Rng,
+    MIB, USUAL_CATEGORIES, WORST_STOP_LINES,
 };
 use compare::reader::helper_needed;
 
@@ -67,6 +68,10 @@ fn delivery(size: &str) -> Result<[Vec<u8>; 6], Box<dyn Error>> {
         ["bitfeld", mib] => shortest_in(rng, bytes_of(mib)?, 2),
         ["bahnhof", mib] => shortest_in(rng, bytes_of(mib)?, 3),
         ["umsteigb", mib] => shortest_in(rng, bytes_of(mib)?, 4),
+        ["zugart", mib] => shortest_categories(rng, bytes_of(mib)?),
+        ["categories", mib, count] => {
+            national(rng, &National { categories: count.parse()?, ..National::of_bytes(bytes_of(mib)?) })
+        }
         ["worst", mib] => worst_numbers(rng, bytes_of(mib)?, WORST_STOP_LINES),
         ["worst", mib, lines] => worst_numbers(rng, bytes_of(mib)?, lines.parse()?),
         [mib] => national(rng, &National::of_bytes(bytes_of(mib)?)),
@@ -77,7 +82,8 @@ fn delivery(size: &str) -> Result<[Vec<u8>; 6], Box<dyn Error>> {
 }
 
 fn sized(mib: &str, stops: &str, fields: &str, numbers: Numbers) -> Result<National, Box<dyn Error>> {
-    Ok(National { fplan_bytes: bytes_of(mib)?, stops: stops.parse()?, bit_fields: fields.parse()?, numbers })
+    let (stops, bit_fields) = (stops.parse()?, fields.parse()?);
+    Ok(National { fplan_bytes: bytes_of(mib)?, stops, bit_fields, numbers, categories: USUAL_CATEGORIES })
 }
 
 fn bytes_of(mib: &str) -> Result<usize, Box<dyn Error>> {

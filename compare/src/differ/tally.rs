@@ -24,7 +24,7 @@ const ANSWERS: [(&str, &[&str], &[u32]); 12] = [
     ("interchange", &["minutes"], &[21, 26, 27]),
     ("between", &["minutes"], &[21, 27, 38]),
     ("name", &["first", "later"], &[21, 27, 39, 40, 41]),
-    ("walk", &["rows", "not running"], &[21, 22, 23, 24, 25, 29, 31, 32, 33, 34, 35, 36]),
+    ("walk", &["rows", "not running"], &[21, 22, 23, 24, 25, 29, 31, 33, 34, 35, 36]),
     ("run", &RUNS, &[]),
     ("union", &["given"], &[42]),
     ("intersection", &["given"], &[42]),

@@ -18,13 +18,14 @@ pub type Bend = fn(&mut Rng, &mut RawTable) -> Option<()>;
 /// A damage to the words of a table; `None` where they have no place for it.
 pub type Poke = fn(&mut Rng, &mut Vec<u32>) -> Option<()>;
 
-/// Damages that leave a table: for 28, 31 to 36 and 38, and for lookups that take the first match.
+/// Damages that leave a table: for 28, 31, 33 to 36 and 38, and for lookups that take the first match.
 pub const BENDS: &[Bend] = &[
     leg_on_other_bitfield,
     bitfield_renamed,
     bitfield_word,
     bitfield_twice,
     stop_renamed,
+    stop_twice,
     name_elsewhere,
     call_elsewhere,
     record_twice,
@@ -60,6 +61,7 @@ pub const NO_TABLES: &[Bend] = &[
     frequency_over_9999,
     density_0,
     no_such_kind,
+    place_not_below_stops,
     time_over_59999,
     flags_over_15,
     end_past_calls,
@@ -155,8 +157,26 @@ fn name_elsewhere(rng: &mut Rng, table: &mut RawTable) -> Option<()> {
     Some(())
 }
 
+/// The number of one stop for another too: rows show it, and its first interchange record.
+fn stop_twice(rng: &mut Rng, table: &mut RawTable) -> Option<()> {
+    let number = some(rng, &mut table.stops)?[0];
+    some(rng, &mut table.stops)?[0] = number;
+    Some(())
+}
+
+/// A call at another stop of the table.
 fn call_elsewhere(rng: &mut Rng, table: &mut RawTable) -> Option<()> {
-    some_call(rng, table)?[0] = rng.pick(&[0, 9_999_999, 7]);
+    let last = table.stops.len().checked_sub(1)?;
+    let any = rng.index(last + 1);
+    some_call(rng, table)?[0] = rng.pick(&[0, last, any]) as u32;
+    Some(())
+}
+
+/// A place behind the last stop, or what a call held before there were places: the stop's number.
+fn place_not_below_stops(rng: &mut Rng, table: &mut RawTable) -> Option<()> {
+    let stops = table.stops.len() as u32;
+    let number = table.stops.first().map_or(1_000_011, |stop| stop[0]).max(stops);
+    some_call(rng, table)?[0] = rng.pick(&[stops, stops, stops + 1, 3 * stops, number, u32::MAX]);
     Some(())
 }
 

@@ -5,7 +5,7 @@ mod services;
 mod shortest;
 mod worst;
 
-pub use shortest::{empty_lines, shortest_in, shortest_records};
+pub use shortest::{empty_lines, shortest_categories, shortest_in, shortest_records};
 pub use worst::{bucket, worst_numbers, WORST_STOP_LINES};
 
 use std::iter::once;
@@ -14,7 +14,7 @@ use super::numbers::Numbers;
 use super::plan::{bitfield_of, set_bit};
 use super::rng::Rng;
 use crate::columns::{bit_digits, bitfield, category, file, text};
-use services::{Services, CATEGORIES};
+use services::{categories, Services};
 
 pub const MIB: usize = 1_048_576;
 
@@ -32,13 +32,18 @@ pub struct National {
     pub stops: usize,
     pub bit_fields: usize,
     pub numbers: Numbers,
+    pub categories: usize,
 }
+
+/// So many categories an operator lists.
+pub const USUAL_CATEGORIES: usize = 40;
 
 impl National {
     /// FPLAN of so many bytes, the other files in proportion: at 16 MiB 30,000 stops and 20,000 bit fields.
     pub fn of_bytes(fplan_bytes: usize) -> National {
         let share = |most: usize| (most * fplan_bytes / (16 * MIB)).max(10);
-        National { fplan_bytes, stops: share(30_000), bit_fields: share(20_000), numbers: Numbers::Consecutive }
+        let (numbers, categories) = (Numbers::Consecutive, USUAL_CATEGORIES);
+        National { fplan_bytes, stops: share(30_000), bit_fields: share(20_000), numbers, categories }
     }
 }
 
@@ -46,14 +51,15 @@ impl National {
 pub fn national(rng: &mut Rng, size: &National) -> [Vec<u8>; 6] {
     let stops = size.numbers.stops(rng, size.stops);
     let fields = size.numbers.bit_fields(rng, size.bit_fields);
+    let categories = categories(size.categories);
     let own: Vec<u32> = stops.iter().copied().filter(|_| rng.once_in(4)).collect();
     [
         year(),
         bit_field_file(rng, &fields),
         file(&stops.iter().map(|stop| stop_line(rng, *stop)).collect::<Vec<_>>()),
         interchange_file(rng, &own),
-        plan_file(rng, size.fplan_bytes, &Services { stops: &stops, fields: &fields }),
-        category_file(),
+        plan_file(rng, size.fplan_bytes, &Services { stops: &stops, fields: &fields, categories: &categories }),
+        category_file(&categories),
     ]
 }
 
@@ -105,9 +111,9 @@ fn interchange_file(rng: &mut Rng, stops: &[u32]) -> Vec<u8> {
 }
 
 /// All categories, each with a tariff group and its name.
-fn category_file() -> Vec<u8> {
-    let line = |(code, class): &(&str, u32)| format!("{}        {}", category(code, *class, "A"), code);
-    file(&CATEGORIES.iter().map(line).collect::<Vec<_>>())
+fn category_file(categories: &[(String, u32)]) -> Vec<u8> {
+    let line = |(code, class): &(String, u32)| format!("{}        {}", category(code, *class, "A"), code);
+    file(&categories.iter().map(line).collect::<Vec<_>>())
 }
 
 /// As many services as find room, with a comment before every hundredth.

@@ -1,4 +1,4 @@
-//! "Questions" on any words: refusals 21 to 36, and of document 02 38 (No. 1), and 39 to 41 (No. 3).
+//! "Questions" on any words: refusals 21 to 36 without 32, and of document 02 38 (No. 1), and 39 to 41 (No. 3).
 
 use super::bits::{runs_on, BitWords};
 use super::calendar::{day_number, LAST_DAY, MOST_DAYS};
@@ -52,7 +52,8 @@ struct Over {
 
 #[derive(Clone, Copy, Debug)]
 struct Call {
-    stop: u32,
+    /// Of its stop, in records from 0.
+    place: u32,
     arrival: u32,
     departure: u32,
     flags: u32,
@@ -105,18 +106,18 @@ fn table(words: &[u32]) -> Option<Table<'_>> {
         return None;
     }
     let [bitfields, stops, records, classes] = [b, s, u, k].map(|count| count as usize);
-    let services = services(words)?;
+    let services = services(words, words[STOPS_AT])?;
     let table = Table { words, bitfields, stops, records, classes, services };
     // "a class over 13"
     Some(table).filter(|table| table.class_records().all(|record| record[1] <= 13))
 }
 
 /// "the V records do not end exactly at words used": the services from word 7 on, or nothing if they do not fit.
-fn services(words: &[u32]) -> Option<Vec<Service>> {
+fn services(words: &[u32], stops: u32) -> Option<Vec<Service>> {
     let mut rest = &words[words[FIRST_SERVICE_AT] as usize..];
     let mut found = Vec::new();
     for _ in 0..words[SERVICES_AT] {
-        let service = service(rest)?;
+        let service = service(rest, stops)?;
         rest = &rest[rest[SIZE_AT] as usize..];
         found.push(service);
     }
@@ -128,7 +129,7 @@ fn services(words: &[u32]) -> Option<Vec<Service>> {
 }
 
 /// The service at the start of the words, if it stands there whole and keeps the conditions of 21.
-fn service(words: &[u32]) -> Option<Service> {
+fn service(words: &[u32], stops: u32) -> Option<Service> {
     if words.len() < SERVICE_WORDS {
         return None;
     }
@@ -153,7 +154,7 @@ fn service(words: &[u32]) -> Option<Service> {
         days: days.chunks_exact(DAYS_WORDS).map(over).collect(),
         others: others.chunks_exact(EXTRA_WORDS).map(|other| over(&other[1..])).collect(),
     };
-    if in_bounds(&service) {
+    if in_bounds(&service, stops) {
         Some(service)
     } else {
         None
@@ -162,7 +163,7 @@ fn service(words: &[u32]) -> Option<Service> {
 
 fn call(words: &[u32]) -> Call {
     Call {
-        stop: words[0],
+        place: words[0],
         arrival: words[1],
         departure: words[2],
         flags: words[3],
@@ -175,10 +176,11 @@ fn over(words: &[u32]) -> Over {
     Over { given: words[0], from: words[1], to: words[2] }
 }
 
-/// "a time over 59,999, flags over 15; a range end not below c or in wrong order"
-fn in_bounds(service: &Service) -> bool {
+/// "a time over 59,999, flags over 15; a range end not below c or in wrong order"; document 02, No. 10: "21 additionally refuses a place not below S".
+fn in_bounds(service: &Service, stops: u32) -> bool {
     let c = service.calls.len() as u32;
-    let call_ok = |call: &Call| call.arrival <= 59_999 && call.departure <= 59_999 && call.flags <= 15;
+    let call_ok =
+        |call: &Call| call.place < stops && call.arrival <= 59_999 && call.departure <= 59_999 && call.flags <= 15;
     let below = |range: &Over| range.from < c && range.to < c;
     service.calls.iter().all(call_ok)
         && service.categories.iter().chain(&service.days).all(|range| below(range) && range.from < range.to)
@@ -195,10 +197,15 @@ impl<'a> Table<'a> {
         }
     }
 
-    /// The first record of a stop: number, place and length of its name.
-    fn stop_record(&self, stop: u32) -> Option<&'a [u32]> {
+    /// The stops: number, place and length of the name of each.
+    fn stop_records(&self) -> impl Iterator<Item = &'a [u32]> {
         let start = HEADER_WORDS + BIT_FIELD_WORDS * self.bitfields;
-        self.words[start..].chunks_exact(STOP_WORDS).take(self.stops).find(|record| record[0] == stop)
+        self.words[start..].chunks_exact(STOP_WORDS).take(self.stops)
+    }
+
+    /// The first record of a stop.
+    fn stop_record(&self, stop: u32) -> Option<&'a [u32]> {
+        self.stop_records().find(|record| record[0] == stop)
     }
 
     fn stop_known(&self, stop: u32) -> bool {
@@ -371,8 +378,9 @@ fn walked_rows(words: &[u32], service: u32, repeat: u32, d: u32, m: u32, y: u32)
     (first..=last).map(|i| row(&table, service, (first, i, last), late, &mut before)).collect()
 }
 
-/// One call of the stretch: "32 stop unknown, 36 a time needed ... missing or below the needed one before, 33 leaving
-/// leg without exactly one *G", then its row. Open point: first and last are those of the stretch.
+/// One call of the stretch: "36 a time needed ... missing or below the needed one before, 33 leaving leg without exactly one *G", then its row. "Rows still
+/// show the number" (document 02, No. 10), that of the record at the place, and its interchange times go by it; 32 is retired. Open point: first and last are those
+/// of the stretch.
 fn row(
     table: &Table,
     service: &Service,
@@ -381,9 +389,10 @@ fn row(
     before: &mut u32,
 ) -> Result<[u32; ROW_WORDS], u32> {
     let call = service.calls[i];
-    if !table.stop_known(call.stop) {
-        return Err(32);
-    }
+    let stop = match table.stop_records().nth(call.place as usize) {
+        Some(record) => record[0],
+        None => unreachable!("21 refuses a place not below S"),
+    };
     // "First row: arrival 0, flags 1 and 4 cleared. Last: departure 0, flags 2 and 8 cleared, category 0."
     let (mut arrival, mut departure, mut category, mut flags) = (0, 0, 0, call.flags);
     if i == first {
@@ -397,10 +406,10 @@ fn row(
         departure = late + needed_time(call.departure, call.flags & DEPARTURE, before)?;
         category = only_one(&service.categories, i).ok_or(33_u32)?;
     }
-    let [same, other] = table.interchange_times(call.stop);
+    let [same, other] = table.interchange_times(stop);
     // Document 02, No. 5: "Rows grow to 10 in the same way".
     let [high, low] = call.administration;
-    Ok([call.stop, arrival, departure, flags, call.number, high, low, category, same, other])
+    Ok([stop, arrival, departure, flags, call.number, high, low, category, same, other])
 }
 
 /// 36: "a time needed ... missing or below the needed one before". Open point: missing goes by the flags.

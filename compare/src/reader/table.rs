@@ -1,5 +1,7 @@
 //! "Table (32-bit words)": the words of a delivery that passed 1 to 19.
 
+use std::collections::HashMap;
+
 use super::fields::Time;
 use super::load::Delivery;
 use super::service::{Call, Given, Service};
@@ -26,8 +28,10 @@ pub fn words(delivery: &Delivery) -> Vec<u32> {
         words.extend_from_slice(&[category.code, category.class]);
     }
     let first_service = words.len();
+    // Document 02, No. 10: "the place of its stop in the stop section, counted from 0"
+    let places: HashMap<u32, u32> = (0..).zip(&delivery.stops).map(|(place, stop)| (stop.number, place)).collect();
     for service in &delivery.services {
-        words.extend(service_words(service));
+        words.extend(service_words(service, &places));
     }
     // "words used, first day, n, bit fields B, stops S, interchange records U, services V, place of first service"; "The header grows to nine words,
     // the last being the count of categories"
@@ -50,14 +54,14 @@ pub fn words(delivery: &Delivery) -> Vec<u32> {
 /// 11 words. Then calls of 4 ..., *G of 3 ..., *A VE of 3 ..., other of 4"; document 02, No. 5: "Each call grows from 4 to 7 words:
 /// number and the two administration words follow the flags. A blank field repeats the call before; the first call's blanks take
 /// the *Z values." No. 8: "A service record gains a twelfth word, its kind", and the *Z values "may be a *T's".
-fn service_words(service: &Service) -> Vec<u32> {
+fn service_words(service: &Service, places: &HashMap<u32, u32>) -> Vec<u32> {
     let draft = &service.draft;
     let (mut number, mut administration) = (draft.number, draft.administration);
     let mut calls: Vec<u32> = Vec::new();
     for call in &draft.calls {
         number = call.number.unwrap_or(number);
         administration = call.administration.unwrap_or(administration);
-        calls.extend_from_slice(&call_words(call, number, administration));
+        calls.extend_from_slice(&call_words(call, places[&call.stop], number, administration));
     }
     let (mut categories, mut days, mut others) = (Vec::new(), Vec::new(), Vec::new());
     for range in &service.ranges {
@@ -91,11 +95,11 @@ fn service_words(service: &Service) -> Vec<u32> {
 }
 
 /// "calls of 4 (stop, arrival, departure, flags: 1 arrival, 2 departure, 4 no alighting, 8 no boarding; absent time 0)",
-/// and the number and administration that hold there.
-fn call_words(call: &Call, number: u32, [high, low]: [u32; 2]) -> [u32; CALL_WORDS] {
+/// and the number and administration that hold there. Document 02, No. 10: "A call now holds the place of its stop .. in place of the number."
+fn call_words(call: &Call, place: u32, number: u32, [high, low]: [u32; 2]) -> [u32; CALL_WORDS] {
     let (arrival, arrival_flags) = time_words(call.arrival, ARRIVAL, NO_ALIGHTING);
     let (departure, departure_flags) = time_words(call.departure, DEPARTURE, NO_BOARDING);
-    [call.stop, arrival, departure, arrival_flags | departure_flags, number, high, low]
+    [place, arrival, departure, arrival_flags | departure_flags, number, high, low]
 }
 
 fn time_words(time: Time, has: u32, no: u32) -> (u32, u32) {

@@ -5,8 +5,9 @@ use crate::differ::{compare, Tally, OVERSIZED_EVERY};
 use crate::generate::questions::head_of;
 use crate::generate::raw_table::parts;
 use crate::layout::{
-    ADMINISTRATION_AT, CLASSES_AT, CLASS_WORDS, FIRST_SERVICE_AT, KIND_AT, KIND_T, KIND_Z, NUMBER_AT, OFFSET_AT,
-    REPEATS_AT, ROW_ARRIVAL_AT, ROW_CATEGORY_AT, ROW_DEPARTURE_AT, ROW_NUMBER_AT, ROW_WORDS, SERVICES_AT, USED_AT,
+    ADMINISTRATION_AT, CALLS_AT, CALL_WORDS, CLASSES_AT, CLASS_WORDS, FIRST_SERVICE_AT, KIND_AT, KIND_T, KIND_Z,
+    NUMBER_AT, OFFSET_AT, REPEATS_AT, ROW_ARRIVAL_AT, ROW_CATEGORY_AT, ROW_DEPARTURE_AT, ROW_NUMBER_AT, ROW_WORDS,
+    SERVICES_AT, SERVICE_WORDS, STOPS_AT, STOP_WORDS, USED_AT,
 };
 use crate::reader::fields::{column, columns};
 use crate::reader::lines::{lines, skipped, Line};
@@ -94,6 +95,10 @@ slips!(
     UnlistedBefore13,
     UnlistedAfterService,
     ClassLost,
+    NumberInCall,
+    PlaceInWords,
+    PlaceFromOne,
+    PlaceUnchecked,
     Class14Table,
     ArrivingForBoth,
     LastClass,
@@ -194,6 +199,9 @@ impl Boundary for Slip {
                 if number == 4 && file == 5 && line_of(files[4], line).starts_with(b"*T") && column > 26 =>
             {
                 return [4, 5, line, 0, 26]
+            }
+            NumberInCall | PlaceInWords | PlaceFromOne if number == 0 => {
+                self.replace_places(&mut table[..words as usize])
             }
             KindLost | FrequencySwapped | NumberOfFrequency if number == 0 => self.reopen(&mut table[..words as usize]),
             NamesAfterNumbers if number == 39 => {
@@ -511,9 +519,38 @@ impl Slip {
         table.copy_from_slice(&raw.words());
     }
 
+    /// Calls as a slip in No. 10 writes them.
+    fn replace_places(&self, table: &mut [u32]) {
+        let mut raw = parts(table);
+        for call in raw.services.iter_mut().flat_map(|service| &mut service.calls) {
+            call[0] = match self {
+                NumberInCall => raw.stops[call[0] as usize][0],
+                PlaceInWords => call[0] * STOP_WORDS as u32,
+                _ => call[0] + 1,
+            };
+        }
+        table.copy_from_slice(&raw.words());
+    }
+
     /// The words that a slip in 21 takes these for.
     fn seen(&self, table: &[u32]) -> Vec<u32> {
         let mut seen = table.to_vec();
+        if let PlaceUnchecked = self {
+            let stops = table.get(STOPS_AT).copied().unwrap_or(0);
+            for service in 0..table.get(SERVICES_AT).copied().unwrap_or(0).min(1_000) {
+                let head = match head_of(table, service) {
+                    Some(head) => head,
+                    None => break,
+                };
+                let at = (head.as_ptr() as usize - table.as_ptr() as usize) / 4 + SERVICE_WORDS;
+                for call in 0..head[CALLS_AT].min(200) as usize {
+                    if let Some(place) = seen.get_mut(at + CALL_WORDS * call) {
+                        *place = (*place).min(stops.saturating_sub(1));
+                    }
+                }
+            }
+            return seen;
+        }
         if let Class14Table = self {
             let end = table.get(FIRST_SERVICE_AT).copied().unwrap_or(0) as usize;
             let classes = table.get(CLASSES_AT).copied().unwrap_or(0).min(1_000) as usize;

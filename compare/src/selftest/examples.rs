@@ -186,8 +186,8 @@ fn the_trial_week() {
     assert_eq!(table[22..31], [1_000_011, 12, 5, 1_000_022, 30, 4, 1_000_033, 47, 5]);
     assert_eq!(table[31..36], [9_999_999, 2, 3, 4_342_100, 4]);
     assert_eq!(table[36..48], [46, 42, FER, RY_, 0, 0, 4, 1, 1, 0, 1, 0]);
-    assert_eq!(table[48..62], [1_000_011, 0, 480, 2, 42, FER, RY_, 1_000_022, 490, 492, 3, 42, FER, RY_]);
-    assert_eq!(table[62..76], [1_000_033, 510, 515, 3, 42, FER, RY_, 1_000_022, 535, 0, 1, 42, FER, RY_]);
+    assert_eq!(table[48..62], [0, 0, 480, 2, 42, FER, RY_, 1, 490, 492, 3, 42, FER, RY_]);
+    assert_eq!(table[62..76], [2, 510, 515, 3, 42, FER, RY_, 1, 535, 0, 1, 42, FER, RY_]);
     assert_eq!(table[76..82], [4_342_100, 0, 3, 1, 0, 3]);
     assert_eq!(load_in(&files, 81).0, Loaded::Refused { number: 20, file: 0, line: 0, column: 0, needed: 82 });
     assert_eq!(load_in(&files, 81).1, [7; 81]);
@@ -256,6 +256,38 @@ fn questions_on_the_trial_week() {
     assert_eq!(day(&table, 6, 12, 2025, 2), DayAnswer::Refused { number: 28 });
     assert_eq!(day(&table[..81], 6, 12, 2025, 2), DayAnswer::Refused { number: 21 });
     assert_eq!(day(&table, 31, 11, 2025, 1), DayAnswer::Refused { number: 22 });
+}
+
+/// Document 02, No. 10: "A call now holds the place of its stop in the stop section, counted from 0 .. Rows still show the number .. 21 additionally refuses
+/// a place not below S." A row's number and interchange times go by the record at the place, also where words from elsewhere list a number twice.
+#[test]
+fn places() {
+    let table = load_in(&trial_week(), 82).1;
+    let first_rows = |words: &[u32]| {
+        let mut rows = [9; 40];
+        match walk(words, 0, 0, 5, 12, 2025, &mut rows) {
+            Walked::Rows(4) => Ok(rows.chunks(10).map(|row| [row[0], row[8], row[9]]).collect::<Vec<_>>()),
+            Walked::Refused { number, needed: 0 } => Err(number),
+            other => panic!("{:?}", other),
+        }
+    };
+    let changed = |changes: &[(usize, u32)]| {
+        let mut words = table.clone();
+        changes.iter().for_each(|(at, word)| words[*at] = *word);
+        first_rows(&words)
+    };
+    let [alpha, beta, gamma] = [[1_000_011, 2, 3], [1_000_022, 2, 3], [1_000_033, 2, 3]];
+    assert_eq!(first_rows(&table), Ok(vec![alpha, beta, gamma, beta]));
+    assert_eq!(changed(&[(48, 2), (69, 0)]), Ok(vec![gamma, beta, gamma, alpha]));
+    // S is 3; a stop's number, three times a place, and any other are places not below it
+    for place in [3, 4, 6, 1_000_011, u32::MAX] {
+        assert_eq!(changed(&[(48, place)]), Err(21), "{}", place);
+        assert_eq!(changed(&[(69, place)]), Err(21), "{}", place);
+    }
+    // the number of the record at the place, whatever it is, with its own interchange record
+    assert_eq!(changed(&[(22, 7)]), Ok(vec![[7, 2, 3], beta, gamma, beta]));
+    assert_eq!(changed(&[(22, 1_000_022), (31, 1_000_022)]), Ok(vec![beta, beta, [1_000_033, 2, 3], beta]));
+    assert_eq!(changed(&[(22, 9_999_999)]), Ok(vec![[9_999_999, 2, 3], beta, gamma, beta]));
 }
 
 #[test]

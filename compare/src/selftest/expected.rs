@@ -31,7 +31,7 @@ pub fn expected_table(plan: &Plan, sheet: &Sheet, bahnhof: &[u8]) -> Vec<u32> {
     }
     words[FIRST_SERVICE_AT] = words.len() as u32;
     for (s, service) in plan.services.iter().enumerate() {
-        words.extend(expected_service(service, s, sheet));
+        words.extend(expected_service(plan, service, s, sheet));
     }
     words[USED_AT] = words.len() as u32;
     words
@@ -50,13 +50,13 @@ fn expected_stops(plan: &Plan, sheet: &Sheet, bahnhof: &[u8]) -> Vec<u32> {
     words
 }
 
-fn expected_service(service: &Service, s: usize, sheet: &Sheet) -> Vec<u32> {
+fn expected_service(plan: &Plan, service: &Service, s: usize, sheet: &Sheet) -> Vec<u32> {
     let (mut line, mut calls, mut g, mut v, mut a) = (0, Vec::new(), Vec::new(), Vec::new(), Vec::new());
     for (no, row) in (1..).zip(&sheet.files[4]) {
         let range = |i: usize| &service.ranges[i];
         match row.tag {
             Tag::Z(t) | Tag::T(t) if t == s => line = no,
-            Tag::Call(t, i) if t == s => calls.push(call_words(service, i, &row.text)),
+            Tag::Call(t, i) if t == s => calls.push(call_words(plan, service, i, &row.text)),
             Tag::G(t, i) if t == s => g.extend(range_words(range(i))),
             Tag::Ve(t, i) if t == s => v.extend(range_words(range(i))),
             Tag::Other(t, i) if t == s => a.extend(range_words(range(i))),
@@ -87,7 +87,7 @@ pub fn holding(service: &Service, i: usize) -> [u32; 3] {
     [number, packed(&administration[..3]), packed(&administration[3..])]
 }
 
-fn call_words(service: &Service, i: usize, line: &[u8]) -> [u32; CALL_WORDS] {
+fn call_words(plan: &Plan, service: &Service, i: usize, line: &[u8]) -> [u32; CALL_WORDS] {
     let call = &service.calls[i];
     let flag = |holds: bool, value: u32| if holds { value } else { 0 };
     let flags = flag(call.arrival.is_some(), ARRIVAL)
@@ -95,7 +95,8 @@ fn call_words(service: &Service, i: usize, line: &[u8]) -> [u32; CALL_WORDS] {
         + flag(line[29] == b'-', NO_ALIGHTING)
         + flag(line[36] == b'-', NO_BOARDING);
     let [number, high, low] = holding(service, i);
-    [call.stop, call.arrival.unwrap_or(0), call.departure.unwrap_or(0), flags, number, high, low]
+    let place = plan.stops.iter().position(|stop| *stop == call.stop).unwrap() as u32;
+    [place, call.arrival.unwrap_or(0), call.departure.unwrap_or(0), flags, number, high, low]
 }
 
 fn range_words(range: &Range) -> Vec<u32> {

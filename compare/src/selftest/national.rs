@@ -1,10 +1,10 @@
 //! Large deliveries: each is accepted, and is what was wanted.
 
 use crate::generate::{
-    bucket, counted_helper, empty_lines, national, shortest_in, shortest_records, worst_numbers, National, Numbers,
-    Rng, WORST_STOP_LINES,
+    bucket, counted_helper, empty_lines, national, shortest_categories, shortest_in, shortest_records, worst_numbers,
+    National, Numbers, Rng, WORST_STOP_LINES,
 };
-use crate::layout::{BIT_FIELDS_AT, SERVICES_AT, STOPS_AT};
+use crate::layout::{BIT_FIELDS_AT, CLASSES_AT, SERVICES_AT, STOPS_AT};
 use crate::reader::{load, Loaded};
 
 const NUMBERS: [Numbers; 3] = [Numbers::Consecutive, Numbers::EqualEnding, Numbers::Random];
@@ -26,10 +26,12 @@ fn services() {
     let mut rng = Rng::new(1);
     for numbers in NUMBERS {
         for (stops, bit_fields) in [(2, 0), (2, 2), (3, 3), (40, 7), (900, 500), (30_000, 20_000)] {
-            let size = National { fplan_bytes: 300_000, stops, bit_fields, numbers };
+            let categories = rng.pick(&[1, 40, 40, 900, 20_000]);
+            let size = National { fplan_bytes: 300_000, stops, bit_fields, numbers, categories };
             let files = national(&mut rng, &size);
             let table = table_of(&files);
             assert_eq!((table[BIT_FIELDS_AT] as usize, table[STOPS_AT] as usize), (bit_fields, stops));
+            assert_eq!(table[CLASSES_AT] as usize, categories);
             assert!((280_000..=300_000).contains(&files[4].len()), "{}", files[4].len());
         }
     }
@@ -69,6 +71,14 @@ fn shortest_lines() {
 fn shortest_lines_of_a_file() {
     let counts = |file| table_of(&shortest_in(&mut Rng::new(1), 100_000, file))[BIT_FIELDS_AT..=SERVICES_AT].to_vec();
     assert_eq!([2, 3, 4].map(counts), [[961, 0, 1, 0], [0, 7_142, 1, 0], [0, 7_142, 7_142, 0]]);
+}
+
+#[test]
+fn shortest_lines_of_zugart() {
+    for (bytes, categories) in [(0, 0), (100_000, 4_545), (16 * 1_048_576, 762_600)] {
+        let table = table_of(&shortest_categories(&mut Rng::new(1), bytes));
+        assert_eq!((table[CLASSES_AT], table[SERVICES_AT]), (categories, 0));
+    }
 }
 
 /// Each file has as many lines as its map has buckets, and all its numbers are of one of them.

@@ -257,7 +257,7 @@ fn questions() {
         }
     });
     show("questions", &histogram);
-    (21..=38).filter(|number| ![30, 37].contains(number)).for_each(|number| came_often(&histogram, number));
+    (21..=38).filter(|number| ![30, 32, 37].contains(number)).for_each(|number| came_often(&histogram, number));
 }
 
 /// Each condition of 21 in turn, and each damage that keeps a table.

@@ -1,29 +1,30 @@
 -- The course along a stretch, on a day, of a service and of an index, for `search course`. Assumes nothing.
 use mathlib.Core.Path.{_≡_, refl, sym, ap, _∙_}
-use mathlib.Core.List.{List, map}
+use mathlib.Core.List.{List, [], _∷_, map}
 use mathlib.Core.Bool.{Bool, true, false, not}
-use Prim.Native.Nat.{ℕ, _+_, _-_, _*_, _^_, _≤_, _<_}
+use Prim.Native.Nat.{ℕ, zero, suc, _+_, _-_, _*_, _^_, _≤_, _<_}
 use native.Mathlib.Omega.{arith}
-use lib.ListN.{length, getD, take, drop}
+use lib.ListN.{length, getD, take, drop, length-map}
 use lib.Seq.{drop-drop}
 use borrow.Author.Tests.{ne-eqb, le-leb, not-true, not-false}
 use Rattle.base.specs.Lists.{upto, below}
 use Rattle.base.proofs.Laws.{tests}
 use Rattle.timetable.specs.Layout.{mostPeriodDays, serviceHead, callSize}
-use Rattle.timetable.specs.Delivery.{Delivery}
+use Rattle.timetable.specs.Delivery.{Delivery, Service, StopRecord}
 use Rattle.timetable.specs.Legs.{operated, stretches, legCount, operatedLegs}
 use Rattle.timetable.specs.Runs.{hasRun}
 use Rattle.timetable.specs.declared.Opening.{Opening}
-use Rattle.timetable.specs.Table.{calls#, rowsIn, callAt, openingAt, serviceAt, tableOf, recordSound}
-use Rattle.timetable.specs.Questions.{legRefusal, firstRefusal, callsRefusal}
+use Rattle.timetable.specs.Table.{calls#, rowsIn, callAt, openingAt, serviceAt, stopNumberAt, withStop, resolved, tableOf, sizesSound}
+use Rattle.timetable.specs.Questions.{legRefusal, firstRefusal, stretchOf}
 use Rattle.timetable.proofs.Rows.{length-rows, rows-take, rows-drop}
 use Rattle.table.specs.JustTable.{JustTable}
-use Rattle.table.proofs.Says.{record-says}
+use Rattle.table.proofs.Says.{sizes-say, record-sized}
 use Rattle.table.proofs.JustTable.{whole-says}
 use Rattle.lookups.specs.Lookups.{servicePlace}
 use Rattle.lookups.proofs.Services.{service-none, service-is, service-sound}
 use Rattle.legs.specs.Run.{noted, gap}
-use Rattle.rows.specs.Rows.{callsFrom}
+use Rattle.rows.specs.Rows.{callsFault, callsFrom}
+use Rattle.rows.proofs.Calls.{faults-resolved}
 use Rattle.course.specs.Course.{courseBy, stretchCourse, dayCourse, serviceCourse, courseOf}
 use Rattle.course.specs.declared.Course.{Course}
 use Rattle.course.specs.declared.Course.the-variants.{Along, NotRunning, Refused}
@@ -38,28 +39,28 @@ stretch-calls s a n b =
     ∙ rows-take callAt callSize (n + 1) (getD s 6 0 - a) (drop (callSize * a) (drop serviceHead s)) (omega arith)
     ∙ ap (rowsIn callAt callSize (n + 1)) (drop-drop (callSize * a) serviceHead s)
 
-module _ (d : Delivery) (s : List ℕ) (a n number : ℕ) (b : a + n < getD s 6 0) (e : noted number ≡ callsRefusal d (serviceAt s) a n 0 0 (callsFrom s a (n + 1))) where
-  stretch-by : stretchCourse d (serviceAt s) a n ≡ courseBy (noted number) (Along a n)
+module _ (s : List ℕ) (a n number : ℕ) (b : a + n < getD s 6 0) (e : noted number ≡ callsFault (serviceAt s) a n 0 0 (callsFrom s a (n + 1))) where
+  stretch-by : stretchCourse (serviceAt s) a n ≡ courseBy (noted number) (Along a n)
   unfolding stretchCourse
   stretch-by = rw (stretch-calls s a n b, sym e)
 
-  pub stretch-no : (number ≡ 0 → ⊥) → Refused number ≡ stretchCourse d (serviceAt s) a n
+  pub stretch-no : (number ≡ 0 → ⊥) → Refused number ≡ stretchCourse (serviceAt s) a n
   stretch-no z = sym (stretch-by ∙ rw (ne-eqb number 0 z))
 
-  pub stretch-yes : number ≡ 0 → Along a n ≡ stretchCourse d (serviceAt s) a n
+  pub stretch-yes : number ≡ 0 → Along a n ≡ stretchCourse (serviceAt s) a n
   stretch-yes z = sym (stretch-by ∙ rw z)
 
 -- ---- on a day; a, b and c are where the first stretch begins and ends, and where another begins
 
-module _ (s : List ℕ) (e : recordSound s ≡ true) where
+module _ (s : List ℕ) (e : sizesSound s ≡ true) where
   pub head-words : serviceHead ≤ length s
-  head-words = omega (arith, record-says s e .0 .head)
+  head-words = omega (arith, sizes-say s e .head)
 
   pub calls-word : 6 < length s
-  calls-word = omega (arith, record-says s e .0 .head)
+  calls-word = omega (arith, sizes-say s e .head)
 
   pub legs-fit : 1 ≤ getD s 6 0
-  legs-fit = omega (arith, record-says s e .0 .calls-low)
+  legs-fit = omega (arith, sizes-say s e .calls-low)
 
 pub legs-count : (s : List ℕ) → legCount (serviceAt s) ≡ getD s 6 0 - 1
 unfolding serviceAt
@@ -90,7 +91,7 @@ module _ (d : Delivery) (s : List ℕ) (k a : ℕ) (p : a ≡ 0 + gap true (map 
           let two : 2 ≤ stretches false (map (operated (d .fields) (serviceAt s .days) k) (below (getD s 6 0 - 1))) = two-run runs (getD s 6 0 - 1) a p h b q c r g in
           rw (legs, ne-eqb (stretches false (map (operated (d .fields) (serviceAt s .days) k) (below (getD s 6 0 - 1)))) 0 (λ z. absurd (omega arith)), le-leb 2 (stretches false (map (operated (d .fields) (serviceAt s .days) k) (below (getD s 6 0 - 1)))) two)
 
-      pub day-one : getD s 6 0 - 1 ≤ c → (x : Course) → x ≡ stretchCourse d (serviceAt s) a (b - a) → x ≡ dayCourse d (serviceAt s) k
+      pub day-one : getD s 6 0 - 1 ≤ c → (x : Course) → x ≡ stretchCourse (serviceAt s) a (b - a) → x ≡ dayCourse d (serviceAt s) k
       unfolding dayCourse
       day-one g x f = f ∙ sym (rw (legs, one-runs runs (getD s 6 0 - 1) a p h b q c r g, legs-are runs (getD s 6 0 - 1) a p h b q, start-is runs (getD s 6 0 - 1) a p))
 
@@ -116,6 +117,35 @@ module _ (d : Delivery) (s : List ℕ) (r k : ℕ) (o : Opening) (a : o ≡ open
     pub legs-yes : number ≡ 0 → (x : Course) → x ≡ dayCourse d (serviceAt s) k → x ≡ serviceCourse d (serviceAt s) r k
     legs-yes z x g = g ∙ sym (service-by ∙ rw z)
 
+-- ---- a service whose stops are told by their numbers: the same course
+
+take-map : {X Y : Type 0} (f : X → Y) (m : ℕ) (xs : List X) → take m (map f xs) ≡ map f (take m xs)
+take-map f zero xs = refl
+take-map f (suc m) [] = refl
+take-map f (suc m) (x ∷ xs) = rw (take-map f m xs)
+
+drop-map : {X Y : Type 0} (f : X → Y) (m : ℕ) (xs : List X) → drop m (map f xs) ≡ map f (drop m xs)
+drop-map f zero xs = refl
+drop-map f (suc m) [] = refl
+drop-map f (suc m) (x ∷ xs) = drop-map f m xs
+
+module _ (stops : List StopRecord) (s : Service) where
+  pub calls-resolved : (a m : ℕ) → take m (drop a (resolved stops s .calls)) ≡ map (withStop (stopNumberAt stops)) (take m (drop a (s .calls)))
+  unfolding resolved
+  calls-resolved a m = rw (drop-map (withStop (stopNumberAt stops)) a (s .calls), take-map (withStop (stopNumberAt stops)) m (drop a (s .calls)))
+
+  pub count-resolved : legCount (resolved stops s) ≡ legCount s
+  unfolding resolved
+  count-resolved = rw (length-map (s .calls) (withStop (stopNumberAt stops)))
+
+  stretch-resolved : (a n : ℕ) → stretchCourse (resolved stops s) a n ≡ stretchCourse s a n
+  unfolding stretchCourse
+  stretch-resolved a n = rw (calls-resolved a (n + 1), faults-resolved stops s a n 0 0 (take (n + 1) (drop a (s .calls))))
+
+  course-resolved : (d : Delivery) (r k : ℕ) → serviceCourse d (resolved stops s) r k ≡ serviceCourse d s r k
+  unfolding serviceCourse dayCourse resolved
+  course-resolved d r k = rw (length-map (s .calls) (withStop (stopNumberAt stops)), stretch-resolved (stretchOf (operatedLegs (d .fields) s k) .start) (stretchOf (operatedLegs (d .fields) s k) .legs))
+
 -- ---- of an index
 
 module _ (w : List ℕ) (h : JustTable w) where
@@ -132,10 +162,10 @@ module _ (w : List ℕ) (h : JustTable w) where
 
     pub index-yes : i < getD w 6 0 → (s : List ℕ) → s ≡ drop (servicePlace w i) w → (x : Course) → x ≡ serviceCourse (tableOf w) (serviceAt s) r k → x ≡ courseOf (tableOf w) i r k
     unfolding courseOf
-    index-yes b s q x g = g ∙ sym (rw (service-is w h i b, q) refl)
+    index-yes b s q x g = g ∙ sym (rw (service-is w h i b, q) (course-resolved (tableOf w .stops) (serviceAt (drop (servicePlace w i) w)) (tableOf w) r k))
 
-pub index-sound : (w : List ℕ) → JustTable w → (i : ℕ) → i < getD w 6 0 → (s : List ℕ) → s ≡ drop (servicePlace w i) w → recordSound s ≡ true
-index-sound w h i b s q = rw q (service-sound w h i b)
+pub index-sound : (w : List ℕ) → JustTable w → (i : ℕ) → i < getD w 6 0 → (s : List ℕ) → s ≡ drop (servicePlace w i) w → sizesSound s ≡ true
+index-sound w h i b s q = record-sized (getD w 4 0) s (rw q (service-sound w h i b))
 
 pub ruleset course = (tests, stretch-no, stretch-yes, head-words, calls-word, legs-fit, day-idle, day-order, day-within, day-two, day-one, no-run, legs-no, legs-yes)
 

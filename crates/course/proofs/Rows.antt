@@ -13,7 +13,9 @@ use Rattle.base.proofs.Lists.{length-map-upto}
 use Rattle.timetable.specs.Delivery.{Service, Delivery}
 use Rattle.timetable.specs.Legs.{operated, stretches, legCount, operatedLegs}
 use Rattle.timetable.specs.Runs.{hasRun, lateness}
-use Rattle.timetable.specs.Questions.{legRefusal, firstRefusal, idleLegs, leadingLegs, stretchOf, stretchCalls, callsRefusal, stretchJourney, onDay, serviceJourney, journeyBy}
+use Rattle.timetable.specs.Questions.{legRefusal, firstRefusal, idleLegs, leadingLegs, stretchOf, stretchCalls, stretchJourney, onDay, serviceJourney, journeyBy}
+use Rattle.rows.specs.Rows.{callsFault}
+use Rattle.rows.proofs.Calls.{faults-are}
 use Rattle.course.specs.Course.{courseBy, stretchFrom, stretchCourse, legsCourse, dayCourse, serviceCourse, courseOf, indexedCourse, rowsAlong}
 use Rattle.course.specs.declared.Course.{Course}
 use Rattle.course.specs.declared.Course.the-variants.{Along, NotRunning, Refused}
@@ -30,22 +32,22 @@ module _ (d : Delivery) (s : Service) (delay : ℕ) where
   by-stretches false true c = refl
   by-stretches false false c = refl
 
-  legs-journey : (bs : List Bool) → onDay d s delay bs ≡ rowsAlong d s delay (legsCourse d s bs)
+  legs-journey : (bs : List Bool) → onDay d s delay bs ≡ rowsAlong d s delay (legsCourse s bs)
   unfolding stretchCourse
   legs-journey bs =
       ap (λ j. cond (eqb (stretches false bs) 0) (rowsAlong d s delay NotRunning) (cond (leb 2 (stretches false bs)) (rowsAlong d s delay (Refused 35)) j))
-      (by-option (callsRefusal d s (stretchOf bs .start) (stretchOf bs .legs) 0 0 (stretchCalls s (stretchOf bs))) (Along (stretchOf bs .start) (stretchOf bs .legs)))
-      ∙ by-stretches (eqb (stretches false bs) 0) (leb 2 (stretches false bs)) (stretchCourse d s (stretchOf bs .start) (stretchOf bs .legs))
+      (rw (faults-are d s (stretchOf bs .start) (stretchOf bs .legs) 0 0 (stretchCalls s (stretchOf bs))) (by-option (callsFault s (stretchOf bs .start) (stretchOf bs .legs) 0 0 (stretchCalls s (stretchOf bs))) (Along (stretchOf bs .start) (stretchOf bs .legs))))
+      ∙ by-stretches (eqb (stretches false bs) 0) (leb 2 (stretches false bs)) (stretchCourse s (stretchOf bs .start) (stretchOf bs .legs))
 
 pub course-journey : (d : Delivery) (s : Service) (r k : ℕ) → serviceJourney d s r k ≡ rowsAlong d s (lateness (s .opening) r) (serviceCourse d s r k)
 unfolding serviceCourse dayCourse
 course-journey d s r k =
     go (not (hasRun (s .opening) r))
   where
-    inner : journeyBy (firstRefusal (legRefusal d s) (below (legCount s))) (onDay d s (lateness (s .opening) r) (operatedLegs (d .fields) s k)) ≡ rowsAlong d s (lateness (s .opening) r) (courseBy (firstRefusal (legRefusal d s) (below (legCount s))) (legsCourse d s (operatedLegs (d .fields) s k)))
-    inner = ap (journeyBy (firstRefusal (legRefusal d s) (below (legCount s)))) (legs-journey d s (lateness (s .opening) r) (operatedLegs (d .fields) s k)) ∙ by-option d s (lateness (s .opening) r) (firstRefusal (legRefusal d s) (below (legCount s))) (legsCourse d s (operatedLegs (d .fields) s k))
+    inner : journeyBy (firstRefusal (legRefusal d s) (below (legCount s))) (onDay d s (lateness (s .opening) r) (operatedLegs (d .fields) s k)) ≡ rowsAlong d s (lateness (s .opening) r) (courseBy (firstRefusal (legRefusal d s) (below (legCount s))) (legsCourse s (operatedLegs (d .fields) s k)))
+    inner = ap (journeyBy (firstRefusal (legRefusal d s) (below (legCount s)))) (legs-journey d s (lateness (s .opening) r) (operatedLegs (d .fields) s k)) ∙ by-option d s (lateness (s .opening) r) (firstRefusal (legRefusal d s) (below (legCount s))) (legsCourse s (operatedLegs (d .fields) s k))
 
-    go : (t : Bool) → cond t (rowsAlong d s (lateness (s .opening) r) (Refused 25)) (journeyBy (firstRefusal (legRefusal d s) (below (legCount s))) (onDay d s (lateness (s .opening) r) (operatedLegs (d .fields) s k))) ≡ rowsAlong d s (lateness (s .opening) r) (cond t (Refused 25) (courseBy (firstRefusal (legRefusal d s) (below (legCount s))) (legsCourse d s (operatedLegs (d .fields) s k))))
+    go : (t : Bool) → cond t (rowsAlong d s (lateness (s .opening) r) (Refused 25)) (journeyBy (firstRefusal (legRefusal d s) (below (legCount s))) (onDay d s (lateness (s .opening) r) (operatedLegs (d .fields) s k))) ≡ rowsAlong d s (lateness (s .opening) r) (cond t (Refused 25) (courseBy (firstRefusal (legRefusal d s) (below (legCount s))) (legsCourse s (operatedLegs (d .fields) s k))))
     go true = refl
     go false = inner
 
@@ -87,10 +89,10 @@ module _ (a n : ℕ) where
   third false false c e = e
 
   module _ (d : Delivery) (s : Service) where
-    legs-within : (bs : List Bool) → legsCourse d s bs ≡ Along a n → a + n ≤ length bs
+    legs-within : (bs : List Bool) → legsCourse s bs ≡ Along a n → a + n ≤ length bs
     unfolding stretchCourse
     legs-within bs e =
-        let x : Along (stretchOf bs .start) (stretchOf bs .legs) ≡ Along a n = by-none (callsRefusal d s (stretchOf bs .start) (stretchOf bs .legs) 0 0 (stretchCalls s (stretchFrom (stretchOf bs .start) (stretchOf bs .legs)))) (Along (stretchOf bs .start) (stretchOf bs .legs)) (third (eqb (stretches false bs) 0) (leb 2 (stretches false bs)) (stretchCourse d s (stretchOf bs .start) (stretchOf bs .legs)) e) in
+        let x : Along (stretchOf bs .start) (stretchOf bs .legs) ≡ Along a n = by-none (callsFault s (stretchOf bs .start) (stretchOf bs .legs) 0 0 (stretchCalls s (stretchFrom (stretchOf bs .start) (stretchOf bs .legs)))) (Along (stretchOf bs .start) (stretchOf bs .legs)) (third (eqb (stretches false bs) 0) (leb 2 (stretches false bs)) (stretchCourse s (stretchOf bs .start) (stretchOf bs .legs)) e) in
         let p : stretchOf bs .start ≡ a = ap startOf x in
         let q : stretchOf bs .legs ≡ n = ap legsOf x in
         omega (arith, stretch-within bs)
@@ -100,6 +102,6 @@ module _ (a n : ℕ) where
     along-within r k e =
         go (hasRun (s .opening) r) refl e
       where
-        go : (t : Bool) → hasRun (s .opening) r ≡ t → cond (not t) (Refused 25) (courseBy (firstRefusal (legRefusal d s) (below (legCount s))) (legsCourse d s (operatedLegs (d .fields) s k))) ≡ Along a n → (hasRun (s .opening) r ≡ true) × (a + n ≤ legCount s)
+        go : (t : Bool) → hasRun (s .opening) r ≡ t → cond (not t) (Refused 25) (courseBy (firstRefusal (legRefusal d s) (below (legCount s))) (legsCourse s (operatedLegs (d .fields) s k))) ≡ Along a n → (hasRun (s .opening) r ≡ true) × (a + n ≤ legCount s)
         go false q f = apart (cc)
-        go true q f = (q, let g = legs-within (operatedLegs (d .fields) s k) (by-none (firstRefusal (legRefusal d s) (below (legCount s))) (legsCourse d s (operatedLegs (d .fields) s k)) f) in omega (arith, g, length-map-upto (operated (d .fields) (s .days) k) (legCount s) 0))
+        go true q f = (q, let g = legs-within (operatedLegs (d .fields) s k) (by-none (firstRefusal (legRefusal d s) (below (legCount s))) (legsCourse s (operatedLegs (d .fields) s k)) f) in omega (arith, g, length-map-upto (operated (d .fields) (s .days) k) (legCount s) 0))

@@ -10,8 +10,9 @@ use Rattle.base.specs.Lists.{below}
 use Rattle.timetable.specs.Delivery.{Service, Delivery}
 use Rattle.timetable.specs.Legs.{stretches, legCount, operatedLegs}
 use Rattle.timetable.specs.Runs.{hasRun}
-use Rattle.timetable.specs.Questions.{legRefusal, firstRefusal, Stretch, stretchOf, stretchCalls, callsRefusal}
+use Rattle.timetable.specs.Questions.{legRefusal, firstRefusal, Stretch, stretchOf, stretchCalls}
 use Rattle.timetable.specs.Questions.{rowsOf, Journey, refused, idle, rows}
+use Rattle.rows.specs.Rows.{callsFault}
 use Rattle.course.specs.declared.Course.{Course}
 use Rattle.course.specs.declared.Course.the-variants.{Along, NotRunning, Refused}
 
@@ -22,19 +23,19 @@ courseBy (some number) c = Refused number
 abbrev pub stretchFrom : ℕ → ℕ → Stretch
 stretchFrom a n = record { start = a; legs = n }
 
--- along the stretch from call a on with n legs: 32, 36, 33
-unfoldable pub stretchCourse : Delivery → Service → ℕ → ℕ → Course
-stretchCourse d s a n = courseBy (callsRefusal d s a n 0 0 (stretchCalls s (stretchFrom a n))) (Along a n)
+-- along the stretch from call a on with n legs: 36, 33
+unfoldable pub stretchCourse : Service → ℕ → ℕ → Course
+stretchCourse s a n = courseBy (callsFault s a n 0 0 (stretchCalls s (stretchFrom a n))) (Along a n)
 
 -- where these legs are operated: "No leg operated: "not running" .. 35 two stretches."
-abbrev pub legsCourse : Delivery → Service → List Bool → Course
-legsCourse d s bs =
+abbrev pub legsCourse : Service → List Bool → Course
+legsCourse s bs =
     cond (eqb (stretches false bs) 0) NotRunning
-    (cond (leb 2 (stretches false bs)) (Refused 35) (stretchCourse d s (stretchOf bs .start) (stretchOf bs .legs)))
+    (cond (leb 2 (stretches false bs)) (Refused 35) (stretchCourse s (stretchOf bs .start) (stretchOf bs .legs)))
 
 -- on day k of the period
 unfoldable pub dayCourse : Delivery → Service → ℕ → Course
-dayCourse d s k = legsCourse d s (operatedLegs (d .fields) s k)
+dayCourse d s k = legsCourse s (operatedLegs (d .fields) s k)
 
 -- of repeat r: 25, then 34 and 31 leg by leg
 unfoldable pub serviceCourse : Delivery → Service → ℕ → ℕ → Course

@@ -6,7 +6,7 @@ ghost use mathlib.Core.Path.{_≡_};
 ghost use mathlib.Core.Bool.{true};
 ghost use Prim.Native.Nat.{_+_, _<_};
 ghost use Rattle.timetable.specs.Layout.{mostPeriodDays};
-ghost use Rattle.timetable.specs.Table.{calls#, periodDays, serviceAt, tableOf, recordSound};
+ghost use Rattle.timetable.specs.Table.{calls#, periodDays, serviceAt, tableOf, sizesSound};
 ghost use Rattle.table.specs.JustTable.{JustTable};
 ghost use Rattle.course.specs.Course.{stretchCourse, dayCourse, serviceCourse, courseOf};
 
@@ -31,7 +31,7 @@ pub fn course_of(w: &[u32], service: u32, repeat: u32, k: u32) -> Course
 // Of the service at the front of `s`: 25 no such run, 34 and 31 of its legs.
 fn service_course(w: &[u32], s: &[u32], repeat: u32, k: u32) -> Course
     requires { ⌜ JustTable (now w) × (k < mostPeriodDays) ⌝ }
-    requires { ⌜ recordSound (now s) ≡ true ⌝ }
+    requires { ⌜ sizesSound (now s) ≡ true ⌝ }
     ensures { λ r. ⌜ r ≡ serviceCourse (tableOf (now (w .entry))) (serviceAt (now (s .entry))) repeat k ⌝ }
 {
     if !runs::has_run(table::opening_at(s), repeat) {
@@ -47,7 +47,7 @@ fn service_course(w: &[u32], s: &[u32], repeat: u32, k: u32) -> Course
 // On day k: "not running" where no leg is operated, 35 two stretches.
 fn day_course(w: &[u32], s: &[u32], k: u32) -> Course
     requires { ⌜ JustTable (now w) × (k < mostPeriodDays) ⌝ }
-    requires { ⌜ recordSound (now s) ≡ true ⌝ }
+    requires { ⌜ sizesSound (now s) ≡ true ⌝ }
     ensures { λ r. ⌜ r ≡ dayCourse (tableOf (now (w .entry))) (serviceAt (now (s .entry))) k ⌝ }
 {
     let legs = s[CALLS_AT] - 1;
@@ -60,17 +60,16 @@ fn day_course(w: &[u32], s: &[u32], k: u32) -> Course
     if again < legs {
         return Course::Refused(35);
     }
-    stretch_course(w, s, start, end - start)
+    stretch_course(s, start, end - start)
 }
 
-// Along the stretch from call `start` on with so many legs: 32, 36 and 33 of its calls.
-fn stretch_course(w: &[u32], s: &[u32], start: u32, legs: u32) -> Course
-    requires { ⌜ JustTable (now w) ⌝ }
-    requires { ⌜ recordSound (now s) ≡ true ⌝ }
+// Along the stretch from call `start` on with so many legs: 36 and 33 of its calls.
+fn stretch_course(s: &[u32], start: u32, legs: u32) -> Course
+    requires { ⌜ sizesSound (now s) ≡ true ⌝ }
     requires { ⌜ start + legs < calls# (now s) ⌝ }
-    ensures { λ r. ⌜ r ≡ stretchCourse (tableOf (now (w .entry))) (serviceAt (now (s .entry))) start legs ⌝ }
+    ensures { λ r. ⌜ r ≡ stretchCourse (serviceAt (now (s .entry))) start legs ⌝ }
 {
-    let number = rows::calls_refusal(w, s, start, legs);
+    let number = rows::calls_refusal(s, start, legs);
     if number != 0 {
         return Course::Refused(number);
     }

@@ -1,9 +1,11 @@
 pub mod Naming
 pub mod Classing
+pub mod Placing
 pub mod Computing
 pub mod Rows
 pub mod Trial
 pub mod Names
+pub mod Places
 pub mod Dial
 pub mod Classes
 pub mod Edges

@@ -3,3 +3,4 @@ pub mod Rows
 pub mod Names
 pub mod Classes
 pub mod Edges
+pub mod Places

@@ -15,10 +15,10 @@ use Rattle.base.proofs.Loops.{upto-next, upto-none}
 use Rattle.timetable.specs.Delivery.{DayRange, Delivery}
 use Rattle.timetable.specs.Offences.{_<|>_}
 use Rattle.timetable.specs.Legs.{covering, operated}
-use Rattle.timetable.specs.Table.{rowsIn, dayAt, dayPlace, serviceAt, recordSound}
+use Rattle.timetable.specs.Table.{rowsIn, dayAt, dayPlace, serviceAt, sizesSound}
 use Rattle.timetable.specs.Questions.{legRefusal, firstRefusal}
 use Rattle.table.specs.JustTable.{recordEnd}
-use Rattle.table.proofs.Says.{record-says}
+use Rattle.table.proofs.Says.{sizes-say}
 use Rattle.table.proofs.Records.{rest-from}
 use Rattle.cover.specs.Cover.{onceIn}
 use Rattle.cover.proofs.Rows.{covering-rows}
@@ -26,12 +26,12 @@ use Rattle.legs.specs.Run.{noted, rangeKnown, rangeRuns, gap}
 
 -- ---- the words of the record
 
-module _ (s : List ℕ) (e : recordSound s ≡ true) where
+module _ (s : List ℕ) (e : sizesSound s ≡ true) where
   pub record-ends : recordEnd s ≤ length s
-  record-ends = record-says s e .0 .inside
+  record-ends = sizes-say s e .inside
 
   pub days-word : 8 < length s
-  days-word = omega (arith, record-says s e .0 .head)
+  days-word = omega (arith, sizes-say s e .head)
 
   module _ (p : ℕ) (q : p ≡ dayPlace s) where
     pub days-within : p ≤ length s

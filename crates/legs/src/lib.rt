@@ -10,7 +10,7 @@ ghost use lib.ListN.{length, drop};
 ghost use Rattle.base.specs.Lists.{every, some-of, upto, below};
 ghost use Rattle.timetable.specs.Layout.{daySize, mostPeriodDays};
 ghost use Rattle.timetable.specs.Legs.{operated};
-ghost use Rattle.timetable.specs.Table.{rowsIn, dayAt, dayPlace, serviceAt, tableOf, recordSound};
+ghost use Rattle.timetable.specs.Table.{rowsIn, dayAt, dayPlace, serviceAt, tableOf, sizesSound};
 ghost use Rattle.timetable.specs.Questions.{legRefusal, firstRefusal};
 ghost use Rattle.table.specs.JustTable.{JustTable};
 ghost use Rattle.legs.specs.Run.{noted, rangeKnown, rangeRuns, gap};
@@ -20,7 +20,7 @@ ghost use Rattle.legs.specs.Run.{noted, rangeKnown, rangeRuns, gap};
 // What the first refused one of the legs is refused for; 0 for none.
 pub fn legs_refusal(w: &[u32], s: &[u32], legs: u32) -> u32
     requires { ⌜ JustTable (now w) ⌝ }
-    requires { ⌜ recordSound (now s) ≡ true ⌝ }
+    requires { ⌜ sizesSound (now s) ≡ true ⌝ }
     ensures { λ r. ⌜ noted r ≡ firstRefusal (legRefusal (tableOf (now (w .entry))) (serviceAt (now (s .entry)))) (below legs) ⌝ }
 {
     let mut leg: u32 = 0;
@@ -37,7 +37,7 @@ pub fn legs_refusal(w: &[u32], s: &[u32], legs: u32) -> u32
 // What a leg is refused for: 34 not exactly one *A VE, 31 its bit field unknown; 0 for nothing.
 fn leg_refusal(w: &[u32], s: &[u32], leg: u32) -> u32
     requires { ⌜ JustTable (now w) ⌝ }
-    requires { ⌜ recordSound (now s) ≡ true ⌝ }
+    requires { ⌜ sizesSound (now s) ≡ true ⌝ }
     ensures { λ r. ⌜ noted r ≡ legRefusal (tableOf (now (w .entry))) (serviceAt (now (s .entry))) leg ⌝ }
 {
     let v = day_words(s);
@@ -98,7 +98,7 @@ fn range_known(w: &[u32], field: u32, from: u32, to: u32, leg: u32) -> bool
 // The first leg from one on, below `legs`, that is operated on day k of the period, or (`on` false) that is not; `legs` where none is.
 pub fn next_leg(w: &[u32], s: &[u32], k: u32, from: u32, legs: u32, on: bool) -> u32
     requires { ⌜ JustTable (now w) × (k < mostPeriodDays) ⌝ }
-    requires { ⌜ recordSound (now s) ≡ true ⌝ }
+    requires { ⌜ sizesSound (now s) ≡ true ⌝ }
     ensures { λ r. ⌜ r ≡ from + gap on (map (operated (tableOf (now (w .entry)) .fields) (serviceAt (now (s .entry)) .days) k) (upto (legs - from) from)) ⌝ }
 {
     let mut leg = from;
@@ -114,7 +114,7 @@ pub fn next_leg(w: &[u32], s: &[u32], k: u32, from: u32, legs: u32, on: bool) ->
 // Whether a leg is operated on day k of the period.
 fn leg_runs(w: &[u32], s: &[u32], leg: u32, k: u32) -> bool
     requires { ⌜ JustTable (now w) × (k < mostPeriodDays) ⌝ }
-    requires { ⌜ recordSound (now s) ≡ true ⌝ }
+    requires { ⌜ sizesSound (now s) ≡ true ⌝ }
     ensures { λ r. ⌜ r ≡ operated (tableOf (now (w .entry)) .fields) (serviceAt (now (s .entry)) .days) k leg ⌝ }
 {
     ranges_run(w, day_words(s), s[DAYS_AT], leg, k)
@@ -164,7 +164,7 @@ fn range_runs(w: &[u32], field: u32, from: u32, to: u32, leg: u32, k: u32) -> bo
 
 // The words from the first operating-day range of a service on.
 fn day_words(s: &[u32]) -> &[u32]
-    requires { ⌜ recordSound (now s) ≡ true ⌝ }
+    requires { ⌜ sizesSound (now s) ≡ true ⌝ }
     ensures { λ r. ⌜ now r ≡ drop (dayPlace (now (s .entry))) (now (s .entry)) ⌝ }
 {
     &s[table::day_place(s)..]

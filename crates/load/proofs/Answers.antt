@@ -1,5 +1,5 @@
--- What `load` answers and leaves, for `search refusing` and `search loading`: n is the file that is too long, r the room for the maps, d what the checks
--- say of the files, t the table and h the helper words lent. Assumes nothing.
+-- What `load` and `load_mapped` answer and leave, for `search refusing` and `search loading`: n is the file that is too long, r the room for the maps, d
+-- what the checks say of the files, t the table and h the helper words lent. Assumes nothing.
 use mathlib.Core.Path.{_≡_, refl, sym, ap, _∙_}
 use mathlib.Core.List.{List, _++_}
 use mathlib.Core.Bool.{true}
@@ -18,14 +18,15 @@ use Rattle.timetable.specs.Files.{periodIn, bitFieldsIn, stopsIn, classesIn}
 use Rattle.timetable.specs.Service.{blocks}
 use Rattle.timetable.specs.Checks.{headFirst}
 use Rattle.timetable.specs.Table.{tableWords}
-use Rattle.timetable.specs.Load.{Where, delivered, lengthOffence, contentOffence, onto, helperNeeded, refusedOr, shortOr, loaded, written, helped}
+use Rattle.timetable.specs.Load.{Where, delivered, lengthOffence, contentOffence, onto, helperNeeded, writtenBy, loaded, written, helped}
 use Rattle.timetable.specs.declared.Offence.{Offence}
+use Rattle.timetable.specs.declared.Loaded.{Loaded}
 use Rattle.timetable.specs.declared.Loaded.the-variants.{Accepted, Refused as LoadRefused}
 use Rattle.plan.specs.Services.{withinLimits}
 use Rattle.plan.proofs.Within.{head-none, plan-within}
 use Rattle.table_words.specs.Words.{headerWords, bodyWords}
 use Rattle.table_words.specs.declared.Header.{Header}
-use Rattle.load.specs.Delivered.{longIn, headerOf, deliveredBy}
+use Rattle.load.specs.Delivered.{longIn, headerOf, deliveredBy, answered, left}
 use Rattle.load.specs.Helper.{roomOf}
 use Rattle.load.specs.declared.Room.{Room}
 use Rattle.load.specs.declared.Delivered.{Delivered}
@@ -85,73 +86,94 @@ module _ (e b s u p z : List ℕ) (n : ℕ) (k : n ≡ longIn (length e) (length
       unfolding helped onto
       zeros-left h′ v = v ∙ rw (none-too-long e b s u p z n k y, ← words-are, le-ltb (length h) (r .words) l, length-replicate {A = ℕ} (r .words) 0) refl
 
-      later : (room : ℕ) → loaded files room (length h) ≡ refusedOr (contentOffence files) (shortOr 20 room (length (tableWords whole)) (Accepted (length (tableWords whole))))
-      unfolding loaded
+      -- ---- past both: a is what is answered, t′ the table left
+      later : (room : ℕ) → loaded files room (length h) ≡ answered files room
+      unfolding loaded answered
       later room = rw (none-too-long e b s u p z n k y, ← words-are, le-ltb (length h) (r .words) l) refl
 
-      module _ (d : Delivered) (v : d ≡ deliveredBy (contentOffence files) (headerOf whole)) where
-        -- ---- an offence
+      module _ (t : List ℕ) where
+        pub past-both : (a : Loaded) → a ≡ answered files (length t) → a ≡ loaded files (length t) (length h)
+        past-both a v = v ∙ sym (later (length t))
 
-        module _ (file : ℕ) (o : Offence) (x : d ≡ Refused file o) where
-          offence-is : contentOffence files ≡ some (record { file = file; offence = o })
-          offence-is = go (contentOffence files) (sym v ∙ x)
-            where
-              go : (w : Option Where) → deliveredBy w (headerOf whole) ≡ Refused file o → w ≡ some (record { file = file; offence = o })
-              go none v = apart (cc)
-              go (some w) v = let a : w .file ≡ file = cc in let c : w .offence ≡ o = cc in rw (← a, ← c) refl
+        pub past-table : (t′ : List ℕ) → t′ ≡ left files t → t′ ≡ written files t (length h)
+        unfolding written left
+        past-table t′ v = v ∙ ap (λ (a : Loaded). writtenBy a (tableWords whole) t) (sym (later (length t)))
 
-          pub refused : (t : List ℕ) → LoadRefused (o .number) file (o .line) (o .column) 0 ≡ loaded files (length t) (length h)
-          refused t = rw (later (length t), offence-is) refl
+pub ruleset refusing = (tests, long-refused, long-table, long-helper, words-fit, few-refused, few-table, few-helper, zeros-left, past-both, past-table)
 
-          pub left : (t : List ℕ) → t ≡ written files t (length h)
-          unfolding written
-          left t = rw (← refused t) refl
+-- ---- past both, for `search loading`
 
-        -- ---- none: g is the header
+module _ (e b s u p z : List ℕ) (d : Delivered)
+    (v : d ≡ deliveredBy (contentOffence (filesOf e b s u p z)) (headerOf (delivered (filesOf e b s u p z)))) where
+  abbrev these : Files
+  these = filesOf e b s u p z
 
-        module _ (g : Header) (x : d ≡ Holds g) where
-          clean : (contentOffence files ≡ none) × (headerOf whole ≡ g)
-          clean = go (contentOffence files) (sym v ∙ x)
-            where
-              go : (w : Option Where) → deliveredBy w (headerOf whole) ≡ Holds g → (w ≡ none) × (headerOf whole ≡ g)
-              go none v = (refl, cc)
-              go (some w) v = apart (cc)
+  abbrev held : Delivery
+  held = delivered these
 
-          pub none-stray : headFirst (linesOf p) ≡ none
-          none-stray = head-none (bitFieldsIn b) (stopsIn s) (classesIn z) (periodIn (linesOf e) .days) (linesOf p) (plan-none e b s u p z (clean .0))
+  -- ---- an offence
 
-          pub none-over : withinLimits (blocks (linesOf p)) ≡ true
-          none-over = plan-within (bitFieldsIn b) (stopsIn s) (classesIn z) (periodIn (linesOf e) .days) (linesOf p) (plan-none e b s u p z (clean .0))
+  module _ (file : ℕ) (o : Offence) (y : d ≡ Refused file o) where
+    offence-is : contentOffence these ≡ some (record { file = file; offence = o })
+    offence-is = go (contentOffence these) (sym v ∙ y)
+      where
+        go : (w : Option Where) → deliveredBy w (headerOf held) ≡ Refused file o → w ≡ some (record { file = file; offence = o })
+        go none v = apart (cc)
+        go (some w) v = let a : w .file ≡ file = cc in let c : w .offence ≡ o = cc in rw (← a, ← c) refl
 
-          words-known : g .words ≡ headerSize + length (bodyWords b s u z p)
-          words-known = ap (λ (x : Header). x .words) (sym (clean .1)) ∙ words-needed e b s u p z
+    pub refused : (t : List ℕ) → LoadRefused (o .number) file (o .line) (o .column) 0 ≡ answered these (length t)
+    unfolding answered
+    refused t = rw offence-is refl
 
-          size-is : length (tableWords whole) ≡ g .words
-          size-is = words-used e b s u p z ∙ ap (λ (x : Header). x .words) (clean .1)
+    pub stays : (t : List ℕ) → t ≡ left these t
+    unfolding left
+    stays t = rw (← refused t) refl
 
-          module _ (t : List ℕ) where
-            -- 20
-            pub too-short : length t < g .words → LoadRefused 20 0 0 0 (g .words) ≡ loaded files (length t) (length h)
-            too-short m = rw (later (length t), clean .0, size-is, lt-ltb (length t) (g .words) m) refl
+  -- ---- none: g is the header
 
-            pub left-alone : length t < g .words → t ≡ written files t (length h)
-            unfolding written
-            left-alone m = rw (← too-short m) refl
+  module _ (g : Header) (y : d ≡ Holds g) where
+    clean : (contentOffence these ≡ none) × (headerOf held ≡ g)
+    clean = go (contentOffence these) (sym v ∙ y)
+      where
+        go : (w : Option Where) → deliveredBy w (headerOf held) ≡ Holds g → (w ≡ none) × (headerOf held ≡ g)
+        go none v = (refl, cc)
+        go (some w) v = apart (cc)
 
-            -- room for all
-            module _ (m : g .words ≤ length t) where
-              pub room-enough : headerSize + length (bodyWords b s u z p) ≤ length t
-              room-enough = omega (arith, words-known)
+    pub none-stray : headFirst (linesOf p) ≡ none
+    none-stray = head-none (bitFieldsIn b) (stopsIn s) (classesIn z) (periodIn (linesOf e) .days) (linesOf p) (plan-none e b s u p z (clean .0))
 
-              pub accepted : Accepted (g .words) ≡ loaded files (length t) (length h)
-              accepted = rw (later (length t), clean .0, size-is, le-ltb (length t) (g .words) m) refl
+    pub none-over : withinLimits (blocks (linesOf p)) ≡ true
+    none-over = plan-within (bitFieldsIn b) (stopsIn s) (classesIn z) (periodIn (linesOf e) .days) (linesOf p) (plan-none e b s u p z (clean .0))
 
-              pub filled : (t′ : List ℕ) → t′ ≡ write t 0 (headerWords g ++ bodyWords b s u z p) → t′ ≡ written files t (length h)
-              unfolding written onto
-              filled t′ v =
-                  let w : headerWords g ++ bodyWords b s u z p ≡ tableWords whole = sym (table-is e b s u p z ∙ ap (λ (x : Header). headerWords x ++ bodyWords b s u z p) (clean .1)) in
-                  v ∙ rw (← accepted, w) (write-front t (tableWords whole))
+    words-known : g .words ≡ headerSize + length (bodyWords b s u z p)
+    words-known = ap (λ (x : Header). x .words) (sym (clean .1)) ∙ words-needed e b s u p z
 
-pub ruleset refusing = (tests, long-refused, long-table, long-helper, words-fit, few-refused, few-table, few-helper, zeros-left)
+    size-is : length (tableWords held) ≡ g .words
+    size-is = words-used e b s u p z ∙ ap (λ (x : Header). x .words) (clean .1)
 
-pub ruleset loading = (tests, refused, left, too-short, left-alone, room-enough, accepted, filled, zeros-left)
+    module _ (t : List ℕ) where
+      -- 20
+      pub too-short : length t < g .words → LoadRefused 20 0 0 0 (g .words) ≡ answered these (length t)
+      unfolding answered
+      too-short m = rw (clean .0, size-is, lt-ltb (length t) (g .words) m) refl
+
+      pub left-alone : length t < g .words → t ≡ left these t
+      unfolding left
+      left-alone m = rw (← too-short m) refl
+
+      -- room for all
+      module _ (m : g .words ≤ length t) where
+        pub room-enough : headerSize + length (bodyWords b s u z p) ≤ length t
+        room-enough = omega (arith, words-known)
+
+        pub accepted : Accepted (g .words) ≡ answered these (length t)
+        unfolding answered
+        accepted = rw (clean .0, size-is, le-ltb (length t) (g .words) m) refl
+
+        pub filled : (t′ : List ℕ) → t′ ≡ write t 0 (headerWords g ++ bodyWords b s u z p) → t′ ≡ left these t
+        unfolding left onto
+        filled t′ v =
+            let w : headerWords g ++ bodyWords b s u z p ≡ tableWords held = sym (table-is e b s u p z ∙ ap (λ (x : Header). headerWords x ++ bodyWords b s u z p) (clean .1)) in
+            v ∙ rw (← accepted, w) (write-front t (tableWords held))
+
+pub ruleset loading = (tests, refused, stays, too-short, left-alone, room-enough, accepted, filled)

@@ -1,23 +1,27 @@
 -- The helper words: their room, and the parts of them that the maps and the index take. Assumes nothing.
 use mathlib.Core.Path.{_≡_, refl, sym, ap, subst, _∙_}
 use mathlib.Core.List.{List, _++_, append-nil}
-use Prim.Native.Nat.{ℕ, _+_, _*_, _-_, _≤_, _<_}
+use Prim.Native.Nat.{ℕ, _+_, _*_, _-_, _^_, _≤_, _<_}
 use native.Mathlib.Nat.{sub-zero}
 use native.Mathlib.Omega.{arith}
 use lib.ListN.{length, take, drop, replicate, length-replicate, length-drop, drop-of-length-le, replicate-append-replicate}
 use lib.Seq.{length-take-le, length-front, take-all, take-at, drop-at, take-take, take-add, drop-drop, take-append-le}
 use borrow.Rule.Slice.PartMut.{same-len-mid, take-put, drop-put}
-use Rattle.base.proofs.Laws.{tests}
+use Rattle.base.proofs.Laws.{apart, tests}
 use Rattle.lines.specs.Lines.{linesOf}
 use Rattle.lines.proofs.Laws.{lines-le}
 use Rattle.timetable.specs.Layout.{helperHead, helperLine, mostFileBytes}
 use Rattle.timetable.specs.declared.Checked.{Checked}
-use Rattle.timetable.specs.declared.Checked.the-variants.{Holds}
+use Rattle.timetable.specs.declared.Checked.the-variants.{Holds, Refused}
 use Rattle.sections.specs.SectionMap.{MapOf, Lent, MapAfter}
 use Rattle.sections.specs.ClassIndex.{IndexOf, ClassesAfter}
 use Rattle.sections.specs.declared.Section.the-variants.{BitFields, Stops}
 use Rattle.reading.specs.Maps.{FieldMap, StopMap, ClassIndex}
-use Rattle.load.specs.Helper.{Short, roomOf, Emptied, LentAt, IndexLent, FieldsAfter, StopsAfter, IndexAfter}
+use Rattle.table_words.specs.declared.Header.{Header}
+use Rattle.load.specs.Delivered.{refusedIn}
+use Rattle.load.specs.Helper.{Short, roomOf, Emptied, LentAt, IndexLent, FieldsAfter, StopsAfter, IndexAfter, StopsStand}
+use Rattle.load.specs.declared.Delivered.{Delivered}
+use Rattle.load.specs.declared.Delivered.the-variants.{Holds as AllHold}
 use Rattle.load.specs.declared.Room.{Room}
 
 -- ---- the room
@@ -267,6 +271,38 @@ module _ (e b s u p z : List ℕ) (r : Room) (m : List ℕ) (h : Short e b s u p
           stops-still k j g =
               let i = maps-inside in let i₂ = stops-inside in
               subst (StopMap s) (sym (sym (middle m₄ (r .fields) (r .stops) (omega arith)) ∙ ap (drop (r .fields)) maps-same ∙ middle m₂ (r .fields) (r .stops) (omega arith))) (c .held k j g)
+
+          -- so the map of BAHNHOF is there when all is checked, whatever is answered
+          pub stops-stand : (k j : ℕ) → y ≡ Holds k j → (o : Delivered) → StopsStand s (r .fields) (r .stops) o m₄
+          stops-stand k j g o = record {
+            inside = λ _ _. omega (arith, maps-inside);
+            small = λ _ _. omega (arith, stops-inside, size₂, small);
+            held = λ _ _. stops-still k j g;
+          }
+
+-- a delivery that is refused asks for no map
+pub refused-stand : (s : List ℕ) (at words file : ℕ) (x : Checked) (d : Delivered) (m : List ℕ) → d ≡ refusedIn file x → StopsStand s at words d m
+refused-stand s at words file x d m e = record { inside = λ h w. never x h (sym e ∙ w); small = λ h w. never x h (sym e ∙ w); held = λ h w. never x h (sym e ∙ w) }
+  where
+    never : {X : Type 0} (x : Checked) (h : Header) → refusedIn file x ≡ AllHold h → X
+    never (Refused o) h w = apart (cc)
+    never (Holds a b) h w = apart (cc)
+
+-- what stands, for `search standing`: the part of m that the table is written by
+module _ (s : List ℕ) (at words : ℕ) (d : Delivered) (m : List ℕ) (k : StopsStand s at words d m) (g : Header) (y : d ≡ AllHold g) where
+  pub stand-inside : at + words ≤ length m
+  stand-inside = k .inside g y
+
+  pub stand-fits : at + words < 2 ^ 64
+  stand-fits = omega (arith, k .small g y)
+
+  pub stand-bytes : at * 4 < 2 ^ 64
+  stand-bytes = omega (arith, k .small g y)
+
+  pub stand-map : StopMap s (take (at + words - at) (drop at m))
+  stand-map = map-part s at words m (k .held g y)
+
+pub ruleset standing = (tests, stand-inside, stand-fits, stand-bytes, stand-map)
 
 -- ---- lent, used and given back: h is lent, h₁ cleared
 

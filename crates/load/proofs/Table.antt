@@ -14,7 +14,8 @@ use Rattle.timetable.specs.Load.{delivered}
 use Rattle.sections.specs.declared.Section.the-variants.{BitFields, Stops, Interchanges, Classes}
 use Rattle.section_words.specs.Words.{sectionWords}
 use Rattle.section_words.proofs.Words.{words-fields, words-stops, words-interchanges, words-classes, length-fields, length-stops, length-interchanges, length-classes}
-use Rattle.plan.specs.Services.{blockWords}
+use Rattle.plan.specs.Services.{blockWords, placedWords}
+use Rattle.plan.proofs.Putting.{placed-size}
 use Rattle.table_words.specs.Words.{headerWords, sectionsWords, bodyWords}
 use Rattle.table_words.specs.declared.Header.{Header}
 use Rattle.load.specs.Delivered.{headerBy, headerOf}
@@ -30,12 +31,12 @@ module _ (e b s u p z : List ℕ) where
   abbrev whole : Delivery
   whole = delivered (filesOf e b s u p z)
 
-  -- the words of FPLAN
+  -- the words of FPLAN, as they were counted
   abbrev plan : List ℕ
   plan = blockWords (blocks (linesOf p))
 
   sections-are : sections whole ≡ bodyWords b s u z p
-  unfolding delivered blockWords sectionsWords
+  unfolding delivered placedWords sectionsWords
   sections-are = rw (← words-fields (linesOf b), ← words-stops (linesOf s), ← words-interchanges (linesOf u), ← words-classes (linesOf z), append-assoc, append-assoc, append-assoc) refl
 
   body-length : headerSize + length (bodyWords b s u z p) ≡ firstService (length (bitFieldsIn b)) (length (stopsIn s)) (length (interchangesIn u)) (length (classesIn z)) + length plan
@@ -47,7 +48,8 @@ module _ (e b s u p z : List ℕ) where
         length-stops (linesOf s),
         length-interchanges (linesOf u),
         length-classes (linesOf z),
-        length-append (sectionsWords b s u z) plan,
+        length-append (sectionsWords b s u z) (placedWords (stopsIn s) (blocks (linesOf p))),
+        placed-size (stopsIn s) (blocks (linesOf p)),
         length-append (sectionWords BitFields (linesOf b)) (sectionWords Stops (linesOf s) ++ (sectionWords Interchanges (linesOf u) ++ sectionWords Classes (linesOf z))),
         length-append (sectionWords Stops (linesOf s)) (sectionWords Interchanges (linesOf u) ++ sectionWords Classes (linesOf z)),
         length-append (sectionWords Interchanges (linesOf u)) (sectionWords Classes (linesOf z)),

@@ -1,16 +1,19 @@
 -- What the checks of a delivery answer: the header of its table, or its first offence. Assumes nothing.
 use Prim.Native.Nat.{ℕ, _+_}
+use mathlib.Core.List.{List}
 use mathlib.Core.Bool.{cond}
 use mathlib.Core.Option.{Option, none, some}
 use lib.ListN.{length}
 use lib.Dec.{ltb}
 use Rattle.timetable.specs.Layout.{headerSize, mostFileBytes, firstService}
-use Rattle.timetable.specs.Delivery.{Delivery}
+use Rattle.timetable.specs.Delivery.{Files, Delivery}
 use Rattle.timetable.specs.Offences.{offenceAt}
-use Rattle.timetable.specs.Table.{sections}
-use Rattle.timetable.specs.Load.{Where}
+use Rattle.timetable.specs.Table.{sections, tableWords}
+use Rattle.timetable.specs.Load.{Where, delivered, contentOffence, refusedOr, shortOr, writtenBy}
 use Rattle.timetable.specs.declared.Checked.{Checked}
 use Rattle.timetable.specs.declared.Checked.the-variants.{Holds as HoldsBoth, Refused as RefusedBy}
+use Rattle.timetable.specs.declared.Loaded.{Loaded}
+use Rattle.timetable.specs.declared.Loaded.the-variants.{Accepted}
 use Rattle.table_words.specs.declared.Header.{Header}
 use Rattle.load.specs.declared.Delivered.{Delivered}
 use Rattle.load.specs.declared.Delivered.the-variants.{Holds, Refused}
@@ -57,3 +60,11 @@ refusedIn file (HoldsBoth a b) = Refused file (offenceAt 0 0)
 abbrev pub deliveredBy : Option Where → Header → Delivered
 deliveredBy none h = Holds h
 deliveredBy (some w) h = Refused (w .file) (w .offence)
+
+-- ---- a load that is past 1 and 51: what it answers, by the room lent, and the table that it leaves
+
+unfoldable pub answered : Files → ℕ → Loaded
+answered f room = refusedOr (contentOffence f) (shortOr 20 room (length (tableWords (delivered f))) (Accepted (length (tableWords (delivered f)))))
+
+unfoldable pub left : Files → List ℕ → List ℕ
+left f t = writtenBy (answered f (length t)) (tableWords (delivered f)) t

@@ -9,7 +9,10 @@ use Rattle.timetable.specs.Layout.{helperHead, helperLine, mostFileBytes}
 use Rattle.timetable.specs.declared.Checked.{Checked}
 use Rattle.timetable.specs.declared.Checked.the-variants.{Holds}
 use Rattle.reading.specs.Maps.{FieldMap, StopMap, ClassIndex}
+use Rattle.table_words.specs.declared.Header.{Header}
 use Rattle.load.specs.declared.Room.{Room}
+use Rattle.load.specs.declared.Delivered.{Delivered}
+use Rattle.load.specs.declared.Delivered.the-variants.{Holds as AllHold}
 
 -- no file is too long
 pub record Short (e b s u p z : List ℕ) : Type 0 where
@@ -63,3 +66,9 @@ pub record IndexAfter (z : List ℕ) (r : Checked) (m m′ : List ℕ) : Type 0 
   pub held : (count next : ℕ) → r ≡ Holds count next → ClassIndex z (drop (length m′ - helperHead) m′)
   pub same : length m′ ≡ length m
   pub front : take (length m - helperHead) m′ ≡ take (length m - helperHead) m
+
+-- where the checks of a delivery answer d and it holds, the map of BAHNHOF stands in so many words of m from a place on
+pub record StopsStand (s : List ℕ) (at words : ℕ) (d : Delivered) (m : List ℕ) : Type 0 where
+  pub inside : (h : Header) → d ≡ AllHold h → at + words ≤ length m
+  pub small : (h : Header) → d ≡ AllHold h → at + words < 4294967296
+  pub held : (h : Header) → d ≡ AllHold h → StopMap s (take words (drop at m))

@@ -1,5 +1,5 @@
-// A delivery of six files to the table, or its first offence. Nothing is written into the table before everything is checked; while it is, the helper
-// words hold the maps of BITFELD, BAHNHOF and UMSTEIGB and the index of ZUGART.
+// A delivery of six files to the table, or its first offence. Nothing is written into the table before everything is checked; meanwhile the helper
+// words hold the maps of BITFELD, BAHNHOF and UMSTEIGB and the index of ZUGART, until all is written.
 use table_words::Header;
 use timetable::BIT_FIELD_WORDS;
 use timetable::CLASS_WORDS;
@@ -26,8 +26,8 @@ ghost use Rattle.timetable.specs.Checks.{planFirst};
 ghost use Rattle.timetable.specs.Load.{delivered, contentOffence, loaded, written, helped};
 ghost use Rattle.reading.specs.Maps.{FieldMap, StopMap, ClassIndex};
 ghost use Rattle.plan.specs.Services.{blockWords, mostPlanWords};
-ghost use Rattle.load.specs.Delivered.{longIn, headerBy, headerOf, refusedIn, deliveredBy};
-ghost use Rattle.load.specs.Helper.{Short, roomOf, Emptied, LentAt, IndexLent, FieldsAfter, StopsAfter, IndexAfter};
+ghost use Rattle.load.specs.Delivered.{longIn, headerBy, headerOf, refusedIn, deliveredBy, answered, left};
+ghost use Rattle.load.specs.Helper.{Short, roomOf, Emptied, LentAt, IndexLent, FieldsAfter, StopsAfter, IndexAfter, StopsStand};
 
 // What the checks of the files say: the header of the table, or the first offence and its file.
 pub enum Delivered {
@@ -76,7 +76,7 @@ pub fn load(
             needed: room.words as u32,
         };
     }
-    let delivered = check_lent(
+    load_lent(
         eckdaten,
         bitfeld,
         bahnhof,
@@ -84,31 +84,9 @@ pub fn load(
         fplan,
         zugart,
         room,
+        table,
         helper,
-    );
-    match delivered {
-        Delivered::Refused { file, offence } => Loaded::Refused {
-            number: offence.number,
-            file,
-            line: offence.line,
-            column: offence.column,
-            needed: 0,
-        },
-        Delivered::Holds(header) => {
-            let used = header.words;
-            if table.len() < used as usize {
-                return Loaded::Refused {
-                    number: 20,
-                    file: 0,
-                    line: 0,
-                    column: 0,
-                    needed: used,
-                };
-            }
-            table_words::put_table(header, bitfeld, bahnhof, umsteigb, fplan, zugart, table);
-            Loaded::Accepted(used)
-        }
-    }
+    )
 }
 
 // ---- the helper words
@@ -134,8 +112,8 @@ fn room_for(bitfeld: &[u8], bahnhof: &[u8], umsteigb: &[u8]) -> Room
     }
 }
 
-// The checks with the maps and the index in words that hold 0 before and after.
-fn check_lent(
+// The load with the maps and the index in words that hold 0 before and after, where there are enough.
+fn load_lent(
     eckdaten: &[u8],
     bitfeld: &[u8],
     bahnhof: &[u8],
@@ -143,17 +121,19 @@ fn check_lent(
     fplan: &[u8],
     zugart: &[u8],
     room: Room,
+    table: &mut [u32],
     helper: &mut [u32],
-) -> Delivered
+) -> Loaded
     requires { ⌜ Short (now eckdaten) (now bitfeld) (now bahnhof) (now umsteigb) (now fplan) (now zugart) ⌝ }
     requires { ⌜ room ≡ roomOf (now bitfeld) (now bahnhof) (now umsteigb) ⌝ }
     requires { ⌜ room .words ≤ length (now helper) ⌝ }
-    ensures { λ r. ⌜ r ≡ deliveredBy (contentOffence (filesOf (now (eckdaten .entry)) (now (bitfeld .entry)) (now (bahnhof .entry)) (now (umsteigb .entry)) (now (fplan .entry)) (now (zugart .entry)))) (headerOf (delivered (filesOf (now (eckdaten .entry)) (now (bitfeld .entry)) (now (bahnhof .entry)) (now (umsteigb .entry)) (now (fplan .entry)) (now (zugart .entry))))) ⌝ }
+    ensures { λ r. ⌜ r ≡ answered (filesOf (now (eckdaten .entry)) (now (bitfeld .entry)) (now (bahnhof .entry)) (now (umsteigb .entry)) (now (fplan .entry)) (now (zugart .entry))) (length (now (table .entry))) ⌝ }
+    ensures { λ _. ⌜ now (table .exit) ≡ left (filesOf (now (eckdaten .entry)) (now (bitfeld .entry)) (now (bahnhof .entry)) (now (umsteigb .entry)) (now (fplan .entry)) (now (zugart .entry))) (now (table .entry)) ⌝ }
     ensures { λ _. ⌜ now (helper .exit) ≡ replicate (room .words) 0 ++ drop (room .words) (now (helper .entry)) ⌝ }
 {
     let words = room.words;
     map::clear(helper, words);
-    let delivered = check_delivery(
+    let loaded = load_mapped(
         eckdaten,
         bitfeld,
         bahnhof,
@@ -161,10 +141,65 @@ fn check_lent(
         fplan,
         zugart,
         room,
+        table,
         &mut helper[0..words],
     );
     map::clear(helper, room.words);
-    delivered
+    loaded
+}
+
+// The same with words that hold 0 for the maps and the index. The table is written while they stand: its calls point by the map of BAHNHOF.
+fn load_mapped(
+    eckdaten: &[u8],
+    bitfeld: &[u8],
+    bahnhof: &[u8],
+    umsteigb: &[u8],
+    fplan: &[u8],
+    zugart: &[u8],
+    room: Room,
+    table: &mut [u32],
+    m: &mut [u32],
+) -> Loaded
+    requires { ⌜ Short (now eckdaten) (now bitfeld) (now bahnhof) (now umsteigb) (now fplan) (now zugart) ⌝ }
+    requires { ⌜ Emptied (now bitfeld) (now bahnhof) (now umsteigb) room (now m) ⌝ }
+    ensures { λ r. ⌜ r ≡ answered (filesOf (now (eckdaten .entry)) (now (bitfeld .entry)) (now (bahnhof .entry)) (now (umsteigb .entry)) (now (fplan .entry)) (now (zugart .entry))) (length (now (table .entry))) ⌝ }
+    ensures { λ _. ⌜ now (table .exit) ≡ left (filesOf (now (eckdaten .entry)) (now (bitfeld .entry)) (now (bahnhof .entry)) (now (umsteigb .entry)) (now (fplan .entry)) (now (zugart .entry))) (now (table .entry)) ⌝ }
+{
+    let delivered = check_delivery(eckdaten, bitfeld, bahnhof, umsteigb, fplan, zugart, room, m);
+    match delivered {
+        Delivered::Refused { file, offence } => Loaded::Refused {
+            number: offence.number,
+            file,
+            line: offence.line,
+            column: offence.column,
+            needed: 0,
+        },
+        Delivered::Holds(header) => {
+            let used = header.words;
+            if table.len() < used as usize {
+                return Loaded::Refused {
+                    number: 20,
+                    file: 0,
+                    line: 0,
+                    column: 0,
+                    needed: used,
+                };
+            }
+            let at = room.fields;
+            let end = at + room.stops;
+            table_words::put_table(
+                header,
+                bitfeld,
+                bahnhof,
+                &m[at..end],
+                umsteigb,
+                fplan,
+                zugart,
+                table,
+            );
+            Loaded::Accepted(used)
+        }
+    }
 }
 
 // ---- the checks: files 1 to 4, 6 and 5 ("ZUGART is file 6, its lengths and lines checked after UMSTEIGB's"), with words that hold 0 for the maps of
@@ -183,6 +218,7 @@ fn check_delivery(
     requires { ⌜ Short (now eckdaten) (now bitfeld) (now bahnhof) (now umsteigb) (now fplan) (now zugart) ⌝ }
     requires { ⌜ Emptied (now bitfeld) (now bahnhof) (now umsteigb) room (now m) ⌝ }
     ensures { λ r. ⌜ r ≡ deliveredBy (contentOffence (filesOf (now (eckdaten .entry)) (now (bitfeld .entry)) (now (bahnhof .entry)) (now (umsteigb .entry)) (now (fplan .entry)) (now (zugart .entry)))) (headerOf (delivered (filesOf (now (eckdaten .entry)) (now (bitfeld .entry)) (now (bahnhof .entry)) (now (umsteigb .entry)) (now (fplan .entry)) (now (zugart .entry))))) ⌝ }
+    ensures { λ r. ⌜ StopsStand (now (bahnhof .entry)) (room .fields) (room .stops) r (now (m .exit)) ⌝ }
 {
     let period = period::check_period(eckdaten);
     let Checked::Holds(start, days) = period else {

@@ -2,10 +2,11 @@
 use mathlib.Core.Path.{_≡_, refl, ap, _∙_, sym}
 use mathlib.Core.List.{List}
 use mathlib.Core.Bool.{true, false}
-use mathlib.Core.Option.{Option, none}
-use Prim.Native.Nat.{ℕ, _+_, _*_, _^_, _≤_, _<_}
+use mathlib.Core.Option.{Option, none, some}
+use Prim.Native.Nat.{ℕ, zero, suc, _+_, _*_, _^_, _≤_, _<_}
+use native.Mathlib.Nat.{mul-zero, mul-suc}
 use native.Mathlib.Omega.{arith}
-use lib.ListN.{length, getD, take, drop}
+use lib.ListN.{length, getD, getElem?, take, drop}
 use lib.Seq.{drop-drop, getD-drop}
 use lib.Dec.{eqb}
 use borrow.Author.Tests.{eq-eqb, ne-eqb}
@@ -15,11 +16,12 @@ use Rattle.bitfield.specs.BitField.{bit, runsOn}
 use Rattle.timetable.specs.Delivery.{BitField, StopRecord, Interchange, CategoryClass}
 use Rattle.timetable.specs.Files.{hasStop, hasClass}
 use Rattle.timetable.specs.Legs.{fieldKnown, runsBy, fieldRuns}
-use Rattle.timetable.specs.Table.{rowsIn, bitFieldAt, stopAt, interchangeAt, classAt, tableOf}
+use Rattle.timetable.specs.Table.{rowsIn, bitFieldAt, stopAt, interchangeAt, classAt, stopNumberAt, tableOf}
 use Rattle.timetable.specs.Questions.{interchangeBy, interchangeAtStop, classBy, classFor}
 use Rattle.timetable.specs.StopNames.{stopNumbered}
 use Rattle.timetable.proofs.Rows.{one-row}
 use Rattle.table.specs.JustTable.{JustTable, headerSound, classesPlace}
+use Rattle.table.proofs.Records.{first-word}
 use Rattle.table.proofs.JustTable.{whole-header, whole-says, sections-fit, fields-are, stops-are, interchanges-are, classes-are}
 use Rattle.lookups.specs.Lookups.{placeOf, namePlace, nameIn, timesOf}
 use Rattle.lookups.specs.declared.Found.{Found}
@@ -142,6 +144,33 @@ name-is w p = rw (getD-drop p w 1 0, getD-drop p w 2 0)
 pub ruleset stops = (tests, word-4, stops-room, stop-found, stop-unknown)
 
 pub ruleset stop-names = (tests, word-4, stops-room, name-found, name-unknown, name-room, name-is)
+
+-- ---- the stop at a place, for `search stop-numbers`; p is where the stops begin, y is k as a place
+
+-- the i-th of n rows
+row-there : {X : Type 0} (f : List ℕ → X) (s n i : ℕ) (w : List ℕ) → i < n → getElem? (rowsIn f s n w) i ≡ some (f (drop (s * i) w))
+unfolding rowsIn
+row-there f s zero i w h = absurd (omega arith)
+row-there f s (suc n) zero w h = rw mul-zero
+row-there f s (suc n) (suc i) w h =
+    let e : s + s * i ≡ s * suc i = omega (arith, mul-suc s i) in
+    row-there f s n i (drop s w) (omega arith) ∙ rw (drop-drop (s * i) s w, e)
+
+module _ (w : List ℕ) (h : JustTable w) (k y p : ℕ) (b : k < getD w 4 0) (z : y ≡ k) (q : p ≡ 9 + 13 * getD w 3 0) where
+  pub number-fits : length w < 2 ^ 64 → p + 3 * y < 2 ^ 64
+  number-fits l = omega (arith, sections-fit w h)
+
+  pub number-inside : p + 3 * y < length w
+  number-inside = omega (arith, sections-fit w h)
+
+  pub number-scaled : length w * 4 < 2 ^ 63 → (p + 3 * y) * 4 < 2 ^ 64
+  number-scaled l = omega (arith, number-inside)
+
+  pub number-is : getD w (p + 3 * y) 0 ≡ stopNumberAt (tableOf w .stops) k
+  unfolding stopNumberAt
+  number-is = rw (stops-are w h, row-there stopAt 3 (getD w 4 0) k (drop (9 + 13 * getD w 3 0) w) b, drop-drop (3 * k) (9 + 13 * getD w 3 0) w, q, z) (sym (first-word w (9 + 13 * getD w 3 0 + 3 * k)))
+
+pub ruleset stop-numbers = (tests, number-fits, number-inside, number-scaled, number-is)
 
 -- ---- interchange records, for `search interchanges`; p is where they begin, f where the search found the stop
 

@@ -1,7 +1,7 @@
 -- The services of a whole table: the walk to the i-th record (for `search services`), and what stands there: `service-is`, `service-none`,
 -- `service-sound`. Assumes nothing.
 use mathlib.Core.Path.{_≡_, refl, _∙_, sym}
-use mathlib.Core.List.{List}
+use mathlib.Core.List.{List, map}
 use mathlib.Core.Bool.{true}
 use mathlib.Core.Option.{none, some}
 use Prim.Native.Nat.{ℕ, zero, suc, _+_, _-_, _*_, _^_, _≤_, _<_}
@@ -10,7 +10,8 @@ use lib.ListN.{length, getD, drop, length-drop, getElem?}
 use lib.Seq.{drop-drop}
 use Rattle.base.proofs.Laws.{tests}
 use Rattle.base.proofs.Loops.{and-true}
-use Rattle.timetable.specs.Table.{word, serviceAt, servicesIn, tableOf, recordSound, recordsSound}
+use Rattle.timetable.specs.Delivery.{Service}
+use Rattle.timetable.specs.Table.{word, serviceAt, servicesIn, resolved, tableOf, recordSound, recordsSound}
 use Rattle.table.specs.JustTable.{JustTable}
 use Rattle.table.proofs.Says.{Sizes, record-says}
 use Rattle.table.proofs.Records.{first-word, one-record, rest-from}
@@ -18,10 +19,10 @@ use Rattle.table.proofs.JustTable.{whole-says, services-are, services-sound}
 use Rattle.lookups.specs.Lookups.{recordPlace, servicePlace}
 
 -- a record at p, with v records from there on
-step : (w : List ℕ) (v p : ℕ) → 0 < v → recordsSound v (drop p w) ≡ true → (p < length w) × (p + getD w p 0 ≤ length w) × (recordSound (drop p w) ≡ true) × (recordsSound (v - 1) (drop (p + getD w p 0) w) ≡ true)
-step w v p h e =
-    let (r, rest) = and-true (recordSound (drop p w)) _ (sym (one-record v (drop p w) h) ∙ e) in
-    let s : Sizes (drop p w) = record-says (drop p w) r .0 in
+step : (stops : ℕ) (w : List ℕ) (v p : ℕ) → 0 < v → recordsSound stops v (drop p w) ≡ true → (p < length w) × (p + getD w p 0 ≤ length w) × (recordSound stops (drop p w) ≡ true) × (recordsSound stops (v - 1) (drop (p + getD w p 0) w) ≡ true)
+step stops w v p h e =
+    let (r, rest) = and-true (recordSound stops (drop p w)) _ (sym (one-record stops v (drop p w) h) ∙ e) in
+    let s : Sizes (drop p w) = record-says stops (drop p w) r .0 in
     let i : p < length w = omega (arith, s .head, length-drop p w) in
     (i, omega (arith, s .said, s .inside, length-drop p w, first-word w p), r, rw (first-word w p, drop-drop (getD w p 0) p w) at rest)
 
@@ -42,7 +43,7 @@ module _ (w : List ℕ) (h : JustTable w) where
     pub services-place : p ≤ length w
     services-place = omega (arith, whole-says w h .inside, whole-says w h .used-high)
 
-    pub services-start : (i : ℕ) → recordsSound (getD w 6 0 - (i - i)) (drop p w) ≡ true
+    pub services-start : (i : ℕ) → recordsSound (getD w 4 0) (getD w 6 0 - (i - i)) (drop p w) ≡ true
     services-start i =
         let z : getD w 6 0 - (i - i) ≡ getD w 6 0 = omega arith in
         rw (z, q) (services-sound w h)
@@ -50,9 +51,9 @@ module _ (w : List ℕ) (h : JustTable w) where
 pub services-first : (w : List ℕ) (p i : ℕ) → p ≡ getD w 7 0 → recordPlace w p i ≡ servicePlace w i
 services-first w p i q = rw q
 
-module _ (w : List ℕ) (i p k : ℕ) (b : i < getD w 6 0) (h : 0 < k) (l : k ≤ i) (s : recordsSound (getD w 6 0 - (i - k)) (drop p w) ≡ true) where
-  here : (p < length w) × (p + getD w p 0 ≤ length w) × (recordSound (drop p w) ≡ true) × (recordsSound (getD w 6 0 - (i - k) - 1) (drop (p + getD w p 0) w) ≡ true)
-  here = step w (getD w 6 0 - (i - k)) p (omega arith) s
+module _ (w : List ℕ) (i p k : ℕ) (b : i < getD w 6 0) (h : 0 < k) (l : k ≤ i) (s : recordsSound (getD w 4 0) (getD w 6 0 - (i - k)) (drop p w) ≡ true) where
+  here : (p < length w) × (p + getD w p 0 ≤ length w) × (recordSound (getD w 4 0) (drop p w) ≡ true) × (recordsSound (getD w 4 0) (getD w 6 0 - (i - k) - 1) (drop (p + getD w p 0) w) ≡ true)
+  here = step (getD w 4 0) w (getD w 6 0 - (i - k)) p (omega arith) s
 
   pub services-inside : p < length w
   services-inside = here .0
@@ -61,7 +62,7 @@ module _ (w : List ℕ) (i p k : ℕ) (b : i < getD w 6 0) (h : 0 < k) (l : k �
     pub services-fit : p + y ≤ length w
     services-fit = omega (arith, here .1)
 
-    pub services-rest : recordsSound (getD w 6 0 - (i - (k - 1))) (drop (p + y) w) ≡ true
+    pub services-rest : recordsSound (getD w 4 0) (getD w 6 0 - (i - (k - 1))) (drop (p + y) w) ≡ true
     services-rest =
         let z : getD w 6 0 - (i - (k - 1)) ≡ getD w 6 0 - (i - k) - 1 = omega arith in
         rw (z, q) (here .3)
@@ -78,41 +79,41 @@ pub ruleset services = (tests, services-word, services-place, services-start, se
 
 -- ---- what stands there
 
--- the i-th service read from p on is the record at its place
-service-there : (w : List ℕ) (v p i : ℕ) → i < v → getElem? (servicesIn v (drop p w)) i ≡ some (serviceAt (drop (recordPlace w p i) w))
+-- the i-th service read from p on is the record at its place; f says how it is shown
+service-there : (f : Service → Service) (w : List ℕ) (v p i : ℕ) → i < v → getElem? (map f (servicesIn v (drop p w))) i ≡ some (f (serviceAt (drop (recordPlace w p i) w)))
 unfolding servicesIn recordPlace
-service-there w zero p i h = absurd (omega arith)
-service-there w (suc v) p zero h = refl
-service-there w (suc v) p (suc i) h =
-    rw (drop-drop (getD (drop p w) 0 0) p w, first-word w p) (service-there w v (p + getD w p 0) i (omega arith))
+service-there f w zero p i h = absurd (omega arith)
+service-there f w (suc v) p zero h = refl
+service-there f w (suc v) p (suc i) h =
+    rw (drop-drop (getD (drop p w) 0 0) p w, first-word w p) (service-there f w v (p + getD w p 0) i (omega arith))
 
-none-there : (v i : ℕ) (u : List ℕ) → v ≤ i → getElem? (servicesIn v u) i ≡ none
+none-there : (f : Service → Service) (v i : ℕ) (u : List ℕ) → v ≤ i → getElem? (map f (servicesIn v u)) i ≡ none
 unfolding servicesIn
-none-there zero zero u h = refl
-none-there zero (suc i) u h = refl
-none-there (suc v) zero u h = absurd (omega arith)
-none-there (suc v) (suc i) u h = none-there v i (drop (word u 0) u) (omega arith)
+none-there f zero zero u h = refl
+none-there f zero (suc i) u h = refl
+none-there f (suc v) zero u h = absurd (omega arith)
+none-there f (suc v) (suc i) u h = none-there f v i (drop (word u 0) u) (omega arith)
 
-sound-there : (w : List ℕ) (v p i : ℕ) → i < v → recordsSound v (drop p w) ≡ true → (recordPlace w p i ≤ length w) × (recordSound (drop (recordPlace w p i) w) ≡ true)
+sound-there : (stops : ℕ) (w : List ℕ) (v p i : ℕ) → i < v → recordsSound stops v (drop p w) ≡ true → (recordPlace w p i ≤ length w) × (recordSound stops (drop (recordPlace w p i) w) ≡ true)
 unfolding recordPlace
-sound-there w v p zero h e =
-    let s = step w v p (omega arith) e in
+sound-there stops w v p zero h e =
+    let s = step stops w v p (omega arith) e in
     (omega (arith, s .0), s .2)
-sound-there w v p (suc i) h e = sound-there w (v - 1) (p + getD w p 0) i (omega arith) (step w v p (omega arith) e .3)
+sound-there stops w v p (suc i) h e = sound-there stops w (v - 1) (p + getD w p 0) i (omega arith) (step stops w v p (omega arith) e .3)
 
 module _ (w : List ℕ) (h : JustTable w) (i : ℕ) where
   pub service-none : getD w 6 0 ≤ i → getElem? (tableOf w .services) i ≡ none
-  service-none b = rw (services-are w h) (none-there (getD w 6 0) i (drop (getD w 7 0) w) b)
+  service-none b = rw (services-are w h) (none-there (resolved (tableOf w .stops)) (getD w 6 0) i (drop (getD w 7 0) w) b)
 
   module _ (b : i < getD w 6 0) where
-    pub service-is : getElem? (tableOf w .services) i ≡ some (serviceAt (drop (servicePlace w i) w))
-    service-is = rw (services-are w h) (service-there w (getD w 6 0) (getD w 7 0) i b)
+    pub service-is : getElem? (tableOf w .services) i ≡ some (resolved (tableOf w .stops) (serviceAt (drop (servicePlace w i) w)))
+    service-is = rw (services-are w h) (service-there (resolved (tableOf w .stops)) w (getD w 6 0) (getD w 7 0) i b)
 
     pub service-within : servicePlace w i ≤ length w
-    service-within = sound-there w (getD w 6 0) (getD w 7 0) i b (services-sound w h) .0
+    service-within = sound-there (getD w 4 0) w (getD w 6 0) (getD w 7 0) i b (services-sound w h) .0
 
-    pub service-sound : recordSound (drop (servicePlace w i) w) ≡ true
-    service-sound = sound-there w (getD w 6 0) (getD w 7 0) i b (services-sound w h) .1
+    pub service-sound : recordSound (getD w 4 0) (drop (servicePlace w i) w) ≡ true
+    service-sound = sound-there (getD w 4 0) w (getD w 6 0) (getD w 7 0) i b (services-sound w h) .1
 
 -- ---- the words from a service on, for `search front`; p is its place
 

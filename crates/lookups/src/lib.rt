@@ -21,7 +21,7 @@ ghost use Rattle.bitfield.specs.BitField.{runsOn};
 ghost use Rattle.timetable.specs.Files.{hasStop, hasClass};
 ghost use Rattle.timetable.specs.Legs.{fieldKnown, fieldRuns};
 ghost use Rattle.timetable.specs.Layout.{headerSize, bitFieldSize, stopSize, interchangeSize, mostPeriodDays};
-ghost use Rattle.timetable.specs.Table.{bitFields#, stops#, services#, stopAt, interchangeAt, tableOf};
+ghost use Rattle.timetable.specs.Table.{bitFields#, stops#, services#, stopAt, interchangeAt, stopNumberAt, tableOf};
 ghost use Rattle.timetable.specs.Questions.{datedBy, interchangeAtStop, classFor};
 ghost use Rattle.timetable.specs.StopNames.{stopNumbered};
 ghost use Rattle.table.specs.JustTable.{JustTable};
@@ -133,6 +133,14 @@ pub fn stop_known(w: &[u32], stop: u32) -> bool
         Found::At(p) => true,
         Found::Nothing => false,
     }
+}
+
+// The number of the stop at a place of the stop section, counted from 0.
+pub fn stop_number(w: &[u32], place: u32) -> u32
+    requires { ⌜ JustTable (now w) × (place < stops# (now w)) ⌝ }
+    ensures { λ r. ⌜ r ≡ stopNumberAt (tableOf (now (w .entry)) .stops) place ⌝ }
+{
+    w[stops_place(w) + STOP_WORDS * table::size(place)]
 }
 
 // What the stop's record says of its name.

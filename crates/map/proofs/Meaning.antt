@@ -83,7 +83,7 @@ module _ (number i : ℕ) (ns : List ℕ) (r : Found) (e : r ≡ foundIn number 
 
 -- ---- where numbers are distinct, what is found is the first as well
 
-distinct-tail : (n : ℕ) (ns : List ℕ) → Distinct (n ∷ ns) → Distinct ns
+pub distinct-tail : (n : ℕ) (ns : List ℕ) → Distinct (n ∷ ns) → Distinct ns
 distinct-tail n ns d = record { apart-at = λ i j l h. d .apart-at (suc i) (suc j) (omega arith) (omega arith) }
 
 pub distinct-none : Distinct []

@@ -1,6 +1,6 @@
 -- Services written one after the other: what is left to write at a place, and what was to be written, end alike. Assumes nothing.
 use mathlib.Core.Path.{_≡_, refl, sym, ap, _∙_}
-use mathlib.Core.List.{List, [], _∷_, _++_}
+use mathlib.Core.List.{List, [], _∷_, _++_, map}
 use mathlib.Core.Bool.{true}
 use mathlib.Core.Option.{Option, none, some}
 use Prim.Native.Nat.{ℕ, _+_, _-_, _*_, _^_, _≤_, _<_}
@@ -12,13 +12,14 @@ use Rattle.base.proofs.Loops.{and-true}
 use Rattle.lines.specs.Lines.{Line, linesOf, linesAt, cutAt}
 use Rattle.words.specs.Words.{write}
 use Rattle.words.proofs.Laws.{write-none, write-write}
-use Rattle.timetable.specs.Layout.{mostFileBytes}
-use Rattle.timetable.specs.Delivery.{Service}
+use Rattle.timetable.specs.Layout.{mostFileBytes, serviceHead}
+use Rattle.timetable.specs.Delivery.{StopRecord, Service}
 use Rattle.timetable.specs.Service.{blocks, serviceOf}
 use Rattle.timetable.specs.Checks.{headFirst}
-use Rattle.timetable.specs.Table.{serviceWords}
+use Rattle.timetable.specs.Table.{serviceWords, pointing}
 use Rattle.timetable.specs.declared.Offence.{Offence}
 use Rattle.timetable.specs.declared.Opening.{Opening}
+use Rattle.timetable.proofs.Records.{service-length}
 use Rattle.draft.specs.Draft.{draftCall, draftRange, mostRanges, callsLent, rangesLent, countsOf, ranges#, Within}
 use Rattle.draft.specs.declared.Drafted.{Drafted}
 use Rattle.draft.proofs.Drafts.{draft-service, ranges-within}
@@ -29,7 +30,8 @@ use Rattle.reading.proofs.Heads.{after, service-here, services-none}
 use Rattle.service_words.specs.Parts.{serviceIn, sizesOf}
 use Rattle.service_words.specs.declared.Sizes.{Sizes}
 use Rattle.service.specs.Answers.{ServiceTaken}
-use Rattle.plan.specs.Services.{blockWords, within, withinLimits}
+use Rattle.stop_places.proofs.Laws.{pointed-size, calls-inside, pointed-written}
+use Rattle.plan.specs.Services.{blockWords, placedWords, within, withinLimits}
 use Rattle.plan.proofs.Within.{within-says}
 use Rattle.plan.proofs.Sizes.{words-fit}
 
@@ -38,6 +40,23 @@ use Rattle.plan.proofs.Sizes.{words-fit}
 words-cons : (b : List Line) (bs : List (List Line)) → blockWords (b ∷ bs) ≡ serviceWords (serviceOf b) ++ blockWords bs
 unfolding blockWords gathered
 words-cons b bs = refl
+
+placed-cons : (stops : List StopRecord) (b : List Line) (bs : List (List Line)) → placedWords stops (b ∷ bs) ≡ serviceWords (pointing stops (serviceOf b)) ++ placedWords stops bs
+unfolding placedWords gathered
+placed-cons stops b bs = refl
+
+-- as many words, whether the calls have numbers or places
+pub placed-size : (stops : List StopRecord) (bs : List (List Line)) → length (placedWords stops bs) ≡ length (blockWords bs)
+unfolding placedWords blockWords gathered
+placed-size stops [] = refl
+placed-size stops (b ∷ bs) =
+    omega (
+      arith,
+      pointed-size stops (serviceOf b),
+      placed-size stops bs,
+      length-append (serviceWords (pointing stops (serviceOf b))) (gathered serviceWords (map (pointing stops) (map serviceOf bs))),
+      length-append (serviceWords (serviceOf b)) (gathered serviceWords (map serviceOf bs)),
+    )
 
 within-cons : (b : List Line) (bs : List (List Line)) → withinLimits (b ∷ bs) ≡ true → (within (countsOf b) ≡ true) × (withinLimits bs ≡ true)
 unfolding withinLimits every
@@ -59,7 +78,7 @@ module _ (f : List ℕ) (at n : ℕ) (b : Boundary f at n) (h : at < length f) w
   pub here-room : (to q l : ℕ) → to + length (blockWords (blocks (linesAt f at n))) ≡ q → q ≤ l → to + length (serviceWords (serviceOf (serviceAt f at n))) ≤ l
   here-room to q l v r = omega (arith, v, r, here-words)
 
--- ---- the need of `put_service`, for `search held`: the draft that was read holds the service; m is how many ranges it has
+-- ---- the needs of `put_drafted`, for `search holding`: the draft that was read holds the service; m is how many ranges it has
 
 module _ (f : List ℕ) (at n : ℕ) (d : Drafted) (calls ranges : List ℕ) (s : ServiceRead f at n d calls ranges) where
   pub calls-room : draftCall * d .counts .calls ≤ length calls
@@ -92,10 +111,21 @@ module _ (f : List ℕ) (at n : ℕ) (d : Drafted) (calls ranges : List ℕ) (s 
     pub held-taken : (z : Sizes) → z ≡ sizesOf held → ServiceTaken f at n (z .words) (d .end) (d .no)
     held-taken z i = record { size = rw (i, service-is) refl; services = s .services; past = s .past; next = s .next }
 
+    pub held-calls : (z : Sizes) → z ≡ sizesOf held → z .calls ≡ length (serviceOf (serviceAt f at n) .calls)
+    held-calls z i = rw (i, service-is) refl
+
     pub held-written : (t t′ : List ℕ) (to : ℕ) → t′ ≡ write t to (serviceWords held) → t′ ≡ write t to (serviceWords (serviceOf (serviceAt f at n)))
     held-written t t′ to x = rw service-is at x
 
-pub ruleset holding = (tests, calls-room, ranges-count, ranges-room, held-room, held-fits, held-taken, held-written)
+pub ruleset holding = (tests, calls-room, ranges-count, ranges-room, held-room, held-fits, held-taken, held-calls, held-written)
+
+-- ---- the needs of `put_service`, for `search pointed`: s is the service, whose words were written
+
+-- where its calls begin
+pub calls-place : (to l : ℕ) (s : Service) → to + length (serviceWords s) ≤ l → l < 2 ^ 64 → to + serviceHead < 2 ^ 64
+calls-place to l s h k = omega (arith, h, k, service-length s)
+
+pub ruleset pointed = (tests, calls-place, calls-inside, pointed-written, len-trans)
 
 -- ---- a walk from service to service: the service that begins at place `at` takes w words
 
@@ -123,17 +153,22 @@ module _ (f : List ℕ) (at n w end m : ℕ) (s : ServiceTaken f at n w end m) w
     pub next-count : to + w + length rest ≡ q
     next-count = omega (arith, count, s .size, ap length words-step, length-append own rest)
 
-    pub place-fits : (l : ℕ) → q ≤ l → l < 2 ^ 64 → to + w < 2 ^ 64
-    place-fits l room h = omega (arith, next-count, room)
+    pub place-fits : q < 2 ^ 64 → to + w < 2 ^ 64
+    place-fits h = omega (arith, next-count)
 
-    pub next-written : (t t′ ws : List ℕ) → q ≤ length t → t′ ≡ write t to own → write t to (blockWords (blocks (linesAt f at n))) ≡ ws → write t′ (to + w) rest ≡ ws
-    next-written t t′ ws room x v =
-        let fits : to + length own ≤ length t = omega (arith, next-count, s .size, room) in
-        rw (x, s .size) (write-write t to own rest fits ∙ (sym (ap (write t to) words-step) ∙ v))
+    pub next-written : (stops : List StopRecord) (t t′ ws : List ℕ) → q ≤ length t → t′ ≡ write t to (serviceWords (pointing stops (serviceOf (serviceAt f at n))))
+        → write t to (placedWords stops (blocks (linesAt f at n))) ≡ ws → write t′ (to + w) (placedWords stops (blocks (linesAt f end m))) ≡ ws
+    next-written stops t t′ ws room x v =
+        let A : List ℕ = serviceWords (pointing stops (serviceOf (serviceAt f at n))) in
+        let B : List ℕ = placedWords stops (blocks (linesAt f end m)) in
+        let step : placedWords stops (blocks (linesAt f at n)) ≡ A ++ B = ap (placedWords stops) (s .services) ∙ placed-cons stops (serviceAt f at n) (blocks (linesAt f end m)) in
+        let size : w ≡ length A = s .size ∙ sym (pointed-size stops (serviceOf (serviceAt f at n))) in
+        let fits : to + length A ≤ length t = omega (arith, next-count, size, room) in
+        rw (x, size) (write-write t to A B fits ∙ (sym (ap (write t to) step) ∙ v))
 
-pub all-written : (f t w : List ℕ) (at n to : ℕ) → length f ≤ at → write t to (blockWords (blocks (linesAt f at n))) ≡ w → t ≡ w
-unfolding blockWords gathered
-all-written f t w at n to h v = sym (write-none t to) ∙ (rw (services-none f at n h) at v)
+pub all-written : (stops : List StopRecord) (f t w : List ℕ) (at n to : ℕ) → length f ≤ at → write t to (placedWords stops (blocks (linesAt f at n))) ≡ w → t ≡ w
+unfolding placedWords gathered
+all-written stops f t w at n to h v = sym (write-none t to) ∙ (rw (services-none f at n h) at v)
 
 pub ruleset putting = (tests, here-within, here-room, next-boundary, next-less, next-within, next-count, place-fits, next-written, all-written, len-trans)
 
@@ -149,11 +184,12 @@ module _ (f : List ℕ) (h : Head) (at n : ℕ) (e : h ≡ Clear at n) (d : Head
   pub head-within : withinLimits (blocks (linesOf f)) ≡ true → withinLimits (blocks (linesAt f at n)) ≡ true
   head-within v = rw (head-clear .services) at v
 
-  pub head-room : (t : List ℕ) (q : ℕ) → q + length (blockWords (blocks (linesOf f))) ≤ length t → q + length (blockWords (blocks (linesAt f at n))) ≤ length t
-  head-room t q v = rw (head-clear .services) at v
+  module _ (stops : List StopRecord) (t : List ℕ) (q : ℕ) where
+    pub head-room : q + length (placedWords stops (blocks (linesOf f))) ≤ length t → q + length (blockWords (blocks (linesAt f at n))) ≤ length t
+    head-room v = omega (arith, v, placed-size stops (blocks (linesOf f)), ap (λ (bs : List (List Line)). length (blockWords bs)) (head-clear .services))
 
-  pub head-written : (t t′ : List ℕ) (q : ℕ) → t′ ≡ write t q (blockWords (blocks (linesAt f at n))) → t′ ≡ write t q (blockWords (blocks (linesOf f)))
-  head-written t t′ q v = rw (head-clear .services) v
+    pub head-written : (t′ : List ℕ) → t′ ≡ write t q (placedWords stops (blocks (linesAt f at n))) → t′ ≡ write t q (placedWords stops (blocks (linesOf f)))
+    head-written t′ v = rw (head-clear .services) v
 
 some-none : {X : Type 0} (o : Offence) → some o ≡ none → X
 some-none o e = apart (cc)

@@ -6,14 +6,19 @@ use lib.Dec.{leb}
 use Rattle.base.specs.Lists.{every, gathered}
 use Rattle.lines.specs.Lines.{Line}
 use Rattle.timetable.specs.Layout.{serviceHead, callSize, mostFileBytes, mostCalls, mostCategories, mostDays, mostExtras}
+use Rattle.timetable.specs.Delivery.{StopRecord}
 use Rattle.timetable.specs.Service.{serviceOf}
-use Rattle.timetable.specs.Table.{serviceWords}
+use Rattle.timetable.specs.Table.{serviceWords, pointing}
 use Rattle.draft.specs.Draft.{countsOf}
 use Rattle.draft.specs.declared.Counts.{Counts}
 
--- the words of services, of which the lines of each are given
+-- the words of services, of which the lines of each are given; their calls have the stops' numbers
 unfoldable pub blockWords : List (List Line) → List ℕ
 blockWords bs = gathered serviceWords (map serviceOf bs)
+
+-- the same as the table has them, the calls pointing at the stops
+unfoldable pub placedWords : List StopRecord → List (List Line) → List ℕ
+placedWords stops bs = gathered serviceWords (map (pointing stops) (map serviceOf bs))
 
 -- no more words than this stand for a line, and for a file, which has no more lines than bytes (`words-fit`)
 abbrev pub wordsALine : ℕ

@@ -2,6 +2,7 @@
 use reading::Head;
 use service::ServiceCheck;
 use timetable::Checked;
+use timetable::SERVICE_WORDS;
 ghost use mathlib.Core.Path.{_≡_};
 ghost use mathlib.Core.Bool.{true};
 ghost use mathlib.Core.Option.{none};
@@ -14,12 +15,12 @@ ghost use Rattle.timetable.specs.Offences.{checkedBy};
 ghost use Rattle.timetable.specs.Files.{bitFieldsIn, stopsIn, classesIn};
 ghost use Rattle.timetable.specs.Service.{blocks, serviceOf};
 ghost use Rattle.timetable.specs.Checks.{headFirst, servicesFirst, planFirst};
-ghost use Rattle.timetable.specs.Table.{serviceWords};
+ghost use Rattle.timetable.specs.Table.{serviceWords, pointing};
 ghost use Rattle.draft.specs.Draft.{callsLent, rangesLent, countsOf, Within};
 ghost use Rattle.reading.specs.Maps.{FieldMap, StopMap, ClassIndex};
 ghost use Rattle.reading.specs.Reading.{serviceAt, Boundary};
 ghost use Rattle.service.specs.Answers.{ServiceTaken};
-ghost use Rattle.plan.specs.Services.{blockWords, withinLimits};
+ghost use Rattle.plan.specs.Services.{blockWords, placedWords, withinLimits};
 
 // The first offence of FPLAN, or how many services it has and how many words they take. `fields` and `stops` are the maps of BITFELD and BAHNHOF, `index`
 // is the index of ZUGART.
@@ -115,21 +116,24 @@ fn check_services(
     Checked::Holds(count, total)
 }
 
-// A service that was written: the words that it took, and where the next service begins (the place and the number of its *Z line, or of the
+// A service that was written: the words that it took, its calls, and where the next service begins (the place and the number of its *Z line, or of the
 // file's end).
 struct Put {
     pub words: u32,
+    pub calls: u32,
     pub end: usize,
     pub no: u32,
 }
 
-// Writes the words of every service into the table from place `at` on, where FPLAN has no offence.
-pub fn put_plan(fplan: &[u8], table: &mut [u32], at: usize)
+// Writes the words of every service into the table from place `at` on, where FPLAN has no offence. `stops` is the map of BAHNHOF, which the calls
+// point by.
+pub fn put_plan(fplan: &[u8], bahnhof: &[u8], stops: &[u32], table: &mut [u32], at: usize)
     requires { ⌜ length (now fplan) ≤ mostFileBytes ⌝ }
+    requires { ⌜ StopMap (now bahnhof) (now stops) ⌝ }
     requires { ⌜ headFirst (linesOf (now fplan)) ≡ none ⌝ }
     requires { ⌜ withinLimits (blocks (linesOf (now fplan))) ≡ true ⌝ }
-    requires { ⌜ at + length (blockWords (blocks (linesOf (now fplan)))) ≤ length (now table) ⌝ }
-    ensures { λ _. ⌜ now (table .exit) ≡ write (now (table .entry)) at (blockWords (blocks (linesOf (now (fplan .entry))))) ⌝ }
+    requires { ⌜ at + length (placedWords (stopsIn (now bahnhof)) (blocks (linesOf (now fplan)))) ≤ length (now table) ⌝ }
+    ensures { λ _. ⌜ now (table .exit) ≡ write (now (table .entry)) at (placedWords (stopsIn (now (bahnhof .entry))) (blocks (linesOf (now (fplan .entry))))) ⌝ }
 {
     let head = reading::head_end(fplan);
     let Head::Clear(start, first) = head else {
@@ -137,7 +141,17 @@ pub fn put_plan(fplan: &[u8], table: &mut [u32], at: usize)
     };
     let mut calls = [0u32; draft::CALLS_LENT];
     let mut ranges = [0u32; draft::RANGES_LENT];
-    put_services(fplan, start, first, &mut calls, &mut ranges, table, at);
+    put_services(
+        fplan,
+        start,
+        first,
+        bahnhof,
+        stops,
+        &mut calls,
+        &mut ranges,
+        table,
+        at,
+    );
 }
 
 // The same of the services from place `start` on, where line `first` opens one or the file ends.
@@ -145,30 +159,58 @@ fn put_services(
     fplan: &[u8],
     start: usize,
     first: u32,
+    bahnhof: &[u8],
+    stops: &[u32],
     calls: &mut [u32],
     ranges: &mut [u32],
     table: &mut [u32],
     at: usize,
 )
     requires { ⌜ Boundary (now fplan) start first ⌝ }
+    requires { ⌜ StopMap (now bahnhof) (now stops) ⌝ }
     requires { ⌜ withinLimits (blocks (linesAt (now fplan) start first)) ≡ true ⌝ }
     requires { ⌜ (callsLent ≤ length (now calls)) × (rangesLent ≤ length (now ranges)) ⌝ }
     requires { ⌜ at + length (blockWords (blocks (linesAt (now fplan) start first))) ≤ length (now table) ⌝ }
-    ensures { λ _. ⌜ now (table .exit) ≡ write (now (table .entry)) at (blockWords (blocks (linesAt (now (fplan .entry)) start first))) ⌝ }
+    ensures { λ _. ⌜ now (table .exit) ≡ write (now (table .entry)) at (placedWords (stopsIn (now (bahnhof .entry))) (blocks (linesAt (now (fplan .entry)) start first))) ⌝ }
 {
     let mut place = start;
     let mut no = first;
     let mut to = at;
     while place < fplan.len() {
-        let put = put_service(fplan, place, no, calls, ranges, table, to);
+        let put = put_service(fplan, place, no, bahnhof, stops, calls, ranges, table, to);
         to += put.words as usize;
         place = put.end;
         no = put.no;
     }
 }
 
-// Writes the words of the service that begins at a place, with line `no`.
+// Writes the words of the service that begins at a place, with line `no`: those of its draft, and then the places of its stops over their numbers.
 fn put_service(
+    fplan: &[u8],
+    at: usize,
+    no: u32,
+    bahnhof: &[u8],
+    stops: &[u32],
+    calls: &mut [u32],
+    ranges: &mut [u32],
+    table: &mut [u32],
+    to: usize,
+) -> Put
+    requires { ⌜ Boundary (now fplan) at no × (at < length (now fplan)) ⌝ }
+    requires { ⌜ StopMap (now bahnhof) (now stops) ⌝ }
+    requires { ⌜ Within (countsOf (serviceAt (now fplan) at no)) ⌝ }
+    requires { ⌜ (callsLent ≤ length (now calls)) × (rangesLent ≤ length (now ranges)) ⌝ }
+    requires { ⌜ to + length (serviceWords (serviceOf (serviceAt (now fplan) at no))) ≤ length (now table) ⌝ }
+    ensures { λ r. ⌜ ServiceTaken (now (fplan .entry)) at no (r .words) (r .end) (r .no) ⌝ }
+    ensures { λ r. ⌜ now (table .exit) ≡ write (now (table .entry)) to (serviceWords (pointing (stopsIn (now (bahnhof .entry))) (serviceOf (serviceAt (now (fplan .entry)) at no)))) ⌝ }
+{
+    let put = put_drafted(fplan, at, no, calls, ranges, table, to);
+    stop_places::point_calls(bahnhof, stops, table, to + SERVICE_WORDS, put.calls);
+    put
+}
+
+// Writes the words of its draft, where a call has its stop's number.
+fn put_drafted(
     fplan: &[u8],
     at: usize,
     no: u32,
@@ -182,6 +224,7 @@ fn put_service(
     requires { ⌜ (callsLent ≤ length (now calls)) × (rangesLent ≤ length (now ranges)) ⌝ }
     requires { ⌜ to + length (serviceWords (serviceOf (serviceAt (now fplan) at no))) ≤ length (now table) ⌝ }
     ensures { λ r. ⌜ ServiceTaken (now (fplan .entry)) at no (r .words) (r .end) (r .no) ⌝ }
+    ensures { λ r. ⌜ r .calls ≡ length (serviceOf (serviceAt (now (fplan .entry)) at no) .calls) ⌝ }
     ensures { λ r. ⌜ now (table .exit) ≡ write (now (table .entry)) to (serviceWords (serviceOf (serviceAt (now (fplan .entry)) at no))) ⌝ }
 {
     let read = reading::read_again(fplan, at, no, calls, ranges);
@@ -199,6 +242,7 @@ fn put_service(
     );
     Put {
         words: sizes.words,
+        calls: sizes.calls,
         end: read.end,
         no: read.no,
     }

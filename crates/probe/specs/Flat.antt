@@ -80,7 +80,7 @@ flatForm (Broken c) = c
 abbrev pub classOf : ℕ → ℕ → Class
 classOf k m = cond (eqb k 0) Digit (cond (eqb k 1) Hex (cond (eqb k 2) Filled (Byte m)))
 
--- line kind k, in the order of the paper's table; 8 is *T
+-- line kind k, in the order of the paper's table; 8 is *T, 9 a line of ZUGART
 abbrev pub lineKind : ℕ → LineKind
 lineKind k =
     cond (eqb k 0) K.Date
@@ -91,4 +91,5 @@ lineKind k =
     (cond (eqb k 5) K.Category
     (cond (eqb k 6) K.Attribute
     (cond (eqb k 8) K.Frequency
-    K.Schedule)))))))
+    (cond (eqb k 9) K.CategoryClass
+    K.Schedule))))))))

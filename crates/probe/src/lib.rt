@@ -139,7 +139,8 @@ pub extern "C" fn probe_kind(line: &[u8]) -> u32
     flat_kind(forms::kind_of(line))
 }
 
-// The form of line kind k: 0 a date, 1 a bit field, 2 a stop, 3 an interchange record, 4 *Z, 5 *G, 6 *A, 8 *T, else a call.
+// The form of line kind k: 0 a date, 1 a bit field, 2 a stop, 3 an interchange record, 4 *Z, 5 *G, 6 *A, 8 *T, 9 a category of ZUGART, else a
+// call.
 #[no_mangle]
 pub extern "C" fn probe_form(line: &[u8], k: u32) -> usize
     ensures { λ r. ⌜ r ≡ flatForm (formOf (columnsOf (lineKind k)) (now (line .entry))) ⌝ }
@@ -394,6 +395,7 @@ fn kind_by(k: u32) -> LineKind
         5 => LineKind::Category,
         6 => LineKind::Attribute,
         8 => LineKind::Frequency,
+        9 => LineKind::CategoryClass,
         _ => LineKind::Schedule,
     }
 }

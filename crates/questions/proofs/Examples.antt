@@ -8,7 +8,7 @@ use Rattle.bitfield.specs.BitField.{bit}
 use Rattle.calendar.specs.Calendar.{yearsBefore, monthsBefore, exists, dayOf}
 use Rattle.timetable.specs.Legs.{fieldRuns}
 use Rattle.timetable.specs.Runs.{openingSound}
-use Rattle.timetable.specs.Table.{rowsIn, serviceAt, servicesIn, tableOf, recordSound, recordsSound, headSound, isTable}
+use Rattle.timetable.specs.Table.{rowsIn, serviceAt, servicesIn, stopsAt, tableOf, recordSound, recordsSound, headSound, isTable}
 use Rattle.timetable.specs.Questions.{dayAsked, interchangeAtStop, interchangeAsked, classFor, betweenAsked}
 use Rattle.timetable.specs.declared.DayAnswer.the-variants.{Runs, Idle, Refused as DayRefused}
 use Rattle.timetable.specs.declared.InterchangeAnswer.the-variants.{Minutes, Refused as InterchangeRefused}
@@ -45,7 +45,7 @@ pub interchanges : (interchangeAsked words 1000022 1 1 ≡ Minutes 2)
     × (interchangeAsked words 7 14 0 ≡ InterchangeRefused 26)
     × (interchangeAsked words 7 0 14 ≡ InterchangeRefused 26)
     × (interchangeAsked (take 81 words) 7 14 14 ≡ InterchangeRefused 21)
-unfolding interchangeAsked interchangeAtStop isTable headSound recordsSound recordSound serviceAt servicesIn rowsIn every tableOf find some-of openingSound
+unfolding interchangeAsked interchangeAtStop isTable headSound recordsSound recordSound serviceAt servicesIn rowsIn every stopsAt tableOf find some-of openingSound
 interchanges = (refl, refl, refl, refl, refl, refl, refl, refl, refl, refl, refl, refl)
 
 -- the same with four categories more: 65 of class 2, 66 of class 1, 67 of class 3, and 66 again, of class 13
@@ -65,5 +65,5 @@ pub categories : (betweenAsked words 1000022 4342100 4342100 ≡ Minutes 3)
     × (betweenAsked listing 9999999 65 66 ≡ InterchangeRefused 27)
     × (betweenAsked listing 7 68 68 ≡ InterchangeRefused 27)
     × (betweenAsked (set listing 38 14) 7 68 68 ≡ InterchangeRefused 21)
-unfolding betweenAsked classFor interchangeAtStop isTable headSound recordsSound recordSound serviceAt servicesIn rowsIn every tableOf find some-of openingSound
+unfolding betweenAsked classFor interchangeAtStop isTable headSound recordsSound recordSound serviceAt servicesIn rowsIn every stopsAt tableOf find some-of openingSound
 categories = (refl, refl, refl, refl, refl, refl, refl, refl, refl, refl, refl, refl)

@@ -12,10 +12,10 @@ use Rattle.base.proofs.Laws.{tests}
 use Rattle.timetable.specs.Layout.{serviceHead, callSize}
 use Rattle.timetable.specs.Delivery.{CategoryRange}
 use Rattle.timetable.specs.Legs.{covering}
-use Rattle.timetable.specs.Table.{callAt, categoryAt, categoryPlace, serviceAt, recordSound}
+use Rattle.timetable.specs.Table.{callAt, categoryAt, categoryPlace, serviceAt, sizesSound, recordSound}
 use Rattle.timetable.specs.Questions.{nameBy, categoryOn}
 use Rattle.timetable.specs.declared.Call.{Call}
-use Rattle.table.proofs.Says.{record-says, call-inside, call-sound, call-says}
+use Rattle.table.proofs.Says.{sizes-say, call-sound, call-says}
 use Rattle.table.proofs.Records.{rest-from}
 use Rattle.cover.specs.Cover.{onceIn, placeFrom}
 use Rattle.cover.specs.declared.FirstRange.{FirstRange}
@@ -23,20 +23,20 @@ use Rattle.cover.specs.declared.FirstRange.the-variants.{At, Nowhere}
 use Rattle.cover.proofs.Rows.{covering-rows, rowAt, first-row, place-fits}
 use Rattle.legs.proofs.Legs.{record-ends}
 
-module _ (s : List ℕ) (e : recordSound s ≡ true) where
+module _ (s : List ℕ) (e : sizesSound s ≡ true) where
   -- the i-th call of a stretch from call a on with n legs
   module _ (a n i : ℕ) (b : a + n < getD s 6 0) (h : i ≤ n) where
     pub leg-fits : a + i < 2 ^ 32
-    leg-fits = omega (arith, record-says s e .0 .calls-high)
+    leg-fits = omega (arith, sizes-say s e .calls-high)
 
     pub next-fits : i + 1 < 2 ^ 32
-    next-fits = omega (arith, record-says s e .0 .calls-high)
+    next-fits = omega (arith, sizes-say s e .calls-high)
 
     pub leg-within : a + i < getD s 6 0
     leg-within = omega arith
 
   pub categories-word : 7 < length s
-  categories-word = omega (arith, record-says s e .0 .head)
+  categories-word = omega (arith, sizes-say s e .head)
 
   module _ (p : ℕ) (q : p ≡ categoryPlace s) where
     pub categories-within : p ≤ length s
@@ -56,20 +56,24 @@ module _ (s : List ℕ) (e : recordSound s ≡ true) where
 
   module _ (k : ℕ) (h : k < getD s 6 0) where
     pub call-fits : (y : ℕ) → y ≡ k → serviceHead + callSize * y + callSize ≤ length s
-    call-fits y z = omega (arith, z, call-inside s e k h)
+    call-fits y z = omega (arith, z, sizes-say s e .inside)
 
-    module _ (y : ℕ) (c : Call) (z : y ≡ k) (q : c ≡ callAt (drop (serviceHead + callSize * y) s)) where
-      bounds : (c .arrival ≤ 59999) × (c .departure ≤ 59999) × (c .flags ≤ 15)
-      bounds = call-says c (rw (q, z) (call-sound s e k h))
+-- what the i-th call of the stretch keeps, in a table with so many stops
+module _ (stops : ℕ) (s : List ℕ) (e : recordSound stops s ≡ true) (a n i : ℕ) (b : a + n < getD s 6 0) (h : i ≤ n) (c : Call) (q : c ≡ callAt (drop (serviceHead + callSize * (a + i)) s)) where
+  bounds : (c .stop < stops) × (c .arrival ≤ 59999) × (c .departure ≤ 59999) × (c .flags ≤ 15)
+  bounds = call-says stops c (rw q (call-sound stops s e (a + i) (omega arith)))
 
-      pub call-arrival : c .arrival ≤ 59999
-      call-arrival = bounds .0
+  pub call-stop : c .stop < stops
+  call-stop = bounds .0
 
-      pub call-departure : c .departure ≤ 59999
-      call-departure = bounds .1
+  pub call-arrival : c .arrival ≤ 59999
+  call-arrival = bounds .1
 
-      pub call-flags : c .flags ≤ 15
-      call-flags = bounds .2
+  pub call-departure : c .departure ≤ 59999
+  call-departure = bounds .2
+
+  pub call-flags : c .flags ≤ 15
+  call-flags = bounds .3
 
 pub call-is : (s : List ℕ) (k y : ℕ) (c : Call) → y ≡ k → c ≡ callAt (drop (serviceHead + callSize * y) s) → c ≡ callAt (drop (serviceHead + callSize * k) s)
 call-is s k y c z q = rw z at q
@@ -92,4 +96,4 @@ module _ (s g : List ℕ) (leg : ℕ) (q : g ≡ drop (categoryPlace s) s) where
         let z : getD (drop p g) 0 0 ≡ getD g p 0 = getD-drop p g 0 0 ∙ ap (λ (i : ℕ). getD g i 0) (add-zero p) in
         sym z ∙ (rw k at named)
 
-pub ruleset held = (tests, record-ends, categories-word, categories-within, categories-scaled, categories-room, category-inside, category-scaled, call-fits, call-arrival, call-departure, call-flags, call-is, rest-from, once-is, category-none, category-there)
+pub ruleset held = (tests, record-ends, categories-word, categories-within, categories-scaled, categories-room, category-inside, category-scaled, call-fits, call-is, rest-from, once-is, category-none, category-there)

@@ -1,20 +1,29 @@
 -- What the functions on the calls of a stretch answer. Assumes nothing.
 use Prim.Native.Nat.{ℕ, _+_, _*_}
-use mathlib.Core.List.{List, [], _∷_}
-use mathlib.Core.Bool.{Bool, _&&_, _||_}
-use mathlib.Core.Option.{Option}
+use mathlib.Core.List.{List, [], _∷_, map}
+use mathlib.Core.Bool.{Bool, not, _&&_, _||_}
+use mathlib.Core.Option.{Option, none}
 use lib.ListN.{drop}
-use lib.Dec.{leb}
+use lib.Dec.{ltb, leb, eqb}
 use Rattle.timetable.specs.Layout.{serviceHead, callSize}
-use Rattle.timetable.specs.Delivery.{Delivery, Service}
-use Rattle.timetable.specs.Table.{rowsIn, callAt}
-use Rattle.timetable.specs.Questions.{timesNeeded, callRefusal, rowOf}
+use Rattle.timetable.specs.Delivery.{Delivery, Service, CategoryRange}
+use Rattle.timetable.specs.Offences.{_<|>_}
+use Rattle.timetable.specs.Legs.{covering}
+use Rattle.timetable.specs.Table.{rowsIn, callAt, serviceAt, stopNumberAt, withStop, resolved}
+use Rattle.timetable.specs.Questions.{refuse, timesNeeded, neededLast, rowOf}
 use Rattle.timetable.specs.declared.Call.{Call}
 use Rattle.rows.specs.declared.Row.{Row}
 
--- the i-th call of a stretch that begins at call a and has n legs: what it is refused for, its needed times, its row
-unfoldable pub callFault : Delivery → Service → ℕ → ℕ → ℕ → ℕ → Call → Option ℕ
-callFault d s a n i before c = callRefusal d s a n i before c
+-- the i-th call of a stretch that begins at call a and has n legs: what it is refused for (no look at its stop, nor at the delivery: document 02,
+-- No. 10), its needed times, its row
+unfoldable pub callFault : Service → ℕ → ℕ → ℕ → ℕ → Call → Option ℕ
+callFault s a n i before c =
+    refuse (not (timesNeeded n i before c)) 36
+    <|> refuse (ltb i n && not (eqb (covering (λ (r : CategoryRange). r .legs) (s .categories) (a + i)) 1)) 33
+
+unfoldable pub callsFault : Service → ℕ → ℕ → ℕ → ℕ → List Call → Option ℕ
+callsFault s a n i before [] = none
+callsFault s a n i before (c ∷ cs) = callFault s a n i before c <|> callsFault s a n (i + 1) (neededLast n i c) cs
 
 unfoldable pub timesFine : ℕ → ℕ → ℕ → Call → Bool
 timesFine n i before c = timesNeeded n i before c
@@ -32,3 +41,13 @@ rowWords r = r .stop ∷ r .arrival ∷ r .departure ∷ r .flags ∷ r .number 
 -- m calls from the k-th on, of the words from a service's record on
 unfoldable pub callsFrom : List ℕ → ℕ → ℕ → List Call
 callsFrom s k m = rowsIn callAt callSize m (drop (serviceHead + callSize * k) s)
+
+-- a call, these calls and the service as the delivery has them: each stop by its number
+abbrev pub callShown : Delivery → Call → Call
+callShown d c = withStop (stopNumberAt (d .stops)) c
+
+unfoldable pub callsShown : Delivery → List ℕ → ℕ → ℕ → List Call
+callsShown d s k m = map (withStop (stopNumberAt (d .stops))) (callsFrom s k m)
+
+abbrev pub serviceShown : Delivery → List ℕ → Service
+serviceShown d s = resolved (d .stops) (serviceAt s)

@@ -1,4 +1,4 @@
-// The calls of a stretch: what a walk refuses of them (32, 36, 33), and the rows that it lists.
+// The calls of a stretch: what a walk refuses of them (36, 33), and the rows that it lists.
 // `w` is a whole table, `s` its words from the service's record on; the stretch begins at call `start` and has so many `legs`.
 use cover::FirstRange;
 use timetable::CALL_WORDS;
@@ -15,12 +15,12 @@ ghost use lib.Dec.{eqb};
 ghost use Rattle.timetable.specs.Layout.{serviceHead, callSize, rowSize, latestTime, allFlags, mostDelay};
 ghost use Rattle.timetable.specs.Delivery.{CategoryRange};
 ghost use Rattle.timetable.specs.Legs.{covering};
-ghost use Rattle.timetable.specs.Table.{calls#, callAt, categoryPlace, serviceAt, tableOf, recordSound};
-ghost use Rattle.timetable.specs.Questions.{neededLast, categoryOn, rowFlags, callsRefusal, rowsOf};
+ghost use Rattle.timetable.specs.Table.{stops#, calls#, callAt, categoryPlace, serviceAt, tableOf, sizesSound, recordSound};
+ghost use Rattle.timetable.specs.Questions.{neededLast, categoryOn, rowFlags, rowsOf};
 ghost use Rattle.words.specs.Words.{write};
 ghost use Rattle.table.specs.JustTable.{JustTable};
 ghost use Rattle.legs.specs.Run.{noted};
-ghost use Rattle.rows.specs.Rows.{callFault, timesFine, timeFine, rowFor, rowWords, callsFrom};
+ghost use Rattle.rows.specs.Rows.{callFault, callsFault, timesFine, timeFine, rowFor, rowWords, callsFrom, callShown, callsShown, serviceShown};
 
 // A row of a walk.
 pub struct Row {
@@ -36,20 +36,19 @@ pub struct Row {
     pub second: u32,
 }
 
-// ---- 32, 36 and 33
+// ---- 36 and 33
 
 // What the first refused call of the stretch is refused for; 0 for none.
-pub fn calls_refusal(w: &[u32], s: &[u32], start: u32, legs: u32) -> u32
-    requires { ⌜ JustTable (now w) ⌝ }
-    requires { ⌜ recordSound (now s) ≡ true ⌝ }
+pub fn calls_refusal(s: &[u32], start: u32, legs: u32) -> u32
+    requires { ⌜ sizesSound (now s) ≡ true ⌝ }
     requires { ⌜ start + legs < calls# (now s) ⌝ }
-    ensures { λ r. ⌜ noted r ≡ callsRefusal (tableOf (now (w .entry))) (serviceAt (now (s .entry))) start legs 0 0 (callsFrom (now (s .entry)) start (legs + 1)) ⌝ }
+    ensures { λ r. ⌜ noted r ≡ callsFault (serviceAt (now (s .entry))) start legs 0 0 (callsFrom (now (s .entry)) start (legs + 1)) ⌝ }
 {
     let mut i: u32 = 0;
     let mut before: u32 = 0;
     while i <= legs {
         let call = call_of(s, start + i);
-        let number = call_refusal(w, s, start, legs, i, before, call);
+        let number = call_refusal(s, start, legs, i, before, call);
         if number != 0 {
             return number;
         }
@@ -59,16 +58,12 @@ pub fn calls_refusal(w: &[u32], s: &[u32], start: u32, legs: u32) -> u32
     0
 }
 
-// What a call is refused for: 32 stop unknown, 36 a needed time, 33 its leaving leg without exactly one *G; 0 for nothing.
-fn call_refusal(w: &[u32], s: &[u32], start: u32, legs: u32, i: u32, before: u32, call: Call) -> u32
-    requires { ⌜ JustTable (now w) ⌝ }
-    requires { ⌜ recordSound (now s) ≡ true ⌝ }
+// What a call is refused for: 36 a needed time, 33 its leaving leg without exactly one *G; 0 for nothing.
+fn call_refusal(s: &[u32], start: u32, legs: u32, i: u32, before: u32, call: Call) -> u32
+    requires { ⌜ sizesSound (now s) ≡ true ⌝ }
     requires { ⌜ (start + legs < calls# (now s)) × (i ≤ legs) ⌝ }
-    ensures { λ r. ⌜ noted r ≡ callFault (tableOf (now (w .entry))) (serviceAt (now (s .entry))) start legs i before call ⌝ }
+    ensures { λ r. ⌜ noted r ≡ callFault (serviceAt (now (s .entry))) start legs i before call ⌝ }
 {
-    if !lookups::stop_known(w, call.stop) {
-        return 32;
-    }
     if !times_needed(legs, i, before, call) {
         return 36;
     }
@@ -131,10 +126,10 @@ fn choose(test: bool, first: u32, second: u32) -> u32
 // Writes the rows of the stretch from the front on.
 pub fn rows_into(w: &[u32], s: &[u32], start: u32, legs: u32, delay: u32, rows: &mut [u32])
     requires { ⌜ JustTable (now w) ⌝ }
-    requires { ⌜ recordSound (now s) ≡ true ⌝ }
+    requires { ⌜ recordSound (stops# (now w)) (now s) ≡ true ⌝ }
     requires { ⌜ (start + legs < calls# (now s)) × (delay ≤ mostDelay) ⌝ }
     requires { ⌜ rowSize * (legs + 1) ≤ length (now rows) ⌝ }
-    ensures { λ _. ⌜ now (rows .exit) ≡ write (now (rows .entry)) 0 (rowsOf (tableOf (now (w .entry))) (serviceAt (now (s .entry))) start legs delay 0 (callsFrom (now (s .entry)) start (legs + 1))) ⌝ }
+    ensures { λ _. ⌜ now (rows .exit) ≡ write (now (rows .entry)) 0 (rowsOf (tableOf (now (w .entry))) (serviceShown (tableOf (now (w .entry))) (now (s .entry))) start legs delay 0 (callsShown (tableOf (now (w .entry))) (now (s .entry)) start (legs + 1))) ⌝ }
 {
     let mut k: u32 = 0;
     let mut at: usize = 0;
@@ -156,17 +151,18 @@ fn put_row(t: &mut [u32], at: usize, row: Row)
     words::put3(t, at + 7, row.category, row.first, row.second);
 }
 
-// The row of a call.
+// The row of a call: its stop by its number, "Rows still show the number."
 fn row_of(w: &[u32], s: &[u32], start: u32, legs: u32, delay: u32, i: u32, call: Call) -> Row
     requires { ⌜ JustTable (now w) ⌝ }
-    requires { ⌜ recordSound (now s) ≡ true ⌝ }
+    requires { ⌜ sizesSound (now s) ≡ true ⌝ }
     requires { ⌜ (start + legs < calls# (now s)) × (i ≤ legs) × (delay ≤ mostDelay) ⌝ }
-    requires { ⌜ (call .arrival ≤ latestTime) × (call .departure ≤ latestTime) × (call .flags ≤ allFlags) ⌝ }
-    ensures { λ r. ⌜ rowWords r ≡ rowFor (tableOf (now (w .entry))) (serviceAt (now (s .entry))) start legs delay i call ⌝ }
+    requires { ⌜ (call .stop < stops# (now w)) × (call .arrival ≤ latestTime) × (call .departure ≤ latestTime) × (call .flags ≤ allFlags) ⌝ }
+    ensures { λ r. ⌜ rowWords r ≡ rowFor (tableOf (now (w .entry))) (serviceShown (tableOf (now (w .entry))) (now (s .entry))) start legs delay i (callShown (tableOf (now (w .entry))) call) ⌝ }
 {
-    let times = lookups::interchange_at(w, call.stop);
+    let stop = lookups::stop_number(w, call.stop);
+    let times = lookups::interchange_at(w, stop);
     Row {
-        stop: call.stop,
+        stop,
         arrival: choose(i == 0, 0, call.arrival + delay),
         departure: choose(i == legs, 0, call.departure + delay),
         flags: row_flags(legs, i, call.flags),
@@ -190,7 +186,7 @@ fn row_flags(legs: u32, i: u32, flags: u32) -> u32
 
 // The category of a leg, 0 after the last call.
 fn leaving(s: &[u32], leg: u32, last: bool) -> u32
-    requires { ⌜ recordSound (now s) ≡ true ⌝ }
+    requires { ⌜ sizesSound (now s) ≡ true ⌝ }
     ensures { λ r. ⌜ r ≡ cond last 0 (categoryOn (serviceAt (now (s .entry))) leg) ⌝ }
 {
     if last {
@@ -203,17 +199,16 @@ fn leaving(s: &[u32], leg: u32, last: bool) -> u32
 
 // The k-th call.
 fn call_of(s: &[u32], k: u32) -> Call
-    requires { ⌜ recordSound (now s) ≡ true ⌝ }
+    requires { ⌜ sizesSound (now s) ≡ true ⌝ }
     requires { ⌜ k < calls# (now s) ⌝ }
-    ensures is { λ r. ⌜ r ≡ callAt (drop (serviceHead + callSize * k) (now (s .entry))) ⌝ }
-    ensures bounds { λ r. ⌜ (r .arrival ≤ latestTime) × (r .departure ≤ latestTime) × (r .flags ≤ allFlags) ⌝ }
+    ensures { λ r. ⌜ r ≡ callAt (drop (serviceHead + callSize * k) (now (s .entry))) ⌝ }
 {
     table::call_at(s, SERVICE_WORDS + CALL_WORDS * table::size(k))
 }
 
 // Whether exactly one *G covers a leg.
 fn category_once(s: &[u32], leg: u32) -> bool
-    requires { ⌜ recordSound (now s) ≡ true ⌝ }
+    requires { ⌜ sizesSound (now s) ≡ true ⌝ }
     ensures { λ r. ⌜ r ≡ eqb (covering (λ (g : CategoryRange). g .legs) (serviceAt (now (s .entry)) .categories) leg) 1 ⌝ }
 {
     cover::covered_once(category_words(s), s[CATEGORIES_AT], CATEGORY_WORDS, leg)
@@ -221,7 +216,7 @@ fn category_once(s: &[u32], leg: u32) -> bool
 
 // The category of a leg: that of the first *G that covers it, 0 for none.
 fn category_on(s: &[u32], leg: u32) -> u32
-    requires { ⌜ recordSound (now s) ≡ true ⌝ }
+    requires { ⌜ sizesSound (now s) ≡ true ⌝ }
     ensures { λ r. ⌜ r ≡ categoryOn (serviceAt (now (s .entry))) leg ⌝ }
 {
     let g = category_words(s);
@@ -234,7 +229,7 @@ fn category_on(s: &[u32], leg: u32) -> u32
 
 // The words from the first *G of a service on.
 fn category_words(s: &[u32]) -> &[u32]
-    requires { ⌜ recordSound (now s) ≡ true ⌝ }
+    requires { ⌜ sizesSound (now s) ≡ true ⌝ }
     ensures { λ r. ⌜ now r ≡ drop (categoryPlace (now (s .entry))) (now (s .entry)) ⌝ }
 {
     &s[table::category_place(s)..]

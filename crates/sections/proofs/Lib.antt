@@ -8,3 +8,4 @@ pub mod Fills
 pub mod Files
 pub mod Classes
 pub mod Index
+pub mod Places

@@ -24,6 +24,7 @@ ghost use Rattle.timetable.specs.Files.{stopsIn, hasStop, stopOffence, namedSto
 ghost use Rattle.timetable.specs.Files.{interchangesIn, interchangeOffence, interchangesFirst};
 ghost use Rattle.timetable.specs.Files.{held-in, classOf, classesIn, hasClass, hasTariff, tariffOf, classOffence, classesFirst};
 ghost use Rattle.timetable.specs.Plan.{threeBytes};
+ghost use Rattle.timetable.specs.Table.{stopPlace};
 ghost use Rattle.sections.specs.Sections.{lineKind, keyOn, numberOn, asNumber, numbers, hasNumber};
 ghost use Rattle.sections.specs.Sections.{recordOffence, numberedOffence, lineOffence, wordsOf};
 ghost use Rattle.sections.specs.ClassIndex.{sound, holdsCode, differs, buckets, IndexOf, noteCode, noted, ClassesAfter};
@@ -142,6 +143,18 @@ pub fn field_bits(f: &[u8], m: &[u32], number: u32) -> [u32; BIT_WORDS]
         return [0u32; BIT_WORDS];
     };
     bitfield::bits_in(text_at(f, map::place_of(m, i)))
+}
+
+// The place of the first stop of this number among those of BAHNHOF, counted from 0; 0 where there is none.
+pub fn stop_place(f: &[u8], m: &[u32], number: u32) -> u32
+    requires { ⌜ MapOf Stops (now f) (now m) ⌝ }
+    ensures { λ r. ⌜ r ≡ stopPlace number (stopsIn (now (f .entry))) ⌝ }
+{
+    let found = map::find(m, number);
+    match found {
+        Found::At(i) => i as u32,
+        Found::Nowhere => 0,
+    }
 }
 
 // Whether a line of a file, or of a part of it, holds a record of this number: the map knows. The file is there for the promise alone.

@@ -9,7 +9,7 @@ use Rattle.timetable.specs.Trial.{trialWords as words}
 use Rattle.timetable.specs.Runs.{openingSound}
 use Rattle.timetable.specs.Table.{rowsIn, serviceAt, tableOf, recordSound, recordsSound, headSound, isTable}
 
--- the words, words lent after them, and the most that each bound lets pass; a call's number and administration have none
+-- the words, words lent after them, and the most that each bound lets pass (the last place of S too); a call's number and administration have none
 abbrev tables : List (List ℕ)
 tables =
     words
@@ -20,6 +20,7 @@ tables =
     ∷ set (set words 40 999) 41 999
     ∷ set (set (set words 40 9999) 41 9999) 47 1
     ∷ set (set words 41 1) 47 1
+    ∷ set words 48 2
     ∷ set (set (set words 49 59999) 50 59999) 51 15
     ∷ set (set (set words 52 4294967295) 53 4294967295) 54 4294967295
     ∷ []
@@ -58,6 +59,10 @@ damaged =
     ∷ set words 49 60000
     ∷ set words 50 60000
     ∷ set words 51 16
+    -- No. 10: a place not below S, which is 3; the stop's number in the place's stead, and a place that only more stops would have
+    ∷ set words 48 3
+    ∷ set words 48 1000011
+    ∷ set words 69 3
     -- No. 8: a kind that is neither 0 nor 1; of a *T a running time and a density over 9,999, and density 0
     ∷ set words 47 2
     ∷ set (set (set words 40 10000) 41 1) 47 1

@@ -1,7 +1,7 @@
 -- The words used of a table are a whole table and hold the same (`used-whole`, `used-same`, `used-word`), and where the sections of a whole table stand
 -- (`fields-are`, `stops-are`, `interchanges-are`, `classes-are`, `services-are`, with the bounds of `whole-says`, `sections-fit`). Assumes nothing.
 use mathlib.Core.Path.{_≡_, refl, _∙_, sym}
-use mathlib.Core.List.{List}
+use mathlib.Core.List.{List, map}
 use mathlib.Core.Bool.{true}
 use Prim.Native.Nat.{ℕ, _+_, _*_, _≤_, _<_}
 use native.Mathlib.Omega.{arith}
@@ -11,7 +11,7 @@ use lib.Dec.{leb}
 use borrow.Author.Tests.{le-leb}
 use Rattle.base.proofs.Loops.{and-true}
 use Rattle.timetable.specs.Layout.{headerSize}
-use Rattle.timetable.specs.Table.{word, rowsIn, bitFieldAt, stopAt, interchangeAt, classAt, servicesIn, used, tableOf, recordsSound, headSound, isTable}
+use Rattle.timetable.specs.Table.{word, rowsIn, bitFieldAt, stopAt, interchangeAt, classAt, servicesIn, used, resolved, stopsAt, tableOf, recordsSound, headSound, isTable}
 use Rattle.table.specs.JustTable.{JustTable, headerSound, classesPlace}
 use Rattle.table.proofs.Says.{HeadOf, table-parts, table-says, table-records}
 
@@ -37,14 +37,14 @@ module _ (w : List ℕ) (e : isTable w ≡ true) where
     used-still = rw (same-word m 0 q (omega arith), ← q, take-take m m w (omega arith))
 
     used-holds : tableOf (take m w) ≡ tableOf w
-    unfolding tableOf
+    unfolding tableOf stopsAt
     used-holds = rw (used-still, same-word m 1 q (omega arith), same-word m 2 q (omega arith), same-word m 3 q (omega arith), same-word m 4 q (omega arith), same-word m 5 q (omega arith), same-word m 6 q (omega arith), same-word m 7 q (omega arith), same-word m 8 q (omega arith), q)
 
     used-table : isTable (take m w) ≡ true
     unfolding isTable
     used-table =
         let head : headSound m m (word w 1) (word w 2) (word w 3) (word w 4) (word w 5) (word w 7) (word w 8) ≡ true = rw q (head-alone (length w) (word w 0) (word w 1) (word w 2) (word w 3) (word w 4) (word w 5) (word w 7) (word w 8) (table-parts w e .header)) in
-        let records : recordsSound (word w 6) (drop (word w 7) (take m w)) ≡ true = rw q (table-records w e) in
+        let records : recordsSound (word w 4) (word w 6) (drop (word w 7) (take m w)) ≡ true = rw q (table-records w e) in
         rw (used-holds, used-still, length-used m q, same-word m 0 q (omega arith), same-word m 1 q (omega arith), same-word m 2 q (omega arith), same-word m 3 q (omega arith), same-word m 4 q (omega arith), same-word m 5 q (omega arith), same-word m 6 q (omega arith), same-word m 7 q (omega arith), same-word m 8 q (omega arith), ← q, le-leb headerSize m (omega (arith, table-says w e .used-low)), head, table-parts w e .classes, records)
 
   pub used-whole : JustTable (used w)
@@ -77,7 +77,7 @@ module _ (w : List ℕ) (h : JustTable w) where
   fields-are = rw whole-used
 
   pub stops-are : tableOf w .stops ≡ rowsIn stopAt 3 (word w 4) (drop (9 + 13 * word w 3) w)
-  unfolding tableOf
+  unfolding tableOf stopsAt
   stops-are = rw whole-used
 
   pub interchanges-are : tableOf w .interchanges ≡ rowsIn interchangeAt 3 (word w 5) (drop (9 + 13 * word w 3 + 3 * word w 4) w)
@@ -88,9 +88,10 @@ module _ (w : List ℕ) (h : JustTable w) where
   unfolding tableOf
   classes-are = rw whole-used
 
-  pub services-are : tableOf w .services ≡ servicesIn (word w 6) (drop (word w 7) w)
+  -- each call's stop by its number
+  pub services-are : tableOf w .services ≡ map (resolved (tableOf w .stops)) (servicesIn (word w 6) (drop (word w 7) w))
   unfolding tableOf
   services-are = rw whole-used
 
-  pub services-sound : recordsSound (word w 6) (drop (word w 7) w) ≡ true
+  pub services-sound : recordsSound (word w 4) (word w 6) (drop (word w 7) w) ≡ true
   services-sound = rw whole-used at (table-records w (h .table))

@@ -34,15 +34,15 @@ call-is w p =
     )
 
 -- a call y was read at p, and x says whether it is sound
-module _ (w : List ℕ) (p k : ℕ) (r x : Bool) (y : Call) (h : 0 < k) (d : y ≡ callAt (drop p w)) (e : x ≡ callSound y) (v : every callSound (rowsIn callAt callSize k (drop p w)) ≡ r) where
-  pub calls-again : not x ≡ false → every callSound (rowsIn callAt callSize (k - 1) (drop (p + callSize) w)) ≡ r
-  calls-again = rows-again callSound callAt callSize w p k r x h (e ∙ ap callSound d) v
+module _ (stops : ℕ) (w : List ℕ) (p k : ℕ) (r x : Bool) (y : Call) (h : 0 < k) (d : y ≡ callAt (drop p w)) (e : x ≡ callSound stops y) (v : every (callSound stops) (rowsIn callAt callSize k (drop p w)) ≡ r) where
+  pub calls-again : not x ≡ false → every (callSound stops) (rowsIn callAt callSize (k - 1) (drop (p + callSize) w)) ≡ r
+  calls-again = rows-again (callSound stops) callAt callSize w p k r x h (e ∙ ap (callSound stops) d) v
 
   pub calls-out : not x ≡ true → false ≡ r
-  calls-out = rows-out callSound callAt callSize w p k r x h (e ∙ ap callSound d) v
+  calls-out = rows-out (callSound stops) callAt callSize w p k r x h (e ∙ ap (callSound stops) d) v
 
-pub calls-done : (w : List ℕ) (k : ℕ) (r : Bool) → k ≤ 0 → every callSound (rowsIn callAt callSize k w) ≡ r → true ≡ r
-calls-done w k r = rows-done callSound callAt callSize w k r
+pub calls-done : (stops : ℕ) (w : List ℕ) (k : ℕ) (r : Bool) → k ≤ 0 → every (callSound stops) (rowsIn callAt callSize k w) ≡ r → true ≡ r
+calls-done stops w k r = rows-done (callSound stops) callAt callSize w k r
 
 -- in order, by whether from may equal to
 module _ (loose : Bool) (f t : ℕ) where

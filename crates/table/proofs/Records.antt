@@ -40,32 +40,32 @@ pub ruleset sizes = (tests, length-differs, length-end, sizes-counts, sizes-leng
 
 -- ---- what a record holds: t says whether its opening line o is sound, x, y, z say whether its calls, its *G from g on and its *A VE from v on are sound
 
-module _ (w : List ℕ) (o : Opening) (a : o ≡ openingAt w) (t : Bool) (b : t ≡ openingSound o) where
+module _ (stops : ℕ) (w : List ℕ) (o : Opening) (a : o ≡ openingAt w) (t : Bool) (b : t ≡ openingSound o) where
   opening-is : t ≡ openingSound (openingAt w)
   opening-is = b ∙ ap openingSound a
 
-  pub parts-opening : not t ≡ true → false ≡ serviceSound (serviceAt w)
-  parts-opening h = sym (service-parts w ∙ rw (sym opening-is ∙ not-true t h))
+  pub parts-opening : not t ≡ true → false ≡ serviceSound stops (serviceAt w)
+  parts-opening h = sym (service-parts stops w ∙ rw (sym opening-is ∙ not-true t h))
 
-  module _ (h : not t ≡ false) (x : Bool) (e : x ≡ every callSound (rowsIn callAt callSize (getD w 6 0) (drop serviceHead w))) where
-    pub parts-calls : not x ≡ true → false ≡ serviceSound (serviceAt w)
-    parts-calls n = sym (service-parts w ∙ rw (sym opening-is ∙ not-false t h, sym e ∙ not-true x n))
+  module _ (h : not t ≡ false) (x : Bool) (e : x ≡ every (callSound stops) (rowsIn callAt callSize (getD w 6 0) (drop serviceHead w))) where
+    pub parts-calls : not x ≡ true → false ≡ serviceSound stops (serviceAt w)
+    parts-calls n = sym (service-parts stops w ∙ rw (sym opening-is ∙ not-false t h, sym e ∙ not-true x n))
 
     module _ (n : not x ≡ false) (g : ℕ) (i : g ≡ categoryPlace w) (y : Bool) (f : y ≡ every (legsSound false (getD w 6 0)) (rowsIn (legsAt 1) 3 (getD w 7 0) (drop g w))) where
-      after-calls : serviceSound (serviceAt w) ≡ (y && (every (legsSound false (getD w 6 0)) (rowsIn (legsAt 1) 3 (getD w 8 0) (drop (dayPlace w) w)) && every (legsSound true (getD w 6 0)) (rowsIn (legsAt 2) 4 (getD w 9 0) (drop (extraPlace w) w))))
-      after-calls = service-parts w ∙ rw (sym opening-is ∙ not-false t h, sym e ∙ not-false x n, f, i)
+      after-calls : serviceSound stops (serviceAt w) ≡ (y && (every (legsSound false (getD w 6 0)) (rowsIn (legsAt 1) 3 (getD w 8 0) (drop (dayPlace w) w)) && every (legsSound true (getD w 6 0)) (rowsIn (legsAt 2) 4 (getD w 9 0) (drop (extraPlace w) w))))
+      after-calls = service-parts stops w ∙ rw (sym opening-is ∙ not-false t h, sym e ∙ not-false x n, f, i)
 
-      pub parts-categories : not y ≡ true → false ≡ serviceSound (serviceAt w)
+      pub parts-categories : not y ≡ true → false ≡ serviceSound stops (serviceAt w)
       parts-categories m = sym (after-calls ∙ rw (not-true y m))
 
       module _ (m : not y ≡ false) (v : ℕ) (j : v ≡ dayPlace w) (z : Bool) (k : z ≡ every (legsSound false (getD w 6 0)) (rowsIn (legsAt 1) 3 (getD w 8 0) (drop v w))) where
-        after-categories : serviceSound (serviceAt w) ≡ (z && every (legsSound true (getD w 6 0)) (rowsIn (legsAt 2) 4 (getD w 9 0) (drop (extraPlace w) w)))
+        after-categories : serviceSound stops (serviceAt w) ≡ (z && every (legsSound true (getD w 6 0)) (rowsIn (legsAt 2) 4 (getD w 9 0) (drop (extraPlace w) w)))
         after-categories = after-calls ∙ rw (not-false y m, k, j)
 
-        pub parts-days : not z ≡ true → false ≡ serviceSound (serviceAt w)
+        pub parts-days : not z ≡ true → false ≡ serviceSound stops (serviceAt w)
         parts-days o = sym (after-categories ∙ rw (not-true z o))
 
-        pub parts-extras : not z ≡ false → (p : ℕ) → p ≡ extraPlace w → (r : Bool) → r ≡ every (legsSound true (getD w 6 0)) (rowsIn (legsAt 2) 4 (getD w 9 0) (drop p w)) → r ≡ serviceSound (serviceAt w)
+        pub parts-extras : not z ≡ false → (p : ℕ) → p ≡ extraPlace w → (r : Bool) → r ≡ every (legsSound true (getD w 6 0)) (rowsIn (legsAt 2) 4 (getD w 9 0) (drop p w)) → r ≡ serviceSound stops (serviceAt w)
         parts-extras o p l r q = sym (after-categories ∙ rw (not-false z o, q, l))
 
 pub ruleset parts = (tests, parts-opening, parts-calls, parts-categories, parts-days, parts-extras)
@@ -73,17 +73,17 @@ pub ruleset parts = (tests, parts-opening, parts-calls, parts-categories, parts-
 -- ---- one record; x says whether its sizes are sound
 
 module _ (w : List ℕ) (x : Bool) (e : x ≡ sizesSound w) where
-  pub record-sizes : not x ≡ true → false ≡ recordSound w
+  pub record-sizes : (stops : ℕ) → not x ≡ true → false ≡ recordSound stops w
   unfolding recordSound
-  record-sizes n = rw (sym e ∙ not-true x n)
+  record-sizes stops n = rw (sym e ∙ not-true x n)
 
   module _ (n : not x ≡ false) where
     pub record-room : recordEnd w ≤ length w
     record-room = sizes-say w (sym e ∙ not-false x n) .inside
 
-    pub record-parts : (y : Bool) → y ≡ serviceSound (serviceAt w) → y ≡ recordSound w
+    pub record-parts : (stops : ℕ) (y : Bool) → y ≡ serviceSound stops (serviceAt w) → y ≡ recordSound stops w
     unfolding recordSound
-    record-parts y f = f ∙ rw (sym e ∙ not-false x n)
+    record-parts stops y f = f ∙ rw (sym e ∙ not-false x n)
 
 pub ruleset one = (tests, record-sizes, record-room, record-parts)
 
@@ -108,23 +108,23 @@ part-is (suc a) (suc b) (x ∷ l) =
 
 -- ---- records one after the other; x says whether the record at `at` is sound
 
-pub one-record : (k : ℕ) (u : List ℕ) → 0 < k → recordsSound k u ≡ (recordSound u && recordsSound (k - 1) (drop (word u 0) u))
+pub one-record : (stops k : ℕ) (u : List ℕ) → 0 < k → recordsSound stops k u ≡ (recordSound stops u && recordsSound stops (k - 1) (drop (word u 0) u))
 unfolding recordsSound
-one-record zero u h = absurd (omega arith)
-one-record (suc k) u h =
+one-record stops zero u h = absurd (omega arith)
+one-record stops (suc k) u h =
     let e : suc k - 1 ≡ k = omega arith in
     rw e
 
 pub first-word : (w : List ℕ) (at : ℕ) → getD (drop at w) 0 0 ≡ getD w at 0
 first-word w at = getD-drop at w 0 0 ∙ rw add-zero
 
-module _ (w : List ℕ) (at : ℕ) (x : Bool) (i : at ≤ length w) (e : x ≡ recordSound (take (length w - at) (drop at w))) where
-  record-here : x ≡ recordSound (drop at w)
-  record-here = e ∙ ap recordSound (rest-is w at)
+module _ (stops : ℕ) (w : List ℕ) (at : ℕ) (x : Bool) (i : at ≤ length w) (e : x ≡ recordSound stops (take (length w - at) (drop at w))) where
+  record-here : x ≡ recordSound stops (drop at w)
+  record-here = e ∙ ap (recordSound stops) (rest-is w at)
 
   module _ (n : not x ≡ false) where
     sizes-here : Sizes (drop at w)
-    sizes-here = record-says (drop at w) (sym record-here ∙ not-false x n) .0
+    sizes-here = record-says stops (drop at w) (sym record-here ∙ not-false x n) .0
 
     pub records-inside : at < length w
     records-inside = omega (arith, sizes-here .head, length-drop at w)
@@ -132,19 +132,19 @@ module _ (w : List ℕ) (at : ℕ) (x : Bool) (i : at ≤ length w) (e : x ≡ r
     pub records-fit : (y : ℕ) → y ≡ getD w at 0 → at + y ≤ length w
     records-fit y q = omega (arith, sizes-here .said, sizes-here .inside, length-drop at w, first-word w at, records-inside)
 
-  module _ (k : ℕ) (r : Bool) (h : 0 < k) (v : recordsSound k (drop at w) ≡ r) where
-    pub records-again : (y : ℕ) → y ≡ getD w at 0 → not x ≡ false → recordsSound (k - 1) (drop (at + y) w) ≡ r
-    records-again y q n = rw (one-record k (drop at w) h, sym record-here ∙ not-false x n, first-word w at, ← q, drop-drop y at w) at v
+  module _ (k : ℕ) (r : Bool) (h : 0 < k) (v : recordsSound stops k (drop at w) ≡ r) where
+    pub records-again : (y : ℕ) → y ≡ getD w at 0 → not x ≡ false → recordsSound stops (k - 1) (drop (at + y) w) ≡ r
+    records-again y q n = rw (one-record stops k (drop at w) h, sym record-here ∙ not-false x n, first-word w at, ← q, drop-drop y at w) at v
 
     pub records-out : not x ≡ true → false ≡ r
-    records-out n = rw (one-record k (drop at w) h, sym record-here ∙ not-true x n) at v
+    records-out n = rw (one-record stops k (drop at w) h, sym record-here ∙ not-true x n) at v
 
-pub records-done : (w : List ℕ) (at k : ℕ) (r : Bool) → at ≤ length w → k ≤ 0 → recordsSound k (drop at w) ≡ r → eqb at (length w) ≡ r
+pub records-done : (stops : ℕ) (w : List ℕ) (at k : ℕ) (r : Bool) → at ≤ length w → k ≤ 0 → recordsSound stops k (drop at w) ≡ r → eqb at (length w) ≡ r
 unfolding recordsSound
-records-done w at zero r i h v =
+records-done stops w at zero r i h v =
     by-eqb (λ (t : Bool). t ≡ eqb (length w - at) 0) at (length w) (λ q. sym (eq-eqb (length w - at) 0 (omega arith))) (λ d. sym (ne-eqb (length w - at) 0 (λ z. d (omega arith))))
     ∙ rw (length-drop at w) at v
-records-done w at (suc k) r i h v = absurd (omega arith)
+records-done stops w at (suc k) r i h v = absurd (omega arith)
 
 pub ruleset records = (tests, records-inside, records-fit, records-again, records-out, records-done)
 
@@ -182,7 +182,7 @@ module _ (w : List ℕ) (h : headerSize ≤ length w) (x : Bool) (e : x ≡ head
       table-classes m = rw (le-leb headerSize (length w) h, sym e ∙ not-false x n, sym g ∙ not-true y m)
 
       module _ (m : not y ≡ false) (at end : ℕ) (q : at ≡ getD w 7 0) (p : end ≡ getD w 0 0) where
-        pub table-rest : (r : Bool) → r ≡ recordsSound (getD w 6 0) (take (end - at) (drop at w)) → r ≡ isTable w
+        pub table-rest : (r : Bool) → r ≡ recordsSound (getD w 4 0) (getD w 6 0) (take (end - at) (drop at w)) → r ≡ isTable w
         unfolding isTable
         table-rest r f = f ∙ rw (le-leb headerSize (length w) h, sym e ∙ not-false x n, sym g ∙ not-false y m, ← p, ← q, part-is at end w)
 

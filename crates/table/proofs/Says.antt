@@ -7,8 +7,8 @@ use Prim.Native.Nat.{ℕ, _+_, _*_, _≤_, _<_}
 use native.Mathlib.Omega.{arith}
 use lib.ListN.{length, drop}
 use lib.Seq.{drop-drop}
-use lib.Dec.{leb, eqb}
-use borrow.Author.Tests.{leb-true, eqb-true}
+use lib.Dec.{ltb, leb, eqb}
+use borrow.Author.Tests.{ltb-true, leb-true, eqb-true}
 use Rattle.base.specs.Lists.{every}
 use Rattle.base.proofs.Loops.{and-true}
 use Rattle.calendar.specs.Calendar.{lastDay}
@@ -48,43 +48,45 @@ sizes-say w e =
       inside = omega (arith, eqb-true (word w 0) (recordEnd w) said, leb-true (word w 0) (length w) room);
     }
 
--- what it holds, read by its sections
-pub service-parts : (w : List ℕ) → serviceSound (serviceAt w) ≡ (openingSound (openingAt w) && (every callSound (rowsIn callAt callSize (calls# w) (drop serviceHead w)) && (every (legsSound false (calls# w)) (rowsIn (legsAt 1) 3 (categories# w) (drop (categoryPlace w) w)) && (every (legsSound false (calls# w)) (rowsIn (legsAt 1) 3 (days# w) (drop (dayPlace w) w)) && every (legsSound true (calls# w)) (rowsIn (legsAt 2) 4 (extras# w) (drop (extraPlace w) w))))))
+-- what it holds, read by its sections, in a table with so many stops
+pub service-parts : (stops : ℕ) (w : List ℕ) → serviceSound stops (serviceAt w) ≡ (openingSound (openingAt w) && (every (callSound stops) (rowsIn callAt callSize (calls# w) (drop serviceHead w)) && (every (legsSound false (calls# w)) (rowsIn (legsAt 1) 3 (categories# w) (drop (categoryPlace w) w)) && (every (legsSound false (calls# w)) (rowsIn (legsAt 1) 3 (days# w) (drop (dayPlace w) w)) && every (legsSound true (calls# w)) (rowsIn (legsAt 2) 4 (extras# w) (drop (extraPlace w) w))))))
 unfolding serviceAt
-service-parts w =
+service-parts stops w =
     let c = calls# w in
     rw (length-rows callAt callSize c (drop serviceHead w), rows-as (legsSound false c) (λ (r : CategoryRange). r .legs) categoryAt 3 (categories# w) (drop (categoryPlace w) w), rows-as (legsSound false c) (λ (r : DayRange). r .legs) dayAt 3 (days# w) (drop (dayPlace w) w), rows-as (legsSound true c) (λ (r : ExtraRange). r .legs) extraAt 4 (extras# w) (drop (extraPlace w) w))
 
-pub record Bounds (w : List ℕ) : Type 0 where
+pub record Bounds (stops : ℕ) (w : List ℕ) : Type 0 where
   pub opening : openingSound (openingAt w) ≡ true
-  pub calls : every callSound (rowsIn callAt callSize (calls# w) (drop serviceHead w)) ≡ true
+  pub calls : every (callSound stops) (rowsIn callAt callSize (calls# w) (drop serviceHead w)) ≡ true
 
-pub service-says : (w : List ℕ) → serviceSound (serviceAt w) ≡ true → Bounds w
-service-says w e =
-    let (o, e2) = and-true (openingSound (openingAt w)) _ (sym (service-parts w) ∙ e) in
-    let cs = and-true (every callSound (rowsIn callAt callSize (calls# w) (drop serviceHead w))) _ e2 .0 in
+pub service-says : (stops : ℕ) (w : List ℕ) → serviceSound stops (serviceAt w) ≡ true → Bounds stops w
+service-says stops w e =
+    let (o, e2) = and-true (openingSound (openingAt w)) _ (sym (service-parts stops w) ∙ e) in
+    let cs = and-true (every (callSound stops) (rowsIn callAt callSize (calls# w) (drop serviceHead w))) _ e2 .0 in
     record { opening = o; calls = cs }
 
-pub record-says : (w : List ℕ) → recordSound w ≡ true → Sizes w × Bounds w
+pub record-says : (stops : ℕ) (w : List ℕ) → recordSound stops w ≡ true → Sizes w × Bounds stops w
 unfolding recordSound
-record-says w e =
+record-says stops w e =
     let (s, b) = and-true (sizesSound w) _ e in
-    (sizes-say w s, service-says w b)
+    (sizes-say w s, service-says stops w b)
 
--- the i-th of its calls: it is within the words, and sound
-module _ (w : List ℕ) (e : recordSound w ≡ true) (i : ℕ) where
-  pub call-inside : i < calls# w → serviceHead + callSize * i + callSize ≤ length w
-  call-inside h = omega (arith, record-says w e .0 .inside)
+module _ (stops : ℕ) (w : List ℕ) (e : recordSound stops w ≡ true) where
+  pub record-sized : sizesSound w ≡ true
+  unfolding recordSound
+  record-sized = and-true (sizesSound w) _ e .0
 
-  pub call-sound : i < calls# w → callSound (callAt (drop (serviceHead + callSize * i) w)) ≡ true
-  call-sound h = rw (drop-drop (callSize * i) serviceHead w) at (every-row callSound callAt callSize (calls# w) i (drop serviceHead w) (record-says w e .1 .calls) h)
+  -- the i-th of its calls
+  pub call-sound : (i : ℕ) → i < calls# w → callSound stops (callAt (drop (serviceHead + callSize * i) w)) ≡ true
+  call-sound i h = rw (drop-drop (callSize * i) serviceHead w) at (every-row (callSound stops) callAt callSize (calls# w) i (drop serviceHead w) (record-says stops w e .1 .calls) h)
 
 -- what a sound call says
-pub call-says : (c : Call) → callSound c ≡ true → (c .arrival ≤ 59999) × (c .departure ≤ 59999) × (c .flags ≤ 15)
-call-says c e =
-    let (a, e1) = and-true (leb (c .arrival) 59999) _ e in
+pub call-says : (stops : ℕ) (c : Call) → callSound stops c ≡ true → (c .stop < stops) × (c .arrival ≤ 59999) × (c .departure ≤ 59999) × (c .flags ≤ 15)
+call-says stops c e =
+    let (s, e0) = and-true (ltb (c .stop) stops) _ e in
+    let (a, e1) = and-true (leb (c .arrival) 59999) _ e0 in
     let (d, f) = and-true (leb (c .departure) 59999) _ e1 in
-    (leb-true (c .arrival) 59999 a, leb-true (c .departure) 59999 d, leb-true (c .flags) 15 f)
+    (ltb-true (c .stop) stops s, leb-true (c .arrival) 59999 a, leb-true (c .departure) 59999 d, leb-true (c .flags) 15 f)
 
 -- ---- the header
 
@@ -126,7 +128,7 @@ header-says w = head-says (length w) (word w 0) (word w 1) (word w 2) (word w 3)
 pub record Parts (w : List ℕ) : Type 0 where
   pub header : headerSound w ≡ true
   pub classes : every classSound (tableOf w .classes) ≡ true
-  pub records : recordsSound (word w 6) (drop (word w 7) (used w)) ≡ true
+  pub records : recordsSound (word w 4) (word w 6) (drop (word w 7) (used w)) ≡ true
 
 pub table-parts : (w : List ℕ) → isTable w ≡ true → Parts w
 unfolding isTable
@@ -138,5 +140,5 @@ table-parts w e =
 pub table-says : (w : List ℕ) → isTable w ≡ true → HeadOf w
 table-says w e = header-says w (table-parts w e .header)
 
-pub table-records : (w : List ℕ) → isTable w ≡ true → recordsSound (word w 6) (drop (word w 7) (used w)) ≡ true
+pub table-records : (w : List ℕ) → isTable w ≡ true → recordsSound (word w 4) (word w 6) (drop (word w 7) (used w)) ≡ true
 table-records w e = table-parts w e .records

@@ -69,6 +69,7 @@ pub fn is_table(w: &[u32]) -> bool
     records_sound(
         &w[size(w[FIRST_SERVICE_AT])..size(w[USED_AT])],
         w[SERVICES_AT],
+        w[STOPS_AT],
     )
 }
 
@@ -200,14 +201,14 @@ fn classes_within(w: &[u32], at: usize, n: u32) -> bool
 
 // ---- records
 
-// Whether v records follow each other and end with the words.
-fn records_sound(w: &[u32], v: u32) -> bool
-    ensures { λ r. ⌜ r ≡ recordsSound v (now (w .entry)) ⌝ }
+// Whether v records follow each other and end with the words; the table has so many stops.
+fn records_sound(w: &[u32], v: u32, stops: u32) -> bool
+    ensures { λ r. ⌜ r ≡ recordsSound stops v (now (w .entry)) ⌝ }
 {
     let mut at = 0;
     let mut k = v;
     while 0 < k {
-        if !record_sound(&w[at..]) {
+        if !record_sound(&w[at..], stops) {
             return false;
         }
         at += size(w[at]);
@@ -217,13 +218,13 @@ fn records_sound(w: &[u32], v: u32) -> bool
 }
 
 // Whether the record at the front of the words is sound.
-fn record_sound(w: &[u32]) -> bool
-    ensures { λ r. ⌜ r ≡ recordSound (now (w .entry)) ⌝ }
+fn record_sound(w: &[u32], stops: u32) -> bool
+    ensures { λ r. ⌜ r ≡ recordSound stops (now (w .entry)) ⌝ }
 {
     if !sizes_sound(w) {
         return false;
     }
-    service_sound(w)
+    service_sound(w, stops)
 }
 
 // Whether its counts are in their bounds, and it is as long as it says.
@@ -289,15 +290,15 @@ fn record_size(c: u32, g: u32, v: u32, a: u32) -> u64
 }
 
 // Whether all that it holds is within bounds.
-fn service_sound(w: &[u32]) -> bool
+fn service_sound(w: &[u32], stops: u32) -> bool
     requires { ⌜ recordEnd (now w) ≤ length (now w) ⌝ }
-    ensures { λ r. ⌜ r ≡ serviceSound (serviceAt (now (w .entry))) ⌝ }
+    ensures { λ r. ⌜ r ≡ serviceSound stops (serviceAt (now (w .entry))) ⌝ }
 {
     if !runs::opening_sound(opening_at(w)) {
         return false;
     }
     let c = w[CALLS_AT];
-    if !calls_sound(w, SERVICE_WORDS, c) {
+    if !calls_sound(w, SERVICE_WORDS, c, stops) {
         return false;
     }
     if !ranges_sound(w, category_place(w), w[CATEGORIES_AT], 1, false, c) {
@@ -368,15 +369,15 @@ pub fn call_at(w: &[u32], p: usize) -> Call
 
 // ---- calls and ranges
 
-// Whether the n calls from a place on have their times and flags within bounds.
-fn calls_sound(w: &[u32], at: usize, n: u32) -> bool
+// Whether the n calls from a place on have their places, times and flags within bounds.
+fn calls_sound(w: &[u32], at: usize, n: u32, stops: u32) -> bool
     requires { ⌜ at + callSize * n ≤ length (now w) ⌝ }
-    ensures { λ r. ⌜ r ≡ every callSound (rowsIn callAt callSize n (drop at (now (w .entry)))) ⌝ }
+    ensures { λ r. ⌜ r ≡ every (callSound stops) (rowsIn callAt callSize n (drop at (now (w .entry)))) ⌝ }
 {
     let mut p = at;
     let mut k = n;
     while 0 < k {
-        if !call_sound(call_at(w, p)) {
+        if !call_sound(call_at(w, p), stops) {
             return false;
         }
         p += CALL_WORDS;
@@ -385,9 +386,13 @@ fn calls_sound(w: &[u32], at: usize, n: u32) -> bool
     true
 }
 
-fn call_sound(c: Call) -> bool
-    ensures { λ r. ⌜ r ≡ callSound c ⌝ }
+// "21 additionally refuses a place not below S" (document 02, No. 10).
+fn call_sound(c: Call, stops: u32) -> bool
+    ensures { λ r. ⌜ r ≡ callSound stops c ⌝ }
 {
+    if stops <= c.stop {
+        return false;
+    }
     if LATEST_TIME < c.arrival {
         return false;
     }

@@ -2,10 +2,11 @@
 use Prim.Native.Nat.{ℕ}
 use mathlib.Core.List.{List, [], _∷_, _++_}
 use Rattle.lines.specs.Lines.{linesOf}
+use Rattle.timetable.specs.Files.{stopsIn}
 use Rattle.timetable.specs.Service.{blocks}
 use Rattle.sections.specs.declared.Section.the-variants.{BitFields, Stops, Interchanges, Classes}
 use Rattle.section_words.specs.Words.{sectionWords}
-use Rattle.plan.specs.Services.{blockWords}
+use Rattle.plan.specs.Services.{placedWords}
 use Rattle.table_words.specs.declared.Header.{Header}
 
 abbrev pub headerWords : Header → List ℕ
@@ -15,6 +16,6 @@ headerWords h = h .words ∷ h .start ∷ h .days ∷ h .fields ∷ h .stops ∷
 unfoldable pub sectionsWords : List ℕ → List ℕ → List ℕ → List ℕ → List ℕ
 sectionsWords b s u z = sectionWords BitFields (linesOf b) ++ (sectionWords Stops (linesOf s) ++ (sectionWords Interchanges (linesOf u) ++ sectionWords Classes (linesOf z)))
 
--- and of FPLAN
+-- and of FPLAN, whose calls point at the stops of BAHNHOF
 abbrev pub bodyWords : List ℕ → List ℕ → List ℕ → List ℕ → List ℕ → List ℕ
-bodyWords b s u z p = sectionsWords b s u z ++ blockWords (blocks (linesOf p))
+bodyWords b s u z p = sectionsWords b s u z ++ placedWords (stopsIn s) (blocks (linesOf p))

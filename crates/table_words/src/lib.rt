@@ -12,6 +12,7 @@ ghost use Rattle.words.specs.Words.{write};
 ghost use Rattle.timetable.specs.Layout.{headerSize, mostFileBytes};
 ghost use Rattle.timetable.specs.Service.{blocks};
 ghost use Rattle.timetable.specs.Checks.{headFirst};
+ghost use Rattle.reading.specs.Maps.{StopMap};
 ghost use Rattle.plan.specs.Services.{withinLimits};
 ghost use Rattle.table_words.specs.Words.{headerWords, sectionsWords, bodyWords};
 
@@ -29,24 +30,26 @@ pub struct Header {
     pub classes: u32,
 }
 
-// The header, and what each file gives, one after the other.
+// The header, and what each file gives, one after the other. `stops` is the map of BAHNHOF.
 pub fn put_table(
     h: Header,
     bitfeld: &[u8],
     bahnhof: &[u8],
+    stops: &[u32],
     umsteigb: &[u8],
     fplan: &[u8],
     zugart: &[u8],
     t: &mut [u32],
 )
     requires { ⌜ (length (now bitfeld) ≤ mostFileBytes) × (length (now bahnhof) ≤ mostFileBytes) × (length (now umsteigb) ≤ mostFileBytes) × (length (now zugart) ≤ mostFileBytes) × (length (now fplan) ≤ mostFileBytes) ⌝ }
+    requires { ⌜ StopMap (now bahnhof) (now stops) ⌝ }
     requires { ⌜ (headFirst (linesOf (now fplan)) ≡ none) × (withinLimits (blocks (linesOf (now fplan))) ≡ true) ⌝ }
     requires { ⌜ headerSize + length (bodyWords (now bitfeld) (now bahnhof) (now umsteigb) (now zugart) (now fplan)) ≤ length (now t) ⌝ }
     ensures { λ r. ⌜ now (t .exit) ≡ write (now (t .entry)) 0 (headerWords h ++ bodyWords (now (bitfeld .entry)) (now (bahnhof .entry)) (now (umsteigb .entry)) (now (zugart .entry)) (now (fplan .entry))) ⌝ }
 {
     put_header(h, t);
     let services = put_sections(bitfeld, bahnhof, umsteigb, zugart, t, HEADER_WORDS);
-    plan::put_plan(fplan, t, services);
+    plan::put_plan(fplan, bahnhof, stops, t, services);
 }
 
 fn put_header(h: Header, t: &mut [u32])

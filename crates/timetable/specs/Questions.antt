@@ -161,12 +161,12 @@ nameBy (some r) = r .name
 abbrev pub categoryOn : Service → ℕ → ℕ
 categoryOn s k = nameBy (find (λ (r : CategoryRange). covers k (r .legs)) (s .categories))
 
--- "Each call of the stretch: 32 stop unknown, 36 .., 33 leaving leg without exactly one *G." The stretch begins at call a and has n legs;
--- i counts its calls from 0, and `before` is the needed time before.
+-- "Each call of the stretch: 32 stop unknown, 36 .., 33 leaving leg without exactly one *G." Document 02, No. 10: "show that 32 can no longer occur, and
+-- retire it" (a table's calls point at its own stops: 21). The stretch begins at call a and has n legs; i counts its calls from 0, and `before` is
+-- the needed time before. (Only 32 looked at the delivery d; it is kept here and in `callsRefusal` so that the contracts stay.)
 abbrev pub callRefusal : Delivery → Service → ℕ → ℕ → ℕ → ℕ → Call → Option ℕ
 callRefusal d s a n i before c =
-    refuse (not (hasStop (c .stop) (d .stops))) 32
-    <|> refuse (not (timesNeeded n i before c)) 36
+    refuse (not (timesNeeded n i before c)) 36
     <|> refuse (ltb i n && not (eqb (covering (λ (r : CategoryRange). r .legs) (s .categories) (a + i)) 1)) 33
 
 unfoldable pub callsRefusal : Delivery → Service → ℕ → ℕ → ℕ → ℕ → List Call → Option ℕ

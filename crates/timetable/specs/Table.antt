@@ -1,9 +1,10 @@
 -- Table (32-bit words): the words of a delivery as load writes them, any words read back, and when they are "not a table (21)". Reading is total:
 -- n records from the front of the words. Sizes and limits: Layout. Assumes nothing.
 use Prim.Native.Nat.{ℕ, zero, suc, _+_, _-_, _*_}
-use mathlib.Core.List.{List, [], _∷_, _++_}
+use mathlib.Core.List.{List, [], _∷_, _++_, map}
 use mathlib.Core.Bool.{Bool, true, false, cond, _&&_}
-use lib.ListN.{length, getD, take, drop}
+use mathlib.Core.Option.{Option, none, some}
+use lib.ListN.{length, getD, getElem?, take, drop}
 use lib.Dec.{ltb, leb, eqb}
 use Rattle.base.specs.Lists.{every, gathered}
 use Rattle.calendar.specs.Calendar.{lastDay}
@@ -14,6 +15,39 @@ use Rattle.timetable.specs.Ranges.{inOrder}
 use Rattle.timetable.specs.Runs.{openingSound}
 use Rattle.timetable.specs.declared.Call.{Call}
 use Rattle.timetable.specs.declared.Opening.{Opening}
+
+-- ---- document 02, No. 10: "A call now holds the place of its stop in the stop section, counted from 0, in place of the number." In a table's own
+-- calls the stop is such a place: a delivery's calls point at its stops when they are written, and are resolved when they are read back.
+
+-- the place of the first stop with a number, where the first of these stands at place k (0 where there is none: such a delivery is refused, 9)
+unfoldable pub placeFrom : ℕ → ℕ → List StopRecord → ℕ
+placeFrom k n [] = 0
+placeFrom k n (s ∷ stops) = cond (eqb (s .number) n) k (placeFrom (k + 1) n stops)
+
+abbrev pub stopPlace : ℕ → List StopRecord → ℕ
+stopPlace n stops = placeFrom 0 n stops
+
+abbrev pub numberBy : Option StopRecord → ℕ
+numberBy none = 0
+numberBy (some s) = s .number
+
+-- the number of the stop at a place (0 where there is none: such words are not a table)
+unfoldable pub stopNumberAt : List StopRecord → ℕ → ℕ
+stopNumberAt stops place = numberBy (getElem? stops place)
+
+-- a call with another stop, and a service with each call's stop looked up
+abbrev pub withStop : (ℕ → ℕ) → Call → Call
+withStop f c = record { stop = f (c .stop); arrival = c .arrival; departure = c .departure; flags = c .flags; number = c .number; high = c .high; low = c .low }
+
+abbrev pub withStops : (ℕ → ℕ) → Service → Service
+withStops f s = record { line = s .line; opening = s .opening; calls = map (withStop f) (s .calls); categories = s .categories; days = s .days; extras = s .extras }
+
+-- a service as the table has it, and back: "Rows still show the number."
+unfoldable pub pointing : List StopRecord → Service → Service
+pointing stops s = withStops (λ (n : ℕ). stopPlace n stops) s
+
+unfoldable pub resolved : List StopRecord → Service → Service
+resolved stops s = withStops (stopNumberAt stops) s
 
 -- ---- as load writes it: "per bit field 13 (number, 12 words), stop 3 .., interchange 3 (number, two times), then services, all in file order";
 -- No. 1's section stands between the interchange records and the services
@@ -32,7 +66,7 @@ abbrev pub classWords : CategoryClass → List ℕ
 classWords c = c .code ∷ c .class ∷ []
 
 -- "calls of 4 (stop, arrival, departure, flags ..)"; document 02, No. 5: "Each call grows from 4 to 7 words: number and the two administration words
--- follow the flags."
+-- follow the flags." (The stop is a place: No. 10.)
 abbrev pub callWords : Call → List ℕ
 callWords c = c .stop ∷ c .arrival ∷ c .departure ∷ c .flags ∷ c .number ∷ c .high ∷ c .low ∷ []
 
@@ -68,7 +102,7 @@ sections d =
     ++ (gathered stopWords (d .stops)
     ++ (gathered interchangeWords (d .interchanges)
     ++ (gathered classWords (d .classes)
-    ++ gathered serviceWords (d .services))))
+    ++ gathered serviceWords (map (pointing (d .stops)) (d .services)))))
 
 -- "Header: words used, first day, n, bit fields B, stops S, interchange records U, services V, place of first service."; No. 1: "nine words, the last being
 -- the count of categories"
@@ -108,6 +142,7 @@ interchangeAt w = record { number = word w 0; firstTime = word w 1; secondTime =
 abbrev pub classAt : List ℕ → CategoryClass
 classAt w = record { code = word w 0; class = word w 1 }
 
+-- the stop is a place here, unresolved (No. 10)
 abbrev pub callAt : List ℕ → Call
 callAt w = record { stop = word w 0; arrival = word w 1; departure = word w 2; flags = word w 3; number = word w 4; high = word w 5; low = word w 6 }
 
@@ -140,7 +175,7 @@ days# w = word w 8
 abbrev pub extras# : List ℕ → ℕ
 extras# w = word w 9
 
--- where the sections of a service's words begin
+-- where the sections of a service's words begin, in words
 abbrev pub categoryPlace : List ℕ → ℕ
 categoryPlace w = serviceHead + callSize * calls# w
 
@@ -154,6 +189,7 @@ extraPlace w = dayPlace w + daySize * days# w
 abbrev pub openingAt : List ℕ → Opening
 openingAt w = record { number = word w 1; high = word w 2; low = word w 3; repeats = word w 4; offset = word w 5; kind = word w 11 }
 
+-- its calls' stops are places, unresolved
 unfoldable pub serviceAt : List ℕ → Service
 serviceAt w = record {
   line = word w 10;
@@ -164,7 +200,7 @@ serviceAt w = record {
   extras = rowsIn extraAt extraSize (extras# w) (drop (extraPlace w) w);
 }
 
--- V records, each as long as its first word says
+-- V records, each as long as its first word says; their calls' stops are places, unresolved
 unfoldable pub servicesIn : ℕ → List ℕ → List Service
 servicesIn zero w = []
 servicesIn (suc v) w = serviceAt w ∷ servicesIn v (drop (recordWords w) w)
@@ -201,31 +237,35 @@ classes# w = word w 8
 abbrev pub used : List ℕ → List ℕ
 used w = take (usedWords w) w
 
+-- the stop section, which the calls point into
+unfoldable pub stopsAt : List ℕ → List StopRecord
+stopsAt w = rowsIn stopAt stopSize (stops# w) (drop (headerSize + bitFieldSize * bitFields# w) (used w))
+
 unfoldable pub tableOf : List ℕ → Delivery
 tableOf w = record {
   period = record { start = firstDay w; days = periodDays w };
   fields = rowsIn bitFieldAt bitFieldSize (bitFields# w) (drop headerSize (used w));
-  stops = rowsIn stopAt stopSize (stops# w) (drop (headerSize + bitFieldSize * bitFields# w) (used w));
+  stops = stopsAt w;
   interchanges = rowsIn interchangeAt interchangeSize (interchanges# w) (drop (headerSize + bitFieldSize * bitFields# w + stopSize * stops# w) (used w));
   classes = rowsIn classAt classSize (classes# w) (drop (headerSize + bitFieldSize * bitFields# w + stopSize * stops# w + interchangeSize * interchanges# w) (used w));
-  services = servicesIn (services# w) (drop (servicesPlace w) (used w));
+  services = map (resolved (stopsAt w)) (servicesIn (services# w) (drop (servicesPlace w) (used w)));
 }
 
 -- ---- not a table (21): the conditions, said as what a table keeps
 
--- "a time over 59,999, flags over 15"
-abbrev pub callSound : Call → Bool
-callSound c = leb (c .arrival) latestTime && (leb (c .departure) latestTime && leb (c .flags) allFlags)
+-- "a time over 59,999, flags over 15"; document 02, No. 10: "21 additionally refuses a place not below S"
+abbrev pub callSound : ℕ → Call → Bool
+callSound stops c = ltb (c .stop) stops && (leb (c .arrival) latestTime && (leb (c .departure) latestTime && leb (c .flags) allFlags))
 
 -- "a range end not below c or in wrong order"
 abbrev pub legsSound : Bool → ℕ → Legs → Bool
 legsSound loose c g = inOrder loose (g .from) (g .to) && ltb (g .to) c
 
--- its opening line, and each call and range
-abbrev pub serviceSound : Service → Bool
-serviceSound s =
+-- its opening line, and each call and range, of a table with so many stops
+abbrev pub serviceSound : ℕ → Service → Bool
+serviceSound stops s =
     openingSound (s .opening)
-    && (every callSound (s .calls)
+    && (every (callSound stops) (s .calls)
     && (every (λ (r : CategoryRange). legsSound false (length (s .calls)) (r .legs)) (s .categories)
     && (every (λ (r : DayRange). legsSound false (length (s .calls)) (r .legs)) (s .days)
     && every (λ (r : ExtraRange). legsSound true (length (s .calls)) (r .legs)) (s .extras))))
@@ -241,13 +281,13 @@ sizesSound w =
     leb serviceHead (length w) && (countsSound (calls# w) (categories# w) (days# w) (extras# w)
     && (eqb (recordWords w) (recordSize (calls# w) (categories# w) (days# w) (extras# w)) && leb (recordWords w) (length w)))
 
-unfoldable pub recordSound : List ℕ → Bool
-recordSound w = sizesSound w && serviceSound (serviceAt w)
+unfoldable pub recordSound : ℕ → List ℕ → Bool
+recordSound stops w = sizesSound w && serviceSound stops (serviceAt w)
 
 -- "the V records do not end exactly at words used"
-unfoldable pub recordsSound : ℕ → List ℕ → Bool
-recordsSound zero w = eqb (length w) 0
-recordsSound (suc v) w = recordSound w && recordsSound v (drop (recordWords w) w)
+unfoldable pub recordsSound : ℕ → ℕ → List ℕ → Bool
+recordsSound stops zero w = eqb (length w) 0
+recordsSound stops (suc v) w = recordSound stops w && recordsSound stops v (drop (recordWords w) w)
 
 -- "fewer than 8, or words used under 8 or over those lent; n not 1 to 380, or last day after 31.12.2199; U is 0;
 -- word 7 is not 8 + 13B + 3S + 3U or is beyond words used" (document 02, No. 1: "21 reads the new sizes": 9 for 8, and 9 + 13B + 3S + 3U + 2K): of the
@@ -268,4 +308,4 @@ isTable w =
     leb headerSize (length w)
     && (headSound (length w) (usedWords w) (firstDay w) (periodDays w) (bitFields# w) (stops# w) (interchanges# w) (servicesPlace w) (classes# w)
     && (every classSound (tableOf w .classes)
-    && recordsSound (services# w) (drop (servicesPlace w) (used w))))
+    && recordsSound (stops# w) (services# w) (drop (servicesPlace w) (used w))))

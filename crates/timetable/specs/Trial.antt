@@ -20,12 +20,13 @@ trialWords =
     -- "Service: its word count, number, administration (two words of three bytes, first byte highest), repeats, offset, calls c, *G g, *A VE v, other a,
     -- *Z line", and No. 8's "twelfth word, its kind": FER is 46 45 52 and RY_ 52 59 5F in hex
     ∷ 46 ∷ 42 ∷ 4605266 ∷ 5396831 ∷ 0 ∷ 0 ∷ 4 ∷ 1 ∷ 1 ∷ 0 ∷ 1 ∷ 0
+    -- document 02, No. 10: the place of the stop in the stop section "in place of the number";
     -- "calls of 4 (stop, arrival, departure, flags: 1 arrival, 2 departure, ..; absent time 0)": 00800 is 480; document 02, No. 5: "number and the two
     -- administration words follow the flags", all blank in the text, so they are the *Z values
-    ∷ 1000011 ∷ 0 ∷ 480 ∷ 2 ∷ 42 ∷ 4605266 ∷ 5396831
-    ∷ 1000022 ∷ 490 ∷ 492 ∷ 3 ∷ 42 ∷ 4605266 ∷ 5396831
-    ∷ 1000033 ∷ 510 ∷ 515 ∷ 3 ∷ 42 ∷ 4605266 ∷ 5396831
-    ∷ 1000022 ∷ 535 ∷ 0 ∷ 1 ∷ 42 ∷ 4605266 ∷ 5396831
+    ∷ 0 ∷ 0 ∷ 480 ∷ 2 ∷ 42 ∷ 4605266 ∷ 5396831
+    ∷ 1 ∷ 490 ∷ 492 ∷ 3 ∷ 42 ∷ 4605266 ∷ 5396831
+    ∷ 2 ∷ 510 ∷ 515 ∷ 3 ∷ 42 ∷ 4605266 ∷ 5396831
+    ∷ 1 ∷ 535 ∷ 0 ∷ 1 ∷ 42 ∷ 4605266 ∷ 5396831
     -- "*G of 3 (category as three bytes, from, to)": BAT is 42 41 54 in hex
     ∷ 4342100 ∷ 0 ∷ 3
     -- "*A VE of 3 (bit field, from, to)"

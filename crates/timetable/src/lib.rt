@@ -83,7 +83,8 @@ pub struct Announced {
     pub low: u32,
 }
 
-// A call of a service: what its line says of stop, times and flags, and the number and the administration that hold there.
+// A call of a service: what its line says of stop, times and flags, and the number and the administration that hold there. Its stop is a number; in a
+// table's own calls it is a place in the stop section.
 pub struct Call {
     pub stop: u32,
     pub arrival: u32,

@@ -9,7 +9,7 @@ use lib.ListN.{getD, drop, getElem?}
 use Rattle.base.proofs.Laws.{tests, apart, by-leb}
 use Rattle.timetable.specs.Delivery.{Service, Delivery}
 use Rattle.timetable.specs.Runs.{hasRun, lateness}
-use Rattle.timetable.specs.Table.{used, openingAt, serviceAt, tableOf, recordSound}
+use Rattle.timetable.specs.Table.{used, openingAt, serviceAt, resolved, tableOf, recordSound}
 use Rattle.timetable.specs.Questions.{Journey, refused, idle, datedJourney, journey, walkOf, walkedBy, rowsBy}
 use Rattle.timetable.specs.declared.Walked.{Walked}
 use Rattle.timetable.specs.declared.Walked.the-variants.{Refused, NotRunning}
@@ -21,10 +21,11 @@ use Rattle.lookups.specs.declared.PeriodDay.{PeriodDay}
 use Rattle.lookups.specs.declared.PeriodDay.the-variants.{On, Refused as Undated}
 use Rattle.lookups.proofs.Dates.{asDated, by-dated, dated-table, on-a-day}
 use Rattle.lookups.proofs.Services.{service-none, service-is, service-sound}
+use Rattle.rows.specs.Rows.{serviceShown}
 use Rattle.course.specs.Course.{indexedCourse, courseOf, rowsAlong}
 use Rattle.course.specs.declared.Course.{Course}
 use Rattle.course.specs.declared.Course.the-variants.{Along, NotRunning as Idle, Refused as Barred}
-use Rattle.course.proofs.Laws.{legs-count}
+use Rattle.course.proofs.Laws.{legs-count, count-resolved}
 use Rattle.course.proofs.Rows.{course-journey, along-within}
 use Rattle.walk.specs.Walk.{indexWalk, stretchWalk}
 
@@ -88,32 +89,32 @@ module _ (w : List ℕ) (h : JustTable w) (i r k a n : ℕ) (c : Course) (e : c 
       none-there l = apart (let z : Barred 24 ≡ Along a n = sym (ap (λ (o : Option Service). indexedCourse (tableOf w) o r k) (service-none w h i l)) ∙ (sym e ∙ g) in (cc))
 
   module _ (s : List ℕ) (q : s ≡ drop (servicePlace w i) w) where
-    there : getElem? (tableOf w .services) i ≡ some (serviceAt s)
+    there : getElem? (tableOf w .services) i ≡ some (serviceShown (tableOf w) s)
     there = rw q (service-is w h i along-index)
 
-    course-is : indexedCourse (tableOf w) (some (serviceAt s)) r k ≡ Along a n
+    course-is : indexedCourse (tableOf w) (some (serviceShown (tableOf w) s)) r k ≡ Along a n
     unfolding courseOf
     course-is = sym (ap (λ (o : Option Service). indexedCourse (tableOf w) o r k) there) ∙ (sym e ∙ g)
 
-    pub along-sound : recordSound s ≡ true
+    pub along-sound : recordSound (getD w 4 0) s ≡ true
     along-sound = rw q (service-sound w h i along-index)
 
     pub along-run : hasRun (openingAt s) r ≡ true
-    unfolding serviceAt
-    along-run = along-within a n (tableOf w) (serviceAt s) r k course-is .0
+    unfolding serviceAt resolved
+    along-run = along-within a n (tableOf w) (serviceShown (tableOf w) s) r k course-is .0
 
     pub along-calls : a + n < getD s 6 0
-    along-calls = omega (arith, along-within a n (tableOf w) (serviceAt s) r k course-is .1, legs-count s, record-says s along-sound .0 .calls-low)
+    along-calls = omega (arith, along-within a n (tableOf w) (serviceShown (tableOf w) s) r k course-is .1, count-resolved (tableOf w .stops) (serviceAt s), legs-count s, record-says (getD w 4 0) s along-sound .0 .calls-low)
 
-    along-is : stretchWalk (tableOf w) (serviceAt s) r a n ≡ indexWalk (tableOf w) i r k
+    along-is : stretchWalk (tableOf w) (serviceShown (tableOf w) s) r a n ≡ indexWalk (tableOf w) i r k
     unfolding indexWalk stretchWalk
-    along-is = sym (rw there (course-journey (tableOf w) (serviceAt s) r k ∙ ap (rowsAlong (tableOf w) (serviceAt s) (lateness (serviceAt s .opening) r)) course-is))
+    along-is = sym (rw there (course-journey (tableOf w) (serviceShown (tableOf w) s) r k ∙ ap (rowsAlong (tableOf w) (serviceShown (tableOf w) s) (lateness (serviceShown (tableOf w) s .opening) r)) course-is))
 
-    pub along-answer : (room : ℕ) (x : Walked) → x ≡ walkedBy (stretchWalk (tableOf w) (serviceAt s) r a n) room → x ≡ walkedBy (indexWalk (tableOf w) i r k) room
-    along-answer room x f = same-answer (stretchWalk (tableOf w) (serviceAt s) r a n) (indexWalk (tableOf w) i r k) along-is room x f
+    pub along-answer : (room : ℕ) (x : Walked) → x ≡ walkedBy (stretchWalk (tableOf w) (serviceShown (tableOf w) s) r a n) room → x ≡ walkedBy (indexWalk (tableOf w) i r k) room
+    along-answer room x f = same-answer (stretchWalk (tableOf w) (serviceShown (tableOf w) s) r a n) (indexWalk (tableOf w) i r k) along-is room x f
 
-    pub along-listed : (t u : List ℕ) → u ≡ rowsBy (stretchWalk (tableOf w) (serviceAt s) r a n) t → u ≡ rowsBy (indexWalk (tableOf w) i r k) t
-    along-listed t u f = same-rows (stretchWalk (tableOf w) (serviceAt s) r a n) (indexWalk (tableOf w) i r k) along-is t u f
+    pub along-listed : (t u : List ℕ) → u ≡ rowsBy (stretchWalk (tableOf w) (serviceShown (tableOf w) s) r a n) t → u ≡ rowsBy (indexWalk (tableOf w) i r k) t
+    along-listed t u f = same-rows (stretchWalk (tableOf w) (serviceShown (tableOf w) s) r a n) (indexWalk (tableOf w) i r k) along-is t u f
 
 pub ruleset index = (tests, barred-answer, barred-kept, idle-answer, idle-kept, along-index, along-sound, along-run, along-calls, along-answer, along-listed)
 

@@ -8,12 +8,13 @@ ghost use mathlib.Core.Bool.{true};
 ghost use Prim.Native.Nat.{_+_, _<_};
 ghost use lib.ListN.{length};
 ghost use Rattle.timetable.specs.Runs.{hasRun};
-ghost use Rattle.timetable.specs.Table.{calls#, periodDays, openingAt, serviceAt, tableOf, recordSound};
+ghost use Rattle.timetable.specs.Table.{stops#, calls#, periodDays, openingAt, tableOf, recordSound};
 ghost use Rattle.timetable.specs.Questions.{walkedBy, rowsBy, walked, walkRows};
 ghost use Rattle.table.specs.JustTable.{JustTable};
+ghost use Rattle.rows.specs.Rows.{serviceShown};
 ghost use Rattle.walk.specs.Walk.{stretchWalk, indexWalk};
 
-// The rows of a run of a service on a date: 21 to 25, 34 and 31 (legs), 35, 32, 36 and 33 (calls), 29 row slice too short.
+// The rows of a run of a service on a date: 21 to 25, 34 and 31 (legs), 35, 36 and 33 (calls), 29 row slice too short.
 pub fn walk(
     w: &[u32],
     service: u32,
@@ -57,10 +58,10 @@ fn walk_on(w: &[u32], i: u32, repeat: u32, k: u32, rows: &mut [u32]) -> Walked
 // The rows along the stretch from call `start` on with so many legs, of the service at the front of `s`; 29 row slice too short.
 fn list(w: &[u32], s: &[u32], start: u32, legs: u32, repeat: u32, rows: &mut [u32]) -> Walked
     requires { ⌜ JustTable (now w) ⌝ }
-    requires { ⌜ recordSound (now s) ≡ true ⌝ }
+    requires { ⌜ recordSound (stops# (now w)) (now s) ≡ true ⌝ }
     requires { ⌜ (start + legs < calls# (now s)) × (hasRun (openingAt (now s)) repeat ≡ true) ⌝ }
-    ensures answer { λ r. ⌜ r ≡ walkedBy (stretchWalk (tableOf (now (w .entry))) (serviceAt (now (s .entry))) repeat start legs) (length (now (rows .entry))) ⌝ }
-    ensures listed { λ _. ⌜ now (rows .exit) ≡ rowsBy (stretchWalk (tableOf (now (w .entry))) (serviceAt (now (s .entry))) repeat start legs) (now (rows .entry)) ⌝ }
+    ensures answer { λ r. ⌜ r ≡ walkedBy (stretchWalk (tableOf (now (w .entry))) (serviceShown (tableOf (now (w .entry))) (now (s .entry))) repeat start legs) (length (now (rows .entry))) ⌝ }
+    ensures listed { λ _. ⌜ now (rows .exit) ≡ rowsBy (stretchWalk (tableOf (now (w .entry))) (serviceShown (tableOf (now (w .entry))) (now (s .entry))) repeat start legs) (now (rows .entry)) ⌝ }
 {
     let needed = ROW_WORDS as u32 * (legs + 1);
     if rows.len() < table::size(needed) {

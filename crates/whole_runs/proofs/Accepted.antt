@@ -1,12 +1,12 @@
--- The table of a delivery without an offence is a table (`table-is`), and every question is answered from it as from the delivery itself:
--- `walk-accepted`, `day-accepted`, `interchange-accepted`. Assumes nothing.
+-- The table of a delivery without an offence is a table (`table-is`) and reads back as the delivery (`table-holds`), and every question is answered
+-- from it as from the delivery itself: `walk-accepted`, `day-accepted`, `interchange-accepted`. Assumes nothing.
 use mathlib.Core.Path.{_≡_, refl, sym, ap, _∙_}
-use mathlib.Core.List.{List, _++_}
+use mathlib.Core.List.{List, _++_, map}
 use mathlib.Core.Bool.{Bool, true, false, cond, _&&_}
 use mathlib.Core.Option.{Option, none, some}
 use Prim.Native.Nat.{ℕ, zero, suc, _+_, _≤_}
 use native.Mathlib.Omega.{arith}
-use lib.ListN.{length, drop, length-append}
+use lib.ListN.{length, drop, length-append, length-map}
 use lib.Seq.{drop-at}
 use lib.Dec.{ltb, leb, eqb}
 use borrow.Author.Tests.{le-leb, le-ltb, ltb-false, eqb-false, eq-eqb}
@@ -19,16 +19,19 @@ use Rattle.timetable.specs.Files.{hasStop, held-in, interchangeOf, interchanges
 use Rattle.timetable.specs.Offences.{_<|>_}
 use Rattle.timetable.specs.Load.{Where, delivered, lengthOffence, contentOffence, offence, onto, helperNeeded, refusedOr, shortOr, loaded, writtenBy, written}
 use Rattle.timetable.specs.Layout.{headerSize, serviceHead, firstService, mostPeriodDays, mostCalls, mostCategories, mostDays, mostExtras}
-use Rattle.timetable.specs.Table.{serviceSize, serviceWords, sections, tableWords}
+use Rattle.timetable.specs.Table.{stopPlace, withStop, pointing, serviceSize, serviceWords, tableWords}
 use Rattle.timetable.specs.Table.{recordWords, calls#, categories#, days#, extras#, usedWords, firstDay, periodDays, bitFields#, stops#, interchanges#, services#, servicesPlace, classes#}
-use Rattle.timetable.specs.Table.{tableOf, recordSound, recordsSound, headSound, classSound, isTable}
+use Rattle.timetable.specs.Table.{tableOf, headSound, classSound, isTable}
 use Rattle.timetable.specs.Questions.{dateOf, dayBy, dayAsked, minutesFor, interchangeAtStop, interchangeAsked, journey, walkOf}
 use Rattle.timetable.specs.declared.InterchangeAnswer.the-variants.{Minutes, Refused as InterchangeRefused}
 use Rattle.timetable.specs.declared.Loaded.{Loaded}
 use Rattle.timetable.specs.declared.Loaded.the-variants.{Accepted, Refused}
 use Rattle.timetable.proofs.Offences.{then-none, given-none}
 use Rattle.timetable.proofs.Records.{twelve, service-length, service-back}
-use Rattle.whole_runs.proofs.Back.{words-length, used-back, to-services, sections-length, words-back, fields-twelve, table-back}
+use Rattle.whole_runs.specs.OldTable.{oldSections, oldTableWords, oldTableOf, oldServiceSound, oldRecordSound, oldRecordsSound, oldIsTable}
+use Rattle.whole_runs.proofs.Lists.{all-to}
+use Rattle.whole_runs.proofs.Places.{StopsKnown, pointing-sound, services-below, pointed, resolvedAll, pointed-back, words-pointed, read-resolved, table-by-places}
+use Rattle.whole_runs.proofs.Back.{words-length, used-back, to-services, sections-length, fields-twelve, words-back}
 use Rattle.whole_runs.proofs.Clear.{Clear, clear}
 use Rattle.whole_runs.proofs.ClassLines.{classes-sound}
 use Rattle.whole_runs.proofs.Period.{PeriodSound, period-sound}
@@ -40,9 +43,18 @@ head-words : (s : Service) (r : List ℕ) → (recordWords (serviceWords s ++ r)
 unfolding serviceWords
 head-words s r = (refl, refl, refl, refl, refl)
 
-record-sound : (d : Delivery) (s : Service) → Right d s → (r : List ℕ) → recordSound (serviceWords s ++ r) ≡ true
-unfolding recordSound
-record-sound d s h r =
+-- what a table asks of a record, but for the places that its calls point at
+pub record Sized (s : Service) : Type 0 where
+  pub sound : oldServiceSound s ≡ true
+  pub two : 2 ≤ length (s .calls)
+  pub most-calls : length (s .calls) ≤ mostCalls
+  pub most-categories : length (s .categories) ≤ mostCategories
+  pub most-days : length (s .days) ≤ mostDays
+  pub most-extras : length (s .extras) ≤ mostExtras
+
+record-sound : (s : Service) → Sized s → (r : List ℕ) → oldRecordSound (serviceWords s ++ r) ≡ true
+unfolding oldRecordSound
+record-sound s h r =
     let q = head-words s r in
     let l : length (serviceWords s ++ r) ≡ serviceSize s + length r = length-append (serviceWords s) r ∙ rw (service-length s) in
     rw (
@@ -64,12 +76,12 @@ record-sound d s h r =
       h .sound,
     )
 
-records-sound : (d : Delivery) {ss : List Service} → All (Right d) ss → recordsSound (length ss) (gathered serviceWords ss) ≡ true
-unfolding recordsSound gathered
-records-sound d nil = refl
-records-sound d (cons {x = s} {xs = ss} h t) =
+records-sound : {ss : List Service} → All Sized ss → oldRecordsSound (length ss) (gathered serviceWords ss) ≡ true
+unfolding oldRecordsSound gathered
+records-sound nil = refl
+records-sound (cons {x = s} {xs = ss} h t) =
     let r = gathered serviceWords ss in
-    rw (record-sound d s h r, head-words s r .0, drop-at (serviceWords s) r (serviceSize s) (service-length s)) (records-sound d t)
+    rw (record-sound s h r, head-words s r .0, drop-at (serviceWords s) r (serviceSize s) (service-length s)) (records-sound t)
 
 -- ---- the table
 
@@ -79,20 +91,21 @@ pub record Sound (d : Delivery) : Type 0 where
   pub period : PeriodSound (d .period)
   pub interchanges : 1 ≤ length (d .interchanges)
   pub classes : every classSound (d .classes) ≡ true
-  pub services : All (Right d) (d .services)
+  pub services : All Sized (d .services)
 
-header-words : (d : Delivery) (r : List ℕ) → (usedWords (tableWords d ++ r) ≡ headerSize + length (sections d)) × (firstDay (tableWords d ++ r) ≡ d .period .start) × (periodDays (tableWords d ++ r) ≡ d .period .days) × (bitFields# (tableWords d ++ r) ≡ length (d .fields)) × (stops# (tableWords d ++ r) ≡ length (d .stops)) × (interchanges# (tableWords d ++ r) ≡ length (d .interchanges)) × (services# (tableWords d ++ r) ≡ length (d .services)) × (servicesPlace (tableWords d ++ r) ≡ firstService (length (d .fields)) (length (d .stops)) (length (d .interchanges)) (length (d .classes))) × (classes# (tableWords d ++ r) ≡ length (d .classes))
-unfolding tableWords
+header-words : (d : Delivery) (r : List ℕ) → (usedWords (oldTableWords d ++ r) ≡ headerSize + length (oldSections d)) × (firstDay (oldTableWords d ++ r) ≡ d .period .start) × (periodDays (oldTableWords d ++ r) ≡ d .period .days) × (bitFields# (oldTableWords d ++ r) ≡ length (d .fields)) × (stops# (oldTableWords d ++ r) ≡ length (d .stops)) × (interchanges# (oldTableWords d ++ r) ≡ length (d .interchanges)) × (services# (oldTableWords d ++ r) ≡ length (d .services)) × (servicesPlace (oldTableWords d ++ r) ≡ firstService (length (d .fields)) (length (d .stops)) (length (d .interchanges)) (length (d .classes))) × (classes# (oldTableWords d ++ r) ≡ length (d .classes))
+unfolding oldTableWords
 header-words d r = (refl, refl, refl, refl, refl, refl, refl, refl, refl)
 
-pub sound-table : (d : Delivery) → Sound d → (rest : List ℕ) → isTable (tableWords d ++ rest) ≡ true
-unfolding isTable headSound
+-- of the old table, and so of one whose calls point (below)
+pub sound-table : (d : Delivery) → Sound d → (rest : List ℕ) → oldIsTable (oldTableWords d ++ rest) ≡ true
+unfolding oldIsTable headSound
 sound-table d h rest =
     let q = header-words d rest in
-    let u = headerSize + length (sections d) in
+    let u = headerSize + length (oldSections d) in
     let p = h .period in
     let at = firstService (length (d .fields)) (length (d .stops)) (length (d .interchanges)) (length (d .classes)) in
-    let l : length (tableWords d ++ rest) ≡ u + length rest = length-append (tableWords d) rest ∙ rw (words-length d) in
+    let l : length (oldTableWords d ++ rest) ≡ u + length rest = length-append (oldTableWords d) rest ∙ rw (words-length d) in
     let z = sections-length d (h .twelves) in
     rw (
       words-back d (h .twelves) rest,
@@ -119,7 +132,17 @@ sound-table d h rest =
       eq-eqb at at refl,
       le-leb at u (omega (arith, z)),
     )
-    (records-sound d (h .services))
+    (records-sound (h .services))
+
+right-sized : (d : Delivery) (s : Service) → Right d s → Sized s
+right-sized d s h = record {
+  sound = h .sound;
+  two = h .two;
+  most-calls = h .most-calls;
+  most-categories = h .most-categories;
+  most-days = h .most-days;
+  most-extras = h .most-extras;
+}
 
 some-record : (n : ℕ) → eqb n 0 ≡ false → 1 ≤ n
 some-record zero q = absurd (eqb-false 0 0 q refl)
@@ -132,12 +155,62 @@ clear-sound f h = record {
   period = period-sound (linesOf (f .eckdaten)) (h .period);
   interchanges = some-record (length (held-in interchangeOf (linesOf (f .umsteigb)))) (given-none _ 2 _ (then-none _ _ (h .interchanges) .1));
   classes = classes-sound (linesOf (f .zugart));
-  services = services-right f h;
+  services = all-to (Right (delivered f)) Sized (right-sized (delivered f)) (delivered f .services) (services-right f h);
 }
 
--- The words of a delivery without an offence are a table, whatever words follow.
-pub words-table : (f : Files) → offence f ≡ none → (rest : List ℕ) → isTable (tableWords (delivered f) ++ rest) ≡ true
-words-table f e rest = sound-table (delivered f) (clear-sound f (clear f e)) rest
+-- document 02, No. 10: with the calls pointing
+module _ (d : Delivery) (h : Sound d) (known : All (StopsKnown (d .stops)) (d .services)) where
+  sized-pointing : {ss : List Service} → All Sized ss → All Sized (map (pointing (d .stops)) ss)
+  unfolding pointing
+  sized-pointing nil = nil
+  sized-pointing (cons {x = s} h t) =
+      let n = length-map (s .calls) (withStop (λ (n : ℕ). stopPlace n (d .stops))) in
+      cons (record {
+        sound = pointing-sound (d .stops) s ∙ h .sound;
+        two = rw n (h .two);
+        most-calls = rw n (h .most-calls);
+        most-categories = h .most-categories;
+        most-days = h .most-days;
+        most-extras = h .most-extras;
+      })
+      (sized-pointing t)
+
+  pointed-sound : Sound (pointed d)
+  unfolding pointed
+  pointed-sound = record { twelves = h .twelves; period = h .period; interchanges = h .interchanges; classes = h .classes; services = sized-pointing (h .services) }
+
+  module _ (rest : List ℕ) where
+    w : List ℕ
+    w = oldTableWords (pointed d) ++ rest
+
+    pointed-words : tableWords d ++ rest ≡ w
+    unfolding w
+    pointed-words = ap (λ (ws : List ℕ). ws ++ rest) (words-pointed d)
+
+    pointed-holds : oldTableOf w ≡ pointed d
+    unfolding w
+    pointed-holds = words-back (pointed d) (pointed-sound .twelves) rest
+
+    pointed-table : isTable (tableWords d ++ rest) ≡ true
+    unfolding w pointed
+    pointed-table =
+        ap isTable pointed-words ∙ table-by-places w
+        ∙ rw (sound-table (pointed d) pointed-sound rest, header-words (pointed d) rest .4, pointed-holds) (services-below (d .stops) (d .services) known)
+
+    table-resolved : tableOf (tableWords d ++ rest) ≡ d
+    table-resolved = ap tableOf pointed-words ∙ read-resolved w ∙ ap resolvedAll pointed-holds ∙ pointed-back d known
+
+-- each call's stop is in BAHNHOF
+pub stops-known : (f : Files) → Clear f → All (StopsKnown (delivered f .stops)) (delivered f .services)
+stops-known f h = all-to (Right (delivered f)) (StopsKnown (delivered f .stops)) (λ s r. r .stops) (delivered f .services) (services-right f h)
+
+-- The words of a delivery without an offence are a table, and read back as the delivery, whatever words follow.
+module _ (f : Files) (e : offence f ≡ none) (rest : List ℕ) where
+  pub words-table : isTable (tableWords (delivered f) ++ rest) ≡ true
+  words-table = pointed-table (delivered f) (clear-sound f (clear f e)) (stops-known f (clear f e)) rest
+
+  pub words-hold : tableOf (tableWords (delivered f) ++ rest) ≡ delivered f
+  words-hold = table-resolved (delivered f) (clear-sound f (clear f e)) (stops-known f (clear f e)) rest
 
 -- ---- acceptance
 
@@ -189,7 +262,7 @@ module _ (f : Files) (t : List ℕ) (helper u : ℕ) (e : loaded f (length t) he
   table-is = ap isTable written-is ∙ words-table f no-offence (drop (length (tableWords (delivered f))) t)
 
   pub table-holds : tableOf (written f t helper) ≡ delivered f
-  table-holds = ap tableOf written-is ∙ table-back f (drop (length (tableWords (delivered f))) t)
+  table-holds = ap tableOf written-is ∙ words-hold f no-offence (drop (length (tableWords (delivered f))) t)
 
 -- ---- questions of words that are a table and hold a delivery are questions of that delivery
 

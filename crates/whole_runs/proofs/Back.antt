@@ -1,4 +1,5 @@
--- The words of a delivery read back as that delivery, whatever words follow: `words-back`, and for what files hold `table-back`.
+-- The words of a delivery, with its records as they are, read back as that delivery, whatever words follow: `words-back`, and for what files hold
+-- `table-back`. These are the words of the old table (specs/OldTable.antt); a table's are the same of the delivery with its calls pointing (Places).
 -- Assumes nothing.
 use mathlib.Core.Path.{_≡_, refl, sym, ap, _∙_}
 use mathlib.Core.List.{List, [], _∷_, _++_, append-nil}
@@ -19,9 +20,10 @@ use Rattle.forms.specs.Columns.{bitFieldColumns}
 use Rattle.timetable.specs.Delivery.{Files, Delivery}
 use Rattle.timetable.specs.Files.{skip, listed, held-in, heldBy, bitFieldOf}
 use Rattle.timetable.specs.Load.{delivered}
-use Rattle.timetable.specs.Table.{bitFieldWords, stopWords, interchangeWords, classWords, serviceWords, sections, tableWords, usedWords}
+use Rattle.timetable.specs.Table.{bitFieldWords, stopWords, interchangeWords, classWords, serviceWords, usedWords}
 use Rattle.timetable.specs.Layout.{headerSize, bitFieldSize, stopSize, interchangeSize, classSize, firstService}
-use Rattle.timetable.specs.Table.{rowsIn, bitFieldAt, stopAt, interchangeAt, classAt, servicesIn, used, tableOf}
+use Rattle.timetable.specs.Table.{rowsIn, bitFieldAt, stopAt, interchangeAt, classAt, servicesIn, used}
+use Rattle.whole_runs.specs.OldTable.{oldSections as sections, oldTableWords as tableWords, oldTableOf as tableOf}
 use Rattle.whole_runs.proofs.Lists.{all-append}
 use Rattle.timetable.proofs.Records.{past, twelve, fields-back, fields-length, stops-back, stops-length, interchanges-back, interchanges-length, classes-back, classes-length, services-back}
 

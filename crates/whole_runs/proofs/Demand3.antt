@@ -32,8 +32,7 @@ use Rattle.whole_runs.proofs.RunsBy.{runs-by}
 use Rattle.whole_runs.specs.Promise.{Outcome, not-running, runs, Demand3, Asked, OwnRun, Walk, short, Short}
 use Rattle.whole_runs.proofs.Lists.{all-elem, only-says}
 use Rattle.whole_runs.proofs.Clear.{Clear, clear}
-use Rattle.whole_runs.proofs.Back.{table-back}
-use Rattle.whole_runs.proofs.Accepted.{clear-sound, words-table, no-offence, table-is, table-holds, walk-held}
+use Rattle.whole_runs.proofs.Accepted.{clear-sound, words-table, words-hold, no-offence, table-is, table-holds, walk-held}
 use Rattle.whole_runs.proofs.Right.{Right, services-right, from-text}
 use Rattle.whole_runs.proofs.Once.{interchanges-own}
 use Rattle.whole_runs.proofs.Text.{own-text}
@@ -152,7 +151,7 @@ demand3 f t helper u e = walk-demand f (clear f (no-offence f t helper u e)) (wr
 pub demand3-copied : (f : Files) → offence f ≡ none → (rest : List ℕ)
     → (i r d m y day : ℕ) (s : Service) → Asked f i r d m y s day
     → Demand3 f i s r (day - delivered f .period .start) (walkOf (tableWords (delivered f) ++ rest) i r d m y)
-demand3-copied f e rest = walk-demand f (clear f e) (tableWords (delivered f) ++ rest) (words-table f e rest) (table-back f rest)
+demand3-copied f e rest = walk-demand f (clear f e) (tableWords (delivered f) ++ rest) (words-table f e rest) (words-hold f e rest)
 
 -- ---- its answer and the rows, with any room
 

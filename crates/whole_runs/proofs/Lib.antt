@@ -1,4 +1,5 @@
 pub mod Lists
+pub mod Places
 pub mod Back
 pub mod Ends
 pub mod Parts
@@ -24,3 +25,4 @@ pub mod Numbers
 pub mod StopLines
 pub mod StopNames
 pub mod Classes
+pub mod OldTable

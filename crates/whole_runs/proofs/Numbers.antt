@@ -52,7 +52,7 @@ use Rattle.timetable.specs.declared.Walked.{Walked}
 use Rattle.timetable.specs.declared.Walked.the-variants.{Refused as WalkRefused}
 use Rattle.timetable.proofs.Offences.{one-of}
 use Rattle.whole_runs.specs.Promise.{AnyWalk, lists, short, nowhere, refuses}
-use Rattle.whole_runs.proofs.Any.{date-refusal, any-walk}
+use Rattle.whole_runs.proofs.Any.{refusal-numbered, date-refusal, any-walk}
 use Rattle.whole_runs.proofs.Accepted.{accepted}
 
 -- ---- the offences of a delivery
@@ -364,7 +364,7 @@ day-numbered w d m y b number e = go (isTable w) e
     known false u e = let z : _≡_ {A = ℕ} 28 number = cc in omega (arith, z)
 
     on : (t : Dated) → dateOf (tableOf w) d m y ≡ t → dayBy (tableOf w) b t ≡ DayRefused number → 1 ≤ number
-    on (undated n) q e = let z : n ≡ number = cc in let p = date-refusal (tableOf w .period) (dayOf d m y) n q .0 in omega (arith, z, p)
+    on (undated n) q e = let z : n ≡ number = cc in let p = refusal-numbered n (date-refusal (tableOf w .period) (dayOf d m y) n q) in omega (arith, z, p)
     on (dated k) q e = known (fieldKnown b (tableOf w .fields)) (fieldRuns (tableOf w .fields) b k) e
 
     go : (t : Bool) → cond t (dayBy (tableOf w) b (dateOf (tableOf w) d m y)) (DayRefused 21) ≡ DayRefused number → 1 ≤ number
@@ -402,4 +402,4 @@ walk-numbered w i r d m y room number needed e = go (any-walk w i r d m y room) 
     go (lists s k u h) e = apart (cc)
     go (short s k u h) e = let z : _≡_ {A = ℕ} 29 number = cc in omega (arith, z)
     go (nowhere s k u) e = apart (cc)
-    go (refuses n h k) e = let z : n ≡ number = cc in omega (arith, z)
+    go (refuses n h) e = let z : n ≡ number = cc in let p = refusal-numbered n h in omega (arith, z, p)

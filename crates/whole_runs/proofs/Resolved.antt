@@ -1,4 +1,4 @@
--- A walk of a service without an offence meets no number that it cannot resolve: 34 and 31 do not occur at its legs, 32, 36 and 33 not at its calls.
+-- A walk of a service without an offence meets no number that it cannot resolve: 34 and 31 do not occur at its legs, 36 and 33 not at its calls.
 -- Assumes nothing.
 use mathlib.Core.Path.{_≡_, refl}
 use mathlib.Core.List.{List, [], _∷_}
@@ -9,18 +9,17 @@ use native.Mathlib.Omega.{arith}
 use lib.ListN.{length, take, drop}
 use lib.Dec.{ltb, eqb}
 use borrow.Author.Tests.{ltb-true, eqb-false, eq-eqb, ne-eqb}
-use Rattle.base.specs.Lists.{All, every, upto, below}
+use Rattle.base.specs.Lists.{every, upto, below}
 use Rattle.base.proofs.Laws.{apart, clash}
 use Rattle.timetable.specs.Delivery.{CategoryRange, DayRange, Service, Delivery}
 use Rattle.timetable.specs.Offences.{_<|>_}
-use Rattle.timetable.specs.Files.{hasStop}
 use Rattle.timetable.specs.Ranges.{hasArrival, hasDeparture}
 use Rattle.timetable.specs.Legs.{fieldKnown, covers, covering, legCount}
 use Rattle.timetable.specs.Checks.{timesStated, timesRise, lastStated}
 use Rattle.timetable.specs.Questions.{refuse, legRefusal, firstRefusal, timesNeeded, neededLast, callRefusal, callsRefusal}
 use Rattle.timetable.specs.declared.Call.{Call}
-use Rattle.whole_runs.proofs.Lists.{or-second, all-head, all-tail, all-to, all-drop, every-all}
-use Rattle.whole_runs.proofs.Lines.{StopKnown, FieldKnown}
+use Rattle.whole_runs.proofs.Lists.{or-second, all-to, every-all}
+use Rattle.whole_runs.proofs.Lines.{FieldKnown}
 use Rattle.whole_runs.proofs.Right.{Right, Timely}
 use Rattle.whole_runs.proofs.Times.{needed-law, last-law, arrives, departs, timely-drop}
 
@@ -55,17 +54,15 @@ legs-resolved d s h = no-refusal (legRefusal d s) (legCount s) 0 leg
         (granted (eqb (covering (λ (r : DayRange). r .legs) (s .days) j) 1) 34 (eq-eqb (covering (λ (r : DayRange). r .legs) (s .days) j) 1 (h .days j (omega arith))))
         (granted (every (known j) (s .days)) 31 (every-all (known j) (all-to (λ (r : DayRange). FieldKnown d (r .field)) (λ (r : DayRange). known j r ≡ true) (λ r k. or-second (not (covers j (r .legs))) (fieldKnown (r .field) (d .fields)) k) (s .days) (h .fields))))
 
--- ---- 32, 36 and 33, in a stretch of n legs from call a on
+-- ---- 36 and 33, in a stretch of n legs from call a on
 
 module _ (d : Delivery) (s : Service) (h : Right d s) (a n : ℕ) (inside : a + n < length (s .calls)) where
   -- the i-th call of the stretch, w and b being the times before it by the walk's rule and by the loader's
-  call-resolved : (i w b : ℕ) (c : Call) → i ≤ n → w ≤ b → timesStated (length (s .calls)) (a + i) c ≡ true → timesRise b c ≡ true → StopKnown d c → callRefusal d s a n i w c ≡ none
-  call-resolved i w b c l m t u k =
-      both-none (refuse (not (hasStop (c .stop) (d .stops))) 32) (refuse (not (timesNeeded n i w c)) 36 <|> refuse (ltb i n && not once) 33)
-      (granted (hasStop (c .stop) (d .stops)) 32 k)
-      (both-none (refuse (not (timesNeeded n i w c)) 36) (refuse (ltb i n && not once) 33)
+  call-resolved : (i w b : ℕ) (c : Call) → i ≤ n → w ≤ b → timesStated (length (s .calls)) (a + i) c ≡ true → timesRise b c ≡ true → callRefusal d s a n i w c ≡ none
+  call-resolved i w b c l m t u =
+      both-none (refuse (not (timesNeeded n i w c)) 36) (refuse (ltb i n && not once) 33)
       (granted (timesNeeded n i w c) 36 needed)
-      (leaving (ltb i n) refl))
+      (leaving (ltb i n) refl)
     where
       once : Bool
       once = eqb (covering (λ (r : CategoryRange). r .legs) (s .categories) (a + i)) 1
@@ -81,23 +78,23 @@ module _ (d : Delivery) (s : Service) (h : Right d s) (a n : ℕ) (inside : a + 
       leaving false q = refl
       leaving true q = let z = ltb-true i n q in granted once 33 (eq-eqb (covering (λ (r : CategoryRange). r .legs) (s .categories) (a + i)) 1 (h .categories (a + i) (omega arith)))
 
-  calls-resolved : (m i w b : ℕ) (cs : List Call) → i + m ≡ n → w ≤ b → Timely (length (s .calls)) (a + i) b cs → All (StopKnown d) cs → callsRefusal d s a n i w (take (suc m) cs) ≡ none
+  calls-resolved : (m i w b : ℕ) (cs : List Call) → i + m ≡ n → w ≤ b → Timely (length (s .calls)) (a + i) b cs → callsRefusal d s a n i w (take (suc m) cs) ≡ none
   unfolding callsRefusal Timely
-  calls-resolved m i w b [] e l t k = refl
-  calls-resolved zero i w b (c ∷ cs) e l t k =
-      both-none (callRefusal d s a n i w c) none (call-resolved i w b c (omega arith) l (t .0) (t .1) (all-head (StopKnown d) k)) refl
-  calls-resolved (suc m) i w b (c ∷ cs) e l t k =
+  calls-resolved m i w b [] e l t = refl
+  calls-resolved zero i w b (c ∷ cs) e l t =
+      both-none (callRefusal d s a n i w c) none (call-resolved i w b c (omega arith) l (t .0) (t .1)) refl
+  calls-resolved (suc m) i w b (c ∷ cs) e l t =
       let z : a + (i + 1) ≡ a + i + 1 = omega arith in
       let dep = departs (length (s .calls)) (a + i) c (t .0) (omega arith) in
       both-none (callRefusal d s a n i w c) (callsRefusal d s a n (i + 1) (neededLast n i c) (take (suc m) cs))
-      (call-resolved i w b c (omega arith) l (t .0) (t .1) (all-head (StopKnown d) k))
+      (call-resolved i w b c (omega arith) l (t .0) (t .1))
       (calls-resolved m (i + 1) (neededLast n i c) (lastStated b c) cs (omega arith)
       (last-law b (c .arrival) (c .departure) (eqb i n) (hasArrival c) (hasDeparture c) (ne-eqb i n (λ q. omega arith)) dep)
-      (rw z (t .2)) (all-tail (StopKnown d) k))
+      (rw z (t .2)))
 
   pub stretch-resolved : callsRefusal d s a n 0 0 (take (n + 1) (drop a (s .calls))) ≡ none
   stretch-resolved =
       let m = timely-drop (length (s .calls)) 0 0 a (s .calls) (h .times) in
       let z : n + 1 ≡ suc n = omega arith in
       let y : 0 + a ≡ a + 0 = omega arith in
-      rw z (calls-resolved n 0 0 (m .0) (drop a (s .calls)) (omega arith) (omega arith) (rw y at (m .1)) (all-drop (StopKnown d) a (s .calls) (h .stops)))
+      rw z (calls-resolved n 0 0 (m .0) (drop a (s .calls)) (omega arith) (omega arith) (rw y at (m .1)))

@@ -19,10 +19,10 @@ use Rattle.timetable.specs.Service.{blocks, calledOn, callsOf, serviceOf}
 use Rattle.timetable.specs.Checks.{timesStated, timesRise, lastStated, timesFirst, eachOnce}
 use Rattle.timetable.specs.Legs.{covering, stretches, legCount, operatedLegs}
 use Rattle.timetable.specs.Load.{delivered}
-use Rattle.timetable.specs.Table.{callSound, serviceSound}
 use Rattle.timetable.specs.declared.Call.{Call}
 use Rattle.timetable.specs.declared.Part.the-variants.{Category, Days, Extra}
 use Rattle.timetable.proofs.Offences.{then-none, given-none}
+use Rattle.whole_runs.specs.OldTable.{oldCallSound, oldServiceSound}
 use Rattle.whole_runs.specs.Text.{FromText}
 use Rattle.whole_runs.proofs.Lists.{every-below, none-below}
 use Rattle.whole_runs.proofs.Sound.{calls-sound, service-sound}
@@ -46,8 +46,8 @@ timely n i before (c ∷ cs) e =
 -- ---- a service without an offence
 
 pub record Right (d : Delivery) (s : Service) : Type 0 where
-  pub sound : serviceSound s ≡ true
-  pub calls : All (λ (c : Call). callSound c ≡ true) (s .calls)
+  pub sound : oldServiceSound s ≡ true
+  pub calls : All (λ (c : Call). oldCallSound c ≡ true) (s .calls)
   pub two : 2 ≤ length (s .calls)
   pub most-calls : length (s .calls) ≤ mostCalls
   pub most-categories : length (s .categories) ≤ mostCategories

@@ -18,9 +18,10 @@ use Rattle.timetable.specs.Layout.{rowSize, latestTime, allFlags}
 use Rattle.timetable.specs.Delivery.{Interchange, CategoryRange, Service, Delivery}
 use Rattle.timetable.specs.Ranges.{hasArrival}
 use Rattle.timetable.specs.Legs.{covers, operated, operatedLegs, legCount}
-use Rattle.timetable.specs.Table.{word, callSound}
+use Rattle.timetable.specs.Table.{word}
 use Rattle.timetable.specs.Questions.{interchangeBy, interchangeAtStop, nameBy, categoryOn, rowOf, rowsOf}
 use Rattle.timetable.specs.declared.Call.{Call}
+use Rattle.whole_runs.specs.OldTable.{oldCallSound}
 use Rattle.whole_runs.specs.Rows.{Unbroken, rowWord, flag, Row, timeAt, Stated, noCall, callNo, Stretched}
 use Rattle.whole_runs.proofs.Lists.{all-head, all-tail, all-to, all-at, every-below, only-found}
 use Rattle.whole_runs.proofs.Lines.{StopKnown}
@@ -195,7 +196,7 @@ module _ (d : Delivery) (s : Service) (r k a n : ℕ) (one : Only (operatedLegs 
     flags-are q l =
         let m = inside in
         let c = callNo s (a + q) in
-        let sound = and-true (leb (c .arrival) latestTime) _ (all-at (λ (c : Call). callSound c ≡ true) (a + q) noCall (s .calls) (h .calls) (omega arith)) in
+        let sound = and-true (leb (c .arrival) latestTime) _ (all-at (λ (c : Call). oldCallSound c ≡ true) (a + q) noCall (s .calls) (h .calls) (omega arith)) in
         let f = leb-true (c .flags) allFlags (and-true (leb (c .departure) latestTime) (leb (c .flags) allFlags) (sound .1) .1) in
         subst (Cleared (eqb q 0) (eqb q n) (c .flags)) (sym (word-is q 3 l (omega arith))) (cleared (eqb q 0) (eqb q n) (c .flags) f)
 

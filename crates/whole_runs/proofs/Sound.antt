@@ -28,7 +28,7 @@ use Rattle.timetable.specs.Layout.{mostRepeats, mostRunning, latestTime, allFla
 use Rattle.timetable.specs.Delivery.{Legs, CategoryRange, DayRange, ExtraRange}
 use Rattle.timetable.specs.Plan.{openingIn, frequencyIn, categoryIn, attributeIn, minutesOf, flagsOf, callIn, formed, toldBy, toldIn, tolds, asOpening, asCall, partLines}
 use Rattle.timetable.specs.Service.{loose, legsOn, categoryRange, dayRange, extraRange, firstLine, firstOpening, callBy, callsOf, serviceOf}
-use Rattle.timetable.specs.Table.{callSound, legsSound, serviceSound}
+use Rattle.timetable.specs.Table.{legsSound}
 use Rattle.timetable.specs.declared.Announced.{Announced}
 use Rattle.timetable.specs.declared.Call.{Call}
 use Rattle.timetable.specs.declared.CallLine.{CallLine}
@@ -39,6 +39,7 @@ use Rattle.timetable.specs.declared.Told.{Told}
 use Rattle.timetable.specs.declared.Told.the-variants.{Skip, Other, Broken, Opens, Ranges, Calls}
 use Rattle.timetable.proofs.Calls.{calls-all}
 use Rattle.timetable.proofs.Lines.{flags-le}
+use Rattle.whole_runs.specs.OldTable.{oldCallSound, oldServiceSound}
 use Rattle.whole_runs.proofs.Ends.{legs-sound, with-sound}
 use Rattle.whole_runs.proofs.Parts.{part-lines}
 use Rattle.whole_runs.proofs.Lists.{cond-all, all-append, all-gathered, every-all}
@@ -53,7 +54,7 @@ minutes-le p = go (time p) refl
     go (Stated m barred) e = stated-le p m barred e
     go NoTime e = omega arith
 
-call-sound : (text : List ℕ) (b : Announced) → callSound (callBy b (callIn text)) ≡ true
+call-sound : (text : List ℕ) (b : Announced) → oldCallSound (callBy b (callIn text)) ≡ true
 call-sound text b =
     let a = time (columns 30 35 text) in
     let d = time (columns 37 42 text) in
@@ -89,7 +90,7 @@ module _ (P : Told → Type 0) where
 
 -- the calls of lines
 abbrev LineSound : CallLine → Type 0
-LineSound l = (b : Announced) → callSound (callBy b l) ≡ true
+LineSound l = (b : Announced) → oldCallSound (callBy b l) ≡ true
 
 lines-sound : (ls : List Line) → All LineSound (gathered asCall (tolds ls))
 unfolding tolds gathered
@@ -99,8 +100,8 @@ lines-sound (l ∷ ls) =
     (told-all (λ (t : Told). All LineSound (asCall t)) (l .text) nil nil (λ c. nil) nil (λ f. nil) (λ r. nil) (cons {x = callIn (l .text)} (call-sound (l .text)) nil))
     (lines-sound ls)
 
-pub calls-sound : (ls : List Line) → All (λ (c : Call). callSound c ≡ true) (callsOf ls)
-calls-sound ls = calls-all LineSound (λ (c : Call). callSound c ≡ true) (λ b l h. h b) ls (lines-sound ls)
+pub calls-sound : (ls : List Line) → All (λ (c : Call). oldCallSound c ≡ true) (callsOf ls)
+calls-sound ls = calls-all LineSound (λ (c : Call). oldCallSound c ≡ true) (λ b l h. h b) ls (lines-sound ls)
 
 -- "repeats or offset over 999": three columns each of a *Z
 repeated-sound : (text : List ℕ) → openingSound (openingIn text) ≡ true
@@ -132,12 +133,12 @@ ranges-sound range legs cs p ls one =
     (all-gathered (λ x. legsSound (loose p) (length cs) (legs x) ≡ true) range
     (λ r e. subst (λ (q : Part). All (λ x. legsSound (loose q) (length cs) (legs x) ≡ true) (range r)) e (one r)) (part-lines p ls))
 
-pub service-sound : (ls : List Line) → serviceSound (serviceOf ls) ≡ true
+pub service-sound : (ls : List Line) → oldServiceSound (serviceOf ls) ≡ true
 unfolding serviceOf
 service-sound ls =
     let cs = callsOf ls in
     let o = opening-sound (firstLine ls .text) in
-    let c = every-all callSound (calls-sound ls) in
+    let c = every-all oldCallSound (calls-sound ls) in
     let g = ranges-sound (categoryRange cs) (λ (r : CategoryRange). r .legs) cs Category ls (λ x. with-sound (loose (x .part)) cs _ (λ (r : CategoryRange). r .legs) (λ g. refl) (legsOn cs x) (legs-sound (loose (x .part)) cs (x .ends))) in
     let v = ranges-sound (dayRange cs) (λ (r : DayRange). r .legs) cs Days ls (λ x. with-sound (loose (x .part)) cs _ (λ (r : DayRange). r .legs) (λ g. refl) (legsOn cs x) (legs-sound (loose (x .part)) cs (x .ends))) in
     let a = ranges-sound (extraRange cs) (λ (r : ExtraRange). r .legs) cs Extra ls (λ x. with-sound (loose (x .part)) cs _ (λ (r : ExtraRange). r .legs) (λ g. refl) (legsOn cs x) (legs-sound (loose (x .part)) cs (x .ends))) in

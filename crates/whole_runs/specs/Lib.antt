@@ -3,3 +3,4 @@ pub mod Rows
 pub mod Classes
 pub mod Promise
 pub mod StopNames
+pub mod OldTable

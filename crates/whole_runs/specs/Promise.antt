@@ -5,12 +5,13 @@
 -- Proved in proofs/Demand3.antt: `demand3` (what the walk is), `demand3-rows` (its answer and the rows afterwards, with any room); in
 -- proofs/Slack.antt: `no-slack`; of any words, in proofs/Any.antt: `any-walk`, `two-rows`. Assumes nothing.
 use mathlib.Core.Path.{_≡_}
-use mathlib.Core.List.{List}
-use mathlib.Core.Bool.{true}
+use mathlib.Core.List.{List, [], _∷_}
+use mathlib.Core.Bool.{Bool, true}
 use mathlib.Core.Option.{some}
 use Prim.Native.Nat.{ℕ, _+_, _*_, _/_, _<_, _≤_}
 use lib.ListN.{length, getElem?}
-use Rattle.base.specs.Lists.{All}
+use lib.Dec.{eqb}
+use Rattle.base.specs.Lists.{All, some-of}
 use Rattle.calendar.specs.Calendar.{dayOf}
 use Rattle.calendar.specs.declared.Date.the-variants.{Day}
 use Rattle.lines.specs.Lines.{linesOf}
@@ -97,13 +98,20 @@ pub record Short (s : Service) (j : Journey) (room number needed : ℕ) : Type 0
 
 -- ---- of any words: what a walk of service i on a date may answer, d being what the words hold
 
+-- the numbers that it may be refused by, before 29 is looked at; document 02, No. 10: "show that 32 can no longer occur, and retire it": it is not among them
+abbrev pub walkRefusals : List ℕ
+walkRefusals = 21 ∷ 22 ∷ 23 ∷ 24 ∷ 25 ∷ 31 ∷ 33 ∷ 34 ∷ 35 ∷ 36 ∷ []
+
+unfoldable pub isWalkRefusal : ℕ → Bool
+isWalkRefusal number = some-of (eqb number) walkRefusals
+
 pub data AnyWalk (d : Delivery) (i : ℕ) (on : Dated) (room : ℕ) : Walked → Type 0 where
   lists : {s : Service} {k start legs : ℕ} → getElem? (d .services) i ≡ some s → on ≡ dated k → Unbroken d s k start legs
       → rowSize * (legs + 1) ≤ room → AnyWalk d i on room (Listed (legs + 1))
   short : {s : Service} {k start legs : ℕ} → getElem? (d .services) i ≡ some s → on ≡ dated k → Unbroken d s k start legs
       → room < rowSize * (legs + 1) → AnyWalk d i on room (Refused 29 (rowSize * (legs + 1)))
   nowhere : {s : Service} {k : ℕ} → getElem? (d .services) i ≡ some s → on ≡ dated k → RunsNowhere d s k → AnyWalk d i on room NotRunning
-  refuses : (number : ℕ) → 1 ≤ number → (number ≡ 29 → ⊥) → AnyWalk d i on room (Refused number 0)
+  refuses : (number : ℕ) → isWalkRefusal number ≡ true → AnyWalk d i on room (Refused number 0)
 
 -- "A walk that lists rows returns how many": at least two, so that 0 rows say "not running"
 abbrev pub TwoRows : Walked → Type 0

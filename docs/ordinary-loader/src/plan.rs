@@ -105,11 +105,12 @@ fn add_attribute(line: &Line<'_>, service: &mut Service, fields: &BitFields) -> 
 /// A schedule line: 4, 13, 9.
 fn add_call(line: &Line<'_>, service: &mut Service, stops: &Stops) -> Result<(), Offence> {
     let call = line.formed(call_in(line, service.holding()))?;
-    push(&mut service.calls, call, MOST_CALLS, line)?;
-    match stops.has(call.stop) {
-        true => Ok(()),
-        false => Err(line.offence(number::STOP_UNKNOWN)),
+    if service.calls.len() == MOST_CALLS {
+        return Err(line.offence(number::TOO_MANY));
     }
+    let place = stops.place(call.stop).ok_or_else(|| line.offence(number::STOP_UNKNOWN))?;
+    service.calls.push(Call { place, ..call });
+    Ok(())
 }
 
 /// Takes an item up, unless there are as many as there may be.
@@ -209,7 +210,7 @@ fn details_in(line: &Line<'_>, from: End, to: End, at_from: usize, at_to: usize)
 }
 
 /// "1-7 digits, 9-29 free, 30-35 arrival, 37-42 departure, 44-48 digits or blank, 50-55 all or no blanks, 57 X or blank".
-/// Document 02, No. 5: a blank number or administration is the one that holds before.
+/// Document 02, No. 5: a blank number or administration is the one that holds before. The stop's place is not known here.
 fn call_in(line: &Line<'_>, (number, administration): (u32, [u32; 2])) -> Result<Call, Broken> {
     let stop = line.digits(1, 7)?;
     line.unnamed(8, 8)?;
@@ -229,5 +230,5 @@ fn call_in(line: &Line<'_>, (number, administration): (u32, [u32; 2])) -> Result
     }
     line.unnamed(58, 58)?;
     line.percent()?;
-    Ok(Call { line: line.number, stop, arrival, departure, number, administration })
+    Ok(Call { line: line.number, stop, place: 0, arrival, departure, number, administration })
 }

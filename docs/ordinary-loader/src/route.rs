@@ -7,6 +7,8 @@ use crate::fields::{End, Time, Which};
 pub struct Call {
     pub line: u32,
     pub stop: u32,
+    /// The stop's place in BAHNHOF, counted in records from 0.
+    pub place: u32,
     pub arrival: Option<Time>,
     pub departure: Option<Time>,
     pub number: u32,

@@ -33,14 +33,14 @@ impl BitFields {
     }
 }
 
-/// The stops by number.
+/// The places of the stops by number: "counted from 0" (document 02, No. 10).
 pub struct Stops {
-    known: HashSet<u32>,
+    places: HashMap<u32, u32>,
 }
 
 impl Stops {
-    pub fn has(&self, stop: u32) -> bool {
-        self.known.contains(&stop)
+    pub fn place(&self, stop: u32) -> Option<u32> {
+        self.places.get(&stop).copied()
     }
 }
 
@@ -85,7 +85,7 @@ fn bit_field_in(line: &Line<'_>) -> Result<(u32, Bits), Broken> {
 
 /// BAHNHOF: 4, 39, 7, 6.
 pub fn read_stops(file: &[u8], table: &mut Table) -> Result<Stops, Offence> {
-    let mut stops = Stops { known: HashSet::new() };
+    let mut stops = Stops { places: HashMap::new() };
     for line in records(file) {
         let (stop, names) = line.formed(stop_in(&line))?;
         if !is_list(names) {
@@ -94,7 +94,8 @@ pub fn read_stops(file: &[u8], table: &mut Table) -> Result<Stops, Offence> {
         if stop == EVERY_STOP || stop % 100_000 == 0 {
             return Err(line.offence(number::RESERVED));
         }
-        if !stops.known.insert(stop) {
+        let place = stops.places.len() as u32;
+        if stops.places.insert(stop, place).is_some() {
             return Err(line.offence(number::REPEATED));
         }
         table.stop(stop, line.start + 12, names.len());
@@ -126,7 +127,7 @@ pub fn read_interchanges(file: &[u8], stops: &Stops, table: &mut Table) -> Resul
         if !seen.insert(stop) {
             return Err(line.offence(number::REPEATED));
         }
-        if !first && !stops.has(stop) {
+        if !first && stops.place(stop).is_none() {
             return Err(line.offence(number::STOP_UNKNOWN));
         }
         table.interchange(stop, times);

@@ -132,13 +132,13 @@ impl Table {
     }
 }
 
-/// "stop, arrival, departure, flags: 1 arrival, 2 departure, 4 no alighting, 8 no boarding; absent time 0"; "number and the two
+/// "the place of its stop" (document 02, No. 10); "arrival, departure, flags: 1 arrival, 2 departure, 4 no alighting, 8 no boarding; absent time 0"; "number and the two
 /// administration words follow the flags"
 fn call_words(call: &Call) -> [u32; CALL_WORDS] {
     let (arrival, alighting) = time_words(call.arrival, ARRIVAL, NO_ALIGHTING);
     let (departure, boarding) = time_words(call.departure, DEPARTURE, NO_BOARDING);
     let [first, second] = call.administration;
-    [call.stop, arrival, departure, alighting | boarding, call.number, first, second]
+    [call.place, arrival, departure, alighting | boarding, call.number, first, second]
 }
 
 /// A time's minutes and flags.

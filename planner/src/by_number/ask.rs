@@ -104,7 +104,7 @@ impl<'a> Table<'a> {
     ///
     /// # Errors
     ///
-    /// 21 to 25, 29, or 31 to 36; the rows stay as lent.
+    /// 21 to 25, 29, 31, or 33 to 36; the rows stay as lent.
     pub fn walk(self, service: u32, repeat: u32, date: Date, rows: &mut [u32]) -> Result<Walk<'_>, Refusal> {
         let Date { day, month, year } = date;
         // SAFETY: each pointer and length is that of a slice, and the mutable slice does not overlap the other.

@@ -8,9 +8,9 @@ use crate::generate::plan::{random_cuts, Call, Change};
 use crate::generate::rng::Rng;
 
 const ADMINISTRATIONS: [&str; 5] = ["FERRY_", "80____", "000011", "BLS_33", "PAG801"];
-/// The categories with their classes.
+/// Categories as they are used, with their classes.
 #[rustfmt::skip]
-pub const CATEGORIES: [(&str, u32); 40] = [
+const CATEGORIES: [(&str, u32); 40] = [
     ("ICE", 0), ("TGV", 0), ("RJ", 0), ("EC", 1), ("IC", 1), ("ICN", 1), ("EN", 1), ("CNL", 1), ("IR", 2), ("RX", 2),
     ("D", 2), ("RE", 3), ("R", 3), ("RB", 3), ("REX", 3), ("BAT", 4), ("FAE", 4), ("BAV", 4), ("KAT", 4), ("S", 5),
     ("SN", 5), ("SZ", 5), ("BUS", 6), ("NFB", 6), ("NFO", 6), ("EXB", 6), ("TX", 6), ("NB", 6), ("KB", 6), ("FUN", 7),
@@ -18,10 +18,23 @@ pub const CATEGORIES: [(&str, u32); 40] = [
 ];
 const CODES: [&str; 6] = ["FA", "B", "WR", "KL", "RO", "X"];
 
-/// What services are made of: the numbers of all stops and bit fields.
+/// So many categories: those above, then a capital and two digits or capitals.
+pub fn categories(count: usize) -> Vec<(String, u32)> {
+    let digit = |value: usize| char::from(b"0123456789ABCDEFGHIJKLMNOPQRSTUVWXYZ"[value % 36]);
+    let made = (0..26 * 36 * 36).map(|i| {
+        let code: String = [digit(10 + i / 36 / 36), digit(i / 36), digit(i)].iter().collect();
+        (code, i as u32 % 14)
+    });
+    let used = CATEGORIES.iter().map(|(code, class)| (code.to_string(), *class));
+    let new = made.filter(|(code, _)| CATEGORIES.iter().all(|(used, _)| used != code));
+    used.chain(new).take(count).collect()
+}
+
+/// What services are made of: the numbers of all stops and bit fields, and the categories with their classes.
 pub struct Services<'a> {
     pub stops: &'a [u32],
     pub fields: &'a [u32],
+    pub categories: &'a [(String, u32)],
 }
 
 impl Services<'_> {
@@ -31,7 +44,7 @@ impl Services<'_> {
         let calls = self.calls(rng, number % 100_000, administration);
         let number = format!("{:05}", number % 100_000);
         let mut lines = vec![opening(rng, &number, administration)];
-        lines.extend(categories(rng, &calls));
+        lines.extend(self.categories(rng, &calls));
         lines.extend(self.operating_days(rng, &calls));
         lines.extend(self.attributes(rng, &calls));
         lines.extend(calls.iter().map(|call| call_line(rng, call)));
@@ -74,6 +87,17 @@ impl Services<'_> {
             route.extend(back);
         }
         route
+    }
+
+    /// *G over all legs, mostly one.
+    fn categories(&self, rng: &mut Rng, calls: &[Call]) -> Vec<String> {
+        let parts = rng.pick(&[1, 1, 1, 1, 1, 1, 1, 2, 2, 3]);
+        let cuts = random_cuts(rng, calls.len() - 1, parts);
+        let range = |ends: &[usize]| {
+            let (category, _) = &self.categories[rng.index(self.categories.len())];
+            range_line(rng, calls, ends, |from, to| g(category, from, to))
+        };
+        cuts.windows(2).map(range).collect()
     }
 
     /// *A VE over all legs. Where there are several, their bit fields are of one family, and the one that runs most
@@ -145,17 +169,6 @@ fn opening(rng: &mut Rng, number: &str, administration: &str) -> String {
         );
     }
     z(number, administration, "", "")
-}
-
-/// *G over all legs, mostly one.
-fn categories(rng: &mut Rng, calls: &[Call]) -> Vec<String> {
-    let parts = rng.pick(&[1, 1, 1, 1, 1, 1, 1, 2, 2, 3]);
-    let cuts = random_cuts(rng, calls.len() - 1, parts);
-    let range = |ends: &[usize]| {
-        let (category, _) = rng.pick(&CATEGORIES);
-        range_line(rng, calls, ends, |from, to| g(category, from, to))
-    };
-    cuts.windows(2).map(range).collect()
 }
 
 /// A range from the first of two indexes to the second.

@@ -39,3 +39,13 @@ pub fn empty_lines(bytes: usize) -> [Vec<u8>; 6] {
     records.extend_from_slice(RECORD);
     [year(), vec![b'\n'; bytes], vec![b'\n'; bytes], records, Vec::new(), Vec::new()]
 }
+
+/// ZUGART of at most so many bytes, its lines as short as they may be and its codes of all bytes that are seen; the other files have only what they must.
+pub fn shortest_categories(rng: &mut Rng, bytes: usize) -> [Vec<u8>; 6] {
+    const LINE: &[u8] = b"???  0   0          0\n";
+    let seen = || (b'!'..=b'~').filter(|byte| *byte != b'%');
+    let codes = seen().flat_map(|a| seen().flat_map(move |b| seen().map(move |c| [a, b, c])));
+    let line = |code: [u8; 3]| code.into_iter().chain(LINE[3..].iter().copied());
+    let categories = codes.take(bytes / LINE.len()).flat_map(line).collect();
+    [year(), Vec::new(), Vec::new(), interchange_file(rng, &[]), Vec::new(), categories]
+}

@@ -1,8 +1,8 @@
 //! The worst files for a map of chains with as many buckets as the file has lines, where a number's bucket is
 //! `number * 2654435761 % 2^32 * lines / 2^32`: all numbers of a file are of one bucket.
 
-use super::services::Services;
-use super::{bit_field_file, category_file, interchange_file, plan_file, stop_line, year};
+use super::services::{categories, Services};
+use super::{bit_field_file, category_file, interchange_file, plan_file, stop_line, year, USUAL_CATEGORIES};
 use crate::columns::file;
 use crate::generate::rng::Rng;
 
@@ -20,7 +20,12 @@ const DEEP_FIELDS: usize = 9;
 pub fn worst_numbers(rng: &mut Rng, fplan_bytes: usize, stop_lines: usize) -> [Vec<u8>; 6] {
     let stops = of_one_bucket(10_000_000, stop_lines, |number| number != 9_999_999 && number % 100_000 != 0);
     let fields = of_one_bucket(1_000_000, WORST_FIELD_LINES, |number| number != 0);
-    let deep = Services { stops: &stops[..DEEP_STOPS.min(stops.len())], fields: &fields[..DEEP_FIELDS] };
+    let categories = categories(USUAL_CATEGORIES);
+    let deep = Services {
+        stops: &stops[..DEEP_STOPS.min(stops.len())],
+        fields: &fields[..DEEP_FIELDS],
+        categories: &categories,
+    };
     let own = &stops[..stops.len().min(stop_lines - 1)];
     [
         year(),
@@ -28,7 +33,7 @@ pub fn worst_numbers(rng: &mut Rng, fplan_bytes: usize, stop_lines: usize) -> [V
         filled_up(file(&stops.iter().map(|stop| stop_line(rng, *stop)).collect::<Vec<_>>()), stops.len(), stop_lines),
         filled_up(interchange_file(rng, own), own.len() + 1, stop_lines),
         plan_file(rng, fplan_bytes, &deep),
-        category_file(),
+        category_file(&categories),
     ]
 }
 

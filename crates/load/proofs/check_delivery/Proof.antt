@@ -1,6 +1,6 @@
 use mathlib.Core.Path.{_∙_}
 use Rattle.base.proofs.Laws.{tests}
-use Rattle.load.proofs.Helper.{lent-fields, lent-stops, stops-inside, lent-interchanges, lent-index, maps-inside, fields-held, stops-still}
+use Rattle.load.proofs.Helper.{lent-fields, lent-stops, stops-inside, lent-interchanges, lent-index, maps-inside, fields-held, stops-still, stops-stand, refused-stand}
 use Rattle.load.proofs.Files.{days-few, fields-few, stops-few, interchanges-few, classes-few, words-few, classes-out, plan-out, all-right, orders}
 use Rattle.load.proofs.check_delivery.Statement.{statement}
 use Rattle.load.proofs.check_delivery.Tie as tie
@@ -18,7 +18,7 @@ refused-requires : tie.Need-refused-requires
 refused-requires c κs = search tests
 
 returns : tie.Need-returns
-returns c = search orders
+returns c = (search orders, search refused-stand)
 
 fields-in-requires : tie.Need-fields-in-requires
 fields-in-requires c κs = ((search tests, search days-few), search lent-fields)
@@ -36,7 +36,7 @@ same-length : tie.Need-same-length
 same-length c = search tests
 
 returns-2 : tie.Need-returns-2
-returns-2 c = search orders
+returns-2 c = (search orders, search refused-stand)
 
 stops-in-requires : tie.Need-stops-in-requires
 stops-in-requires c κs =
@@ -58,7 +58,7 @@ same-length-2 : tie.Need-same-length-2
 same-length-2 c = search tests
 
 returns-3 : tie.Need-returns-3
-returns-3 c = search orders
+returns-3 c = (search orders, search refused-stand)
 
 interchanges-in-requires : tie.Need-interchanges-in-requires
 interchanges-in-requires c κs =
@@ -83,7 +83,7 @@ same-length-3 : tie.Need-same-length-3
 same-length-3 c = search tests
 
 returns-4 : tie.Need-returns-4
-returns-4 c = search orders
+returns-4 c = (search orders, search refused-stand)
 
 classes-in-requires : tie.Need-classes-in-requires
 classes-in-requires c κs =
@@ -114,20 +114,22 @@ returns-5 c =
     let interchanges = classes .before .before .before .before .before .before .before in
     let stops = interchanges .before .before .before .before .before .before .before in
     let fields = stops .before .before .before .before .before .before .before in
-    let period = fields .before .before .before .before .before in
-    search (
-      classes-out,
-      period .check-period .ensures,
-      fields .before .before .before .period .given .1,
-      fields .fields-in .ensures .0,
-      stops .before .before .before .field-section .given .1,
-      stops .stops-in .ensures .0,
-      interchanges .before .before .before .stop-section .given .1,
-      interchanges .interchanges-in .ensures .0,
-      classes .before .before .before .interchange-section .given .1,
-      classes .classes-in .ensures .0,
-      c .before .enum-told5 .given .1,
-      c .refused5 .ensures,
+    let period = fields .before .before .before .before .before in (
+      search (
+        classes-out,
+        period .check-period .ensures,
+        fields .before .before .before .period .given .1,
+        fields .fields-in .ensures .0,
+        stops .before .before .before .field-section .given .1,
+        stops .stops-in .ensures .0,
+        interchanges .before .before .before .stop-section .given .1,
+        interchanges .interchanges-in .ensures .0,
+        classes .before .before .before .interchange-section .given .1,
+        classes .classes-in .ensures .0,
+        c .before .enum-told5 .given .1,
+        c .refused5 .ensures,
+      ),
+      search (refused-stand, c .refused5 .ensures),
     )
 
 plan-by-requires : tie.Need-plan-by-requires
@@ -171,22 +173,24 @@ returns-6 c =
     let interchanges = classes .before .before .before .before .before .before .before in
     let stops = interchanges .before .before .before .before .before .before .before in
     let fields = stops .before .before .before .before .before .before .before in
-    let period = fields .before .before .before .before .before in
-    search (
-      plan-out,
-      period .check-period .ensures,
-      fields .before .before .before .period .given .1,
-      fields .fields-in .ensures .0,
-      stops .before .before .before .field-section .given .1,
-      stops .stops-in .ensures .0,
-      interchanges .before .before .before .stop-section .given .1,
-      interchanges .interchanges-in .ensures .0,
-      classes .before .before .before .interchange-section .given .1,
-      classes .classes-in .ensures .0,
-      plan .before .before .before .class-section .given .1,
-      plan .plan-by .ensures,
-      c .before .enum-told6 .given .1,
-      c .refused6 .ensures,
+    let period = fields .before .before .before .before .before in (
+      search (
+        plan-out,
+        period .check-period .ensures,
+        fields .before .before .before .period .given .1,
+        fields .fields-in .ensures .0,
+        stops .before .before .before .field-section .given .1,
+        stops .stops-in .ensures .0,
+        interchanges .before .before .before .stop-section .given .1,
+        interchanges .interchanges-in .ensures .0,
+        classes .before .before .before .interchange-section .given .1,
+        classes .classes-in .ensures .0,
+        plan .before .before .before .class-section .given .1,
+        plan .plan-by .ensures,
+        c .before .enum-told6 .given .1,
+        c .refused6 .ensures,
+      ),
+      search (refused-stand, c .refused6 .ensures),
     )
 
 header-of-requires : tie.Need-header-of-requires
@@ -222,21 +226,24 @@ returns-7 c =
     let stops = interchanges .before .before .before .before .before .before .before in
     let fields = stops .before .before .before .before .before .before .before in
     let period = fields .before .before .before .before .before in
-    search (
-      all-right,
-      period .check-period .ensures,
-      fields .before .before .before .period .given .1,
-      fields .fields-in .ensures .0,
-      stops .before .before .before .field-section .given .1,
-      stops .stops-in .ensures .0,
-      interchanges .before .before .before .stop-section .given .1,
-      interchanges .interchanges-in .ensures .0,
-      classes .before .before .before .interchange-section .given .1,
-      classes .classes-in .ensures .0,
-      plan .before .before .before .class-section .given .1,
-      plan .plan-by .ensures,
-      c .before .before .plan .given .1,
-      c .header-of .ensures,
+    let start = period .before .before .before .before .before .before .before .before in (
+      search (
+        all-right,
+        period .check-period .ensures,
+        fields .before .before .before .period .given .1,
+        fields .fields-in .ensures .0,
+        stops .before .before .before .field-section .given .1,
+        stops .stops-in .ensures .0,
+        interchanges .before .before .before .stop-section .given .1,
+        interchanges .interchanges-in .ensures .0,
+        classes .before .before .before .interchange-section .given .1,
+        classes .classes-in .ensures .0,
+        plan .before .before .before .class-section .given .1,
+        plan .plan-by .ensures,
+        c .before .before .plan .given .1,
+        c .header-of .ensures,
+      ),
+      stops-stand _ _ _ _ _ _ _ _ (start .pre .0) (start .pre .1) _ _ (fields .fields-in .ensures .1) _ _ (stops .stops-in .ensures .1) _ (interchanges .interchanges-in .kept .1 .1 .0) (interchanges .interchanges-in .ensures .1 .0) _ _ (classes .classes-in .ensures .1) _ _ (interchanges .before .before .before .stop-section .given .1) _,
     )
 
 pub check-delivery-spec : {M : Type 1} → statement M

@@ -10,7 +10,7 @@ use Rattle.lookups.proofs.service_place.Statement.{statement}
 use Rattle.lookups.proofs.service_place.Tie as tie
 
 abbrev Inv-loop : tie.InvT-loop
-Inv-loop w i p₀ k₀ p k = (p ≤ length w) × (k ≤ i) × (recordsSound (getD w 6 0 - (i - k)) (drop p w) ≡ true) × (recordPlace w p k ≡ servicePlace w i)
+Inv-loop w i p₀ k₀ p k = (p ≤ length w) × (k ≤ i) × (recordsSound (getD w 4 0) (getD w 6 0 - (i - k)) (drop p w) ≡ true) × (recordPlace w p k ≡ servicePlace w i)
 
 abbrev μ-loop : tie.MeasureT-loop
 μ-loop w i p₀ k₀ p k = k

@@ -21,7 +21,7 @@ slice-aggregate-put-services-2 : tie.Need-slice-aggregate-put-services-2
 slice-aggregate-put-services-2 c = search beginning
 
 put-services-requires : tie.Need-put-services-requires
-put-services-requires c κs = (search beginning, (search beginning, ((search beginning, search beginning), search beginning)))
+put-services-requires c κs = (search beginning, (search beginning, (search beginning, ((search beginning, search beginning), search beginning))))
 
 same-length : tie.Need-same-length
 same-length c = search beginning

@@ -1,36 +1,38 @@
 use mathlib.Core.Path.{_≡_}
 use mathlib.Core.Bool.{true}
-use Prim.Native.Nat.{_+_, _-_, _≤_}
+use Prim.Native.Nat.{_+_, _-_, _^_, _≤_, _<_}
 use lib.ListN.{length}
 use Rattle.lines.specs.Lines.{linesAt}
 use Rattle.words.specs.Words.{write}
+use Rattle.timetable.specs.Files.{stopsIn}
 use Rattle.timetable.specs.Service.{blocks}
 use Rattle.draft.specs.Draft.{callsLent, rangesLent}
 use Rattle.reading.specs.Reading.{Boundary}
-use Rattle.plan.specs.Services.{blockWords, withinLimits}
+use Rattle.plan.specs.Services.{blockWords, placedWords, withinLimits}
 use Rattle.plan.proofs.Putting.{putting}
 use Rattle.plan.proofs.put_services.Statement.{statement}
 use Rattle.plan.proofs.put_services.Tie as tie
 
 abbrev Inv-loop : tie.InvT-loop
-Inv-loop fplan start first calls₀ ranges₀ table₀ at place₀ no₀ to₀ calls ranges table place no' to =
+Inv-loop fplan start first bahnhof stops calls₀ ranges₀ table₀ at place₀ no₀ to₀ calls ranges table place no' to =
     (length calls ≡ length calls₀) × (length ranges ≡ length ranges₀) × (length table ≡ length table₀)
     × (callsLent ≤ length calls) × (rangesLent ≤ length ranges)
     × (at + length (blockWords (blocks (linesAt fplan start first))) ≤ length table)
+    × (at + length (blockWords (blocks (linesAt fplan start first))) < 2 ^ 64)
     × Boundary fplan place no'
     × (withinLimits (blocks (linesAt fplan place no')) ≡ true)
     × (to + length (blockWords (blocks (linesAt fplan place no'))) ≡ at + length (blockWords (blocks (linesAt fplan start first))))
-    × (write table to (blockWords (blocks (linesAt fplan place no'))) ≡ write table₀ at (blockWords (blocks (linesAt fplan start first))))
+    × (write table to (placedWords (stopsIn bahnhof) (blocks (linesAt fplan place no'))) ≡ write table₀ at (placedWords (stopsIn bahnhof) (blocks (linesAt fplan start first))))
 
 abbrev μ-loop : tie.MeasureT-loop
-μ-loop fplan start first calls₀ ranges₀ table₀ at place₀ no₀ to₀ calls ranges table place no' to =
+μ-loop fplan start first bahnhof stops calls₀ ranges₀ table₀ at place₀ no₀ to₀ calls ranges table place no' to =
     length fplan - place
 
 loop-holds : tie.Need-loop-holds Inv-loop μ-loop
-loop-holds c = search putting
+loop-holds c = (search putting, search putting, search putting, search putting, search putting, search putting, search putting, search putting, search putting, search putting, search putting)
 
 put-service-requires : tie.Need-put-service-requires Inv-loop μ-loop
-put-service-requires c κs = ((search putting, search putting), (search putting, ((search putting, search putting), search putting)))
+put-service-requires c κs = ((search putting, search putting), (search putting, (search putting, ((search putting, search putting), search putting))))
 
 cast-to : tie.Need-cast-to Inv-loop μ-loop
 cast-to c = search putting
@@ -42,7 +44,7 @@ loop-less : tie.Need-loop-less Inv-loop μ-loop
 loop-less c = search putting
 
 loop-again : tie.Need-loop-again Inv-loop μ-loop
-loop-again c = (search putting, search putting, search putting, search putting, search putting, search putting, search putting, search putting, search putting, search putting)
+loop-again c = (search putting, search putting, search putting, search putting, search putting, search putting, search putting, search putting, search putting, search putting, search putting)
 
 same-length : tie.Need-same-length Inv-loop μ-loop
 same-length c = search putting

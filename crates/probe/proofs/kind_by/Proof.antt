@@ -27,9 +27,12 @@ returns-8 : tie.Need-returns-8
 returns-8 c = search (tests, c .match .keys8)
 
 returns-9 : tie.Need-returns-9
-returns-9 c = search tests
+returns-9 c = search (tests, c .match .keys9)
+
+returns-10 : tie.Need-returns-10
+returns-10 c = search tests
 
 pub kind-by-spec : {M : Type 1} → statement M
 kind-by-spec =
     tie.close
-    (tie.spec returns returns-2 returns-3 returns-4 returns-5 returns-6 returns-7 returns-8 returns-9)
+    (tie.spec returns returns-2 returns-3 returns-4 returns-5 returns-6 returns-7 returns-8 returns-9 returns-10)

@@ -1,18 +1,17 @@
 use mathlib.Core.Path.{_≡_}
 use Prim.Native.Nat.{_+_, _-_, _≤_}
 use native.Mathlib.Omega.{arith}
-use Rattle.timetable.specs.Table.{serviceAt, tableOf}
-use Rattle.timetable.specs.Questions.{callsRefusal}
-use Rattle.rows.specs.Rows.{callsFrom}
+use Rattle.timetable.specs.Table.{serviceAt}
+use Rattle.rows.specs.Rows.{callsFault, callsFrom}
 use Rattle.rows.proofs.Calls.{calls}
 use Rattle.rows.proofs.calls_refusal.Statement.{statement}
 use Rattle.rows.proofs.calls_refusal.Tie as tie
 
 abbrev Inv-loop : tie.InvT-loop
-Inv-loop w s a n i₀ before₀ i before = (i ≤ n + 1) × (callsRefusal (tableOf w) (serviceAt s) a n i before (callsFrom s (a + i) (n + 1 - i)) ≡ callsRefusal (tableOf w) (serviceAt s) a n 0 0 (callsFrom s a (n + 1)))
+Inv-loop s a n i₀ before₀ i before = (i ≤ n + 1) × (callsFault (serviceAt s) a n i before (callsFrom s (a + i) (n + 1 - i)) ≡ callsFault (serviceAt s) a n 0 0 (callsFrom s a (n + 1)))
 
 abbrev μ-loop : tie.MeasureT-loop
-μ-loop w s a n i₀ before₀ i before = n + 1 - i
+μ-loop s a n i₀ before₀ i before = n + 1 - i
 
 loop-holds : tie.Need-loop-holds Inv-loop μ-loop
 loop-holds c = search calls

@@ -3,10 +3,10 @@ use Prim.Native.Nat.{_+_, _-_, _*_, _≤_}
 use native.Mathlib.Omega.{arith}
 use lib.ListN.{length}
 use Rattle.timetable.specs.Layout.{rowSize}
-use Rattle.timetable.specs.Table.{serviceAt, tableOf}
+use Rattle.timetable.specs.Table.{tableOf}
 use Rattle.timetable.specs.Questions.{rowsOf}
 use Rattle.words.specs.Words.{write}
-use Rattle.rows.specs.Rows.{callsFrom}
+use Rattle.rows.specs.Rows.{callsShown, serviceShown}
 use Rattle.rows.proofs.Written.{rows}
 use Rattle.rows.proofs.rows_into.Statement.{statement}
 use Rattle.rows.proofs.rows_into.Tie as tie
@@ -14,7 +14,7 @@ use Rattle.rows.proofs.rows_into.Tie as tie
 abbrev Inv-loop : tie.InvT-loop
 Inv-loop w s a n delay rows₀ k₀ at₀ rows k at =
     (k ≤ n + 1) × (at ≡ rowSize * k) × (length rows ≡ length rows₀)
-    × (write rows at (rowsOf (tableOf w) (serviceAt s) a n delay k (callsFrom s (a + k) (n + 1 - k))) ≡ write rows₀ 0 (rowsOf (tableOf w) (serviceAt s) a n delay 0 (callsFrom s a (n + 1))))
+    × (write rows at (rowsOf (tableOf w) (serviceShown (tableOf w) s) a n delay k (callsShown (tableOf w) s (a + k) (n + 1 - k))) ≡ write rows₀ 0 (rowsOf (tableOf w) (serviceShown (tableOf w) s) a n delay 0 (callsShown (tableOf w) s a (n + 1))))
 
 abbrev μ-loop : tie.MeasureT-loop
 μ-loop w s a n delay rows₀ k₀ at₀ rows k at = n + 1 - k
@@ -29,7 +29,7 @@ call-of-requires : tie.Need-call-of-requires Inv-loop μ-loop
 call-of-requires c κs = search rows
 
 row-of-requires : tie.Need-row-of-requires Inv-loop μ-loop
-row-of-requires c κs = search rows
+row-of-requires c κs = (search rows, (search rows, (search rows, (search rows, search rows, search rows, search rows))))
 
 put-row-requires : tie.Need-put-row-requires Inv-loop μ-loop
 put-row-requires c κs = search rows

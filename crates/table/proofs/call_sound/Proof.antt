@@ -11,5 +11,8 @@ returns-2 c = search tests
 returns-3 : tie.Need-returns-3
 returns-3 c = search tests
 
+returns-4 : tie.Need-returns-4
+returns-4 c = search tests
+
 pub call-sound-spec : {M : Type 1} → statement M
-call-sound-spec = tie.close (tie.spec returns returns-2 returns-3)
+call-sound-spec = tie.close (tie.spec returns returns-2 returns-3 returns-4)

@@ -10,10 +10,10 @@ use Rattle.table.proofs.calls_sound.Statement.{statement}
 use Rattle.table.proofs.calls_sound.Tie as tie
 
 abbrev Inv-loop : tie.InvT-loop
-Inv-loop w at n p₀ k₀ p k = (p + callSize * k ≤ length w) × (every callSound (rowsIn callAt callSize k (drop p w)) ≡ every callSound (rowsIn callAt callSize n (drop at w)))
+Inv-loop w at n stops p₀ k₀ p k = (p + callSize * k ≤ length w) × (every (callSound stops) (rowsIn callAt callSize k (drop p w)) ≡ every (callSound stops) (rowsIn callAt callSize n (drop at w)))
 
 abbrev μ-loop : tie.MeasureT-loop
-μ-loop w at n p₀ k₀ p k = k
+μ-loop w at n stops p₀ k₀ p k = k
 
 loop-holds : tie.Need-loop-holds Inv-loop μ-loop
 loop-holds c = (search rows, refl)

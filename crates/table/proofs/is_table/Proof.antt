@@ -44,6 +44,9 @@ part-records-sound-end c = search whole
 shared-slice-read-records-sound : tie.Need-shared-slice-read-records-sound
 shared-slice-read-records-sound c = search whole
 
+shared-slice-read-records-sound-2 : tie.Need-shared-slice-read-records-sound-2
+shared-slice-read-records-sound-2 c = search whole
+
 records-sound-requires : tie.Need-records-sound-requires
 records-sound-requires c κs = search whole
 
@@ -68,5 +71,6 @@ is-table-spec =
     part-records-sound-start
     part-records-sound-end
     shared-slice-read-records-sound
+    shared-slice-read-records-sound-2
     records-sound-requires
     returns-4)

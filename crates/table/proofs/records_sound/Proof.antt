@@ -7,10 +7,10 @@ use Rattle.table.proofs.records_sound.Statement.{statement}
 use Rattle.table.proofs.records_sound.Tie as tie
 
 abbrev Inv-loop : tie.InvT-loop
-Inv-loop w v at₀ k₀ at k = (at ≤ length w) × (recordsSound k (drop at w) ≡ recordsSound v w)
+Inv-loop w v stops at₀ k₀ at k = (at ≤ length w) × (recordsSound stops k (drop at w) ≡ recordsSound stops v w)
 
 abbrev μ-loop : tie.MeasureT-loop
-μ-loop w v at₀ k₀ at k = k
+μ-loop w v stops at₀ k₀ at k = k
 
 loop-holds : tie.Need-loop-holds Inv-loop μ-loop
 loop-holds c = (search records, refl)

@@ -1,3 +1,4 @@
+use Rattle.base.proofs.Laws.{tests}
 use Rattle.table_words.proofs.Laws.{joining}
 use Rattle.table_words.proofs.put_table.Statement.{statement}
 use Rattle.table_words.proofs.put_table.Tie as tie
@@ -9,7 +10,7 @@ put-sections-requires : tie.Need-put-sections-requires
 put-sections-requires c κs = search joining
 
 put-plan-requires : tie.Need-put-plan-requires
-put-plan-requires c κs = search joining
+put-plan-requires c κs = (search tests, (search tests, (search tests, (search tests, search joining))))
 
 same-length : tie.Need-same-length
 same-length c = search joining
