@@ -23,6 +23,13 @@
 extern "C" {
 #endif
 
+/*
+ * The version that this header was written for: of the functions below, and of the words of a table. It grows whenever one of them changes. A program compares it
+ * once, before any other call, with estelunya_version() of the archive that it was linked with; where they differ it has to be built again, and words that
+ * were kept have to be loaded again.
+ */
+#define ESTELUNYA_VERSION 1
+
 typedef struct EstelunyaLoadResult {
     uint32_t number; /* 0: accepted; else the refusal, 1 to 20, 37, 38, 39 or 51 */
     uint32_t file;   /* 1 ECKDATEN, 2 BITFELD, 3 BAHNHOF, 4 UMSTEIGB, 5 FPLAN, 6 ZUGART; 0 if accepted, and for 20 and 51 */
@@ -83,24 +90,29 @@ typedef struct EstelunyaDayCountResult {
 #define ESTELUNYA_FIRST_SERVICE_AT 7 /* place of the first service: the words of the header and of all records before it */
 #define ESTELUNYA_CLASSES_AT 8       /* categories, each with its class */
 
-/* Bit field: number; then bits, bit 0 the highest of the first word. Bit d + 2 is day d of the period, counted from 0. */
+/* Bit field */
 #define ESTELUNYA_BIT_FIELD_WORDS 13
-#define ESTELUNYA_BIT_WORDS 12 /* of its bits */
+#define ESTELUNYA_BIT_FIELD_NUMBER_AT 0 /* its number */
+#define ESTELUNYA_BIT_FIELD_BITS_AT 1   /* its bits, bit 0 the highest of the first word; bit d + 2 is day d of the period, counted from 0 */
+#define ESTELUNYA_BIT_WORDS 12          /* words of its bits */
 
-/*
- * Stop: number; byte of BAHNHOF at which its name field starts, counted from 0; length of the field without trailing blanks. All its names stand there, with
- * their patterns: estelunya_stop_name finds one of them.
- */
+/* Stop. All its names stand in its name field, with their patterns: estelunya_stop_name finds one of them. */
 #define ESTELUNYA_STOP_WORDS 3
+#define ESTELUNYA_STOP_NUMBER_AT 0      /* its number */
+#define ESTELUNYA_STOP_NAME_AT 1        /* byte of BAHNHOF at which its name field starts, counted from 0 */
+#define ESTELUNYA_STOP_NAME_LENGTH_AT 2 /* length of the field without trailing blanks */
 
-/*
- * Interchange: number of the stop (9999999 in the first record: every stop without its own); time for two classes that are both 0, 1 or 2; time for all
- * other classes
- */
+/* Interchange */
 #define ESTELUNYA_INTERCHANGE_WORDS 3
+#define ESTELUNYA_INTERCHANGE_STOP_AT 0        /* number of the stop; EVERY_STOP in the first record */
+#define ESTELUNYA_INTERCHANGE_FIRST_TIME_AT 1  /* time for two classes that are both 0, 1 or 2 */
+#define ESTELUNYA_INTERCHANGE_SECOND_TIME_AT 2 /* time for all other classes */
+#define ESTELUNYA_EVERY_STOP 9999999u          /* every stop without its own */
 
-/* Category, from a line of ZUGART: its code in three bytes; its class, 0 to 13 */
+/* Category, from a line of ZUGART */
 #define ESTELUNYA_CLASS_WORDS 2
+#define ESTELUNYA_CLASS_CODE_AT 0 /* its code in three bytes */
+#define ESTELUNYA_CLASS_AT 1      /* its class, 0 to 13 */
 
 /* Head of a service */
 #define ESTELUNYA_SERVICE_WORDS 12
@@ -124,23 +136,38 @@ typedef struct EstelunyaDayCountResult {
 #define ESTELUNYA_KIND_T 1u
 
 /*
- * Call: place of the stop among the stops, counted in records from 0, so that its record begins at word
+ * Call. The place of its stop is counted in records from 0, so that the stop's record begins at word
  *
- *     ESTELUNYA_HEADER_WORDS + ESTELUNYA_BIT_FIELD_WORDS * (word ESTELUNYA_BIT_FIELDS_AT) + ESTELUNYA_STOP_WORDS * place;
+ *     ESTELUNYA_HEADER_WORDS + ESTELUNYA_BIT_FIELD_WORDS * (word ESTELUNYA_BIT_FIELDS_AT) + ESTELUNYA_STOP_WORDS * place.
  *
- * arrival; departure, both in minutes, 0 if there is none; flags; number and administration (two words of three bytes) of the service that hold from this call on.
  * (A row shows the stop's number.) A place that is not below the number of stops is no table's: 21.
  */
 #define ESTELUNYA_CALL_WORDS 7
+#define ESTELUNYA_CALL_PLACE_AT 0          /* place of the stop among the stops */
+#define ESTELUNYA_CALL_ARRIVAL_AT 1        /* in minutes; 0 if there is none */
+#define ESTELUNYA_CALL_DEPARTURE_AT 2      /* in the same way */
+#define ESTELUNYA_CALL_FLAGS_AT 3          /* see the flags below */
+#define ESTELUNYA_CALL_NUMBER_AT 4         /* the service's number that holds from this call on */
+#define ESTELUNYA_CALL_ADMINISTRATION_AT 5 /* the administration in the same way, two words of three bytes */
 
-/* *G: category in three bytes, which is one of ZUGART's; from; to. From and to are indexes of calls, from 0. */
+/* *G. From and to are indexes of calls, from 0, here and below. */
 #define ESTELUNYA_CATEGORY_WORDS 3
+#define ESTELUNYA_CATEGORY_CODE_AT 0 /* category in three bytes, which is one of ZUGART's */
+#define ESTELUNYA_CATEGORY_FROM_AT 1
+#define ESTELUNYA_CATEGORY_TO_AT 2
 
-/* *A VE: number of the bit field, 0 for daily; from; to */
+/* *A VE */
 #define ESTELUNYA_DAYS_WORDS 3
+#define ESTELUNYA_DAYS_FIELD_AT 0 /* number of the bit field, 0 for daily */
+#define ESTELUNYA_DAYS_FROM_AT 1
+#define ESTELUNYA_DAYS_TO_AT 2
 
-/* Other *A: code in two bytes; number of the bit field; from; to */
+/* Other *A */
 #define ESTELUNYA_EXTRA_WORDS 4
+#define ESTELUNYA_EXTRA_CODE_AT 0  /* code in two bytes */
+#define ESTELUNYA_EXTRA_FIELD_AT 1 /* number of the bit field, 0 for daily */
+#define ESTELUNYA_EXTRA_FROM_AT 2
+#define ESTELUNYA_EXTRA_TO_AT 3
 
 /* Row of a walk */
 #define ESTELUNYA_ROW_WORDS 10
@@ -168,12 +195,22 @@ typedef struct EstelunyaDayCountResult {
 #define ESTELUNYA_NO_ALIGHTING 4u /* alighting is forbidden */
 #define ESTELUNYA_NO_BOARDING 8u  /* boarding is forbidden */
 
+/* The version of the archive: ESTELUNYA_VERSION, if this header was written for it. */
+uint32_t estelunya_version(void);
+
+/*
+ * Words that are enough for the table of any delivery whose files have so many bytes: lent so many, no load is refused with 20. That is proved. No file is looked
+ * into, so most tables are shorter; the load says how many words it used, and the others may be given back. ECKDATEN does not count. Any sizes may be asked: bytes
+ * over 16,777,216 add nothing, since such a file is refused.
+ */
+size_t estelunya_room(size_t bitfeld, size_t bahnhof, size_t umsteigb, size_t fplan, size_t zugart);
+
 /*
  * Loads a delivery: the bytes of its six files, each of any length (over 16,777,216 is refusal 1). They are given by their numbers, and checked in the order
  * ECKDATEN, BITFELD, BAHNHOF, UMSTEIGB, ZUGART, FPLAN.
  *
  * Accepted: the first `words` words of `table` are the table, and the words after them hold what they held. Refused: all words of `table` hold
- * what they held, also for 20, which comes last: a delivery that is right needs so many words, and was lent fewer.
+ * what they held, also for 20, which comes last: a delivery that is right needs so many words, and was lent fewer (estelunya_room says how many are enough).
  *
  * `helper` are words to work in: HELPER_HEAD_WORDS, and HELPER_LINE_WORDS for each line of BITFELD, BAHNHOF and UMSTEIGB. Every LF ends a line, and
  * what stands behind the last LF is one; lines that are skipped count. They may hold anything. Afterwards the words needed hold 0, whatever the answer, and

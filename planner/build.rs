@@ -19,11 +19,14 @@ fn main() {
     println!("cargo:rerun-if-changed={}", archive.display());
     match fs::read(&archive) {
         Ok(bytes) => fits_target(&archive, &bytes),
-        Err(error) => println!(
-            "cargo:warning={}: {}: `rt staticlib estelunya` writes it, ESTELUNYA_LIB names its directory",
-            archive.display(),
-            error
-        ),
+        Err(error) => {
+            eprintln!(
+                "error: there is no archive to link with ({}: {}): run tools/install.sh, which proves it and puts it into lib/, or name its directory in ESTELUNYA_LIB.",
+                archive.display(),
+                error
+            );
+            exit(1);
+        }
     }
     println!("cargo:rustc-link-search=native={}", directory.display());
     println!("cargo:rustc-link-lib=static=estelunya");

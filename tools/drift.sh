@@ -6,7 +6,9 @@
 # (drift/sides.awk) and linked with the archive, agree on layouts, prototypes and answers.
 #
 # The table's layout: each .._WORDS, .._AT, kind and flag of the header has the same value in planner/src/layout.rs, which compare/ takes too; those that the
-# loader (crates/timetable) or the ordinary loader name are the header's.
+# loader (crates/timetable) or the ordinary loader name are the header's. The version is one in all.
+#
+# The refusals' texts: those of include/estelunya_texts.h are the crate's.
 set -eu
 cd "$(dirname "$0")/.."
 rattle=${1:-crates/estelunya/src/lib.rt}
@@ -27,21 +29,22 @@ tidy() { sed -e 's/ *, */, /g; s/, *\([})]\)/ \1/g; s/( */(/g; s/ *)/)/g; s/{ */
 
 of_rattle() {
     bare_rust "$1" | grep -o '#\[repr(C)\] pub struct [A-Za-z]* {[^}]*}' | sed -e 's/#\[repr(C)\] pub //; s/pub //g' | tidy
-    bare_rust "$1" | grep -o '#\[no_mangle\] pub extern "C" fn [a-z_]*([^)]*) -> [A-Za-z]*' | sed -e 's/.*extern "C" //' \
+    bare_rust "$1" | grep -o '#\[no_mangle\] pub extern "C" fn [a-z_]*([^)]*) -> [A-Za-z0-9]*' | sed -e 's/.*extern "C" //' \
         -e 's/\([a-z_]*\): &mut \[\([a-z0-9]*\)\]/\1: *mut \2, \1_len: usize/g' \
         -e 's/\([a-z_]*\): &\[\([a-z0-9]*\)\]/\1: *const \2, \1_len: usize/g' | tidy
 }
 
 of_rust() {
     bare_rust "$1" | grep -o '#\[repr(C)\] #\[derive([^)]*)\] pub struct [A-Za-z]* {[^}]*}' | sed -e 's/.*pub struct/struct/; s/pub //g' | tidy
-    bare_rust "$1" | grep -o 'extern "C" {[^}]*}' | grep -o 'fn [a-z_]*([^)]*) -> [A-Za-z]*' | tidy
+    bare_rust "$1" | grep -o 'extern "C" {[^}]*}' | grep -o 'fn [a-z_]*([^)]*) -> [A-Za-z0-9]*' | tidy
 }
 
 of_c() {
     types='s/const uint8_t \*\([a-z_]*\)/\1: *const u8/g; s/const uint32_t \*\([a-z_]*\)/\1: *const u32/g; s/uint32_t \*\([a-z_]*\)/\1: *mut u32/g
         s/size_t \([a-z_]*\)/\1: usize/g; s/uint32_t \([a-z_]*\)/\1: u32/g'
     bare_c "$1" | grep -o 'typedef struct Estelunya[A-Za-z]* {[^}]*}' | sed -e 's/typedef struct Estelunya/struct /' -e "$types" -e 's/;/,/g' | tidy
-    bare_c "$1" | grep -o 'Estelunya[A-Za-z]* estelunya_[a-z_]*([^)]*)' | sed -e 's/Estelunya\([A-Za-z]*\) \(.*\)/fn \2 -> \1/' -e "$types" | tidy
+    bare_c "$1" | grep -o '\(Estelunya[A-Za-z]*\|uint32_t\|size_t\) estelunya_[a-z_]*([^)]*)' | sed -e 's/(void)/()/' \
+        -e 's/^Estelunya\([A-Za-z]*\) \(.*\)/fn \2 -> \1/; s/^uint32_t \(.*\)/fn \1 -> u32/; s/^size_t \(.*\)/fn \1 -> usize/' -e "$types" | tidy
 }
 
 # A declaration that the patterns above do not see would be missed on all sides: each name of the source is there.
@@ -63,7 +66,7 @@ echo "drift: $(grep -c ^struct "$said/rattle") answers and $(grep -c ^fn "$said/
 # ---- the table's layout, by text: a line "NAME VALUE" for each constant
 
 constants_c() { sed -n 's/^#define ESTELUNYA_\([A-Z_]*\) \([0-9]*\)u\{0,1\}\( .*\)\{0,1\}$/\1 \2/p' "$1"; }
-constants_rust() { sed -n 's/^ *\(pub \)\{0,1\}const \([A-Z_]*\): u[a-z0-9]* = \([0-9]*\);$/\2 \3/p' "$@"; }
+constants_rust() { sed -n 's/^ *\(pub \)\{0,1\}const \([A-Z_]*\): u[a-z0-9]* = \([0-9_]*\);$/\2 \3/p' "$@" | awk '{ gsub(/_/, "", $2); print }'; }
 
 # held NAME AGAINST [PATTERN]: each constant of the list NAME (that has the PATTERN) is in AGAINST, with the same value
 held() {
@@ -76,22 +79,25 @@ held() {
 
 mkdir -p "$said/include" "$said/planner/src" "$said/crates" "$said/docs"
 timetable=crates/timetable
+boundary=crates/estelunya
 planner=planner/src/layout.rs
 ordinary=docs/ordinary-loader
 constants_c "$header" >"$said/$header"
-constants_rust "$planner" >"$said/$planner"
+constants_rust "$planner" "$raw" >"$said/$planner"
+constants_rust "$rattle" | grep '^VERSION ' >"$said/$boundary"
 # The loader names both words of an administration, the header only where they begin.
 constants_rust "$timetable/src/lib.rt" | grep '_WORDS \|_AT \|^KIND_' | grep -v '^MOST_' |
     awk '$1 == "HIGH_AT" || $1 == "LOW_AT" { $2 -= $1 == "LOW_AT"; $1 = "ADMINISTRATION_AT" } { print }' >"$said/$timetable"
 constants_rust "$ordinary"/src/*.rs >"$said/all"
 awk 'FNR == NR { named[$1] = 1; next } $1 in named' "$said/$header" "$said/all" >"$said/$ordinary"
-for list in "$header" "$planner" "$timetable" "$ordinary"; do [ -s "$said/$list" ] || die "no constants are seen in $list"; done
+for list in "$header" "$planner" "$timetable" "$ordinary" "$boundary"; do [ -s "$said/$list" ] || die "no constants are seen in $list"; done
 
 held "$header" "$planner"
 held "$planner" "$header"
 held "$timetable" "$header"
 held "$header" "$timetable" '_WORDS$'
 held "$ordinary" "$header"
+held "$boundary" "$header"
 echo "drift: $(grep -c . "$said/$header") constants of the layout agree"
 
 # ---- declarations, by the compilers
@@ -99,7 +105,7 @@ echo "drift: $(grep -c . "$said/$header") constants of the layout agree"
 awk -v side=c -f tools/drift/sides.awk "$said/rattle" >"$said/side.c"
 awk -v side=rust -f tools/drift/sides.awk "$said/rattle" >"$said/side.rs"
 c -std=c99 -Wall -Wextra -Wpedantic -Werror -Iinclude -c "$said/side.c" -o "$said/side.o"
-if command -v c++ >/dev/null; then c++ -std=c++98 -Wall -Wextra -Werror -Iinclude -fsyntax-only -x c++ "$header"; fi
+if command -v c++ >/dev/null; then c++ -std=c++98 -Wall -Wextra -Werror -Iinclude -fsyntax-only -x c++ "$header" -x c++ include/estelunya_texts.h; fi
 planner_library
 DRIFT_SIDE=$PWD/$said/side.rs
 export DRIFT_SIDE

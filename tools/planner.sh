@@ -1,6 +1,6 @@
 #!/bin/sh
 # planner.sh [SEED COUNT [FIRST]]: makes the planner's crate and the comparison with the archive, and runs them: the crate's tests and documentation, the data desk's program
-# and its tests, README's program, the crate with cargo, the trial week, the standard's examples, the declarations (drift.sh), and COUNT generated cases of a SEED from case FIRST on.
+# and its tests, README's program, the program in C, the crate with cargo, the trial week, the standard's examples, the declarations (drift.sh), and COUNT generated cases of a SEED from case FIRST on.
 # Ends with 'planner.sh: ok'.
 set -eu
 cd "$(dirname "$0")/.."
@@ -23,8 +23,9 @@ as_cargo_user() {
 planner_library
 compare_library
 linked trial_week planner/examples/trial_week.rs
-tests='dates days handles helper largest names refusals rows runs table'
+tests='dates days handles helper largest names refusals room rows runs table'
 for test in $tests; do linked "$test" "planner/tests/$test.rs" --test; done
+program own_tests planner/src/lib.rs --test -L "$ARCHIVE" -l static=estelunya
 linked desk planner/src/bin/desk/main.rs
 linked desk_tests planner/src/bin/desk/main.rs --test
 # shellcheck disable=SC2016 # the marks of a block
@@ -38,6 +39,7 @@ if [ -z "$emulator" ]; then
     as_cargo_user
 fi
 for test in $tests; do run "$out/$test" --quiet; done
+run "$out/own_tests" --quiet
 run "$out/desk_tests" --quiet
 
 # desk_says STATUS LINE WORD..: the data desk's program begins with this line and ends with this status
@@ -55,6 +57,12 @@ sed -i '2s/%$//' "$mended/FPLAN"
 desk_says 1 'refused 4 file 5 line 2 column 59' "$mended"
 rm "$mended/UMSTEIGB"
 desk_says 2 'unread file 4' "$mended"
+
+# The program in C; what it has to write was worked out by hand from document 01.
+c -std=c99 -Wall -Wextra -Wpedantic -Werror -Iinclude include/example.c -L"$ARCHIVE" -lestelunya -o "$out/example"
+run "$out/example" >"$out/example.txt"
+diff -u include/example.txt "$out/example.txt" || die 'include/example.c does not write include/example.txt'
+echo "  include/example.c: $(head -1 "$out/example.txt")"
 
 run "$out/readme"
 run "$out/trial_week"

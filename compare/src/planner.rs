@@ -3,7 +3,7 @@
 
 use compare::boundary::{size_word, Boundary};
 use compare::reader::Combination;
-use estelunya_planner::by_number::{load, load_with, BitField, Date, Loaded, Table, Walk};
+use estelunya_planner::by_number::{load, load_with, room, BitField, Date, Loaded, Table, Walk};
 use estelunya_planner::layout::BIT_WORDS;
 use estelunya_planner::{File, Files, Language, LoadRefusal, NameType, Opened, Refusal, Timetable};
 
@@ -137,6 +137,7 @@ fn owned(files: &Files<'_>, table: &[u32], answer: [u32; 5]) {
             let words = timetable.by_number().words();
             assert_eq!(words.len(), answer[3] as usize, "the timetable's words");
             assert!(answer[0] == 20 || table.starts_with(words), "the timetable's table");
+            assert!(words.len() <= room(files), "{} words, and {} are said to be enough", words.len(), room(files));
             timetable.open(handled);
         }
     }

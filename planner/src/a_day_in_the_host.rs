@@ -2,15 +2,20 @@
 //!
 //! # Size
 //!
-//! [`Timetable::load`](crate::Timetable::load) takes what it needs from the heap. While it loads, that is hardly more than the bytes of the six files once again, and four words of four bytes (helper
-//! words) for each line of BITFELD, BAHNHOF and UMSTEIGB. Afterwards it keeps the table's own words, BAHNHOF's bytes, and eight bytes a service. No file is over 16 MiB (16,777,216
-//! bytes): a longer one is refused. The archive itself takes no heap, and little stack: the crate's tests load and walk the largest service on a thread of 64 KiB.
+//! [`Timetable::load`](crate::Timetable::load) takes what it needs from the heap, and knows beforehand how much that is: the words that are enough for files of these sizes ([`room`](crate::by_number::room); that they are is
+//! proved), which take less than the bytes of the files once again, and four words of four bytes (helper words) for each line of BITFELD, BAHNHOF and UMSTEIGB. A delivery is loaded once, never a second time with more words. Afterwards the
+//! timetable keeps the table's own words, BAHNHOF's bytes, and eight bytes a service; the rest is given back. No file is over 16 MiB (16,777,216 bytes): a longer one is refused. So a host can say its most before it reads a file
+//! ([`room_for`](crate::by_number::room_for)): 55 MB for the words of the table if all files have 16 MiB. The helper words are the larger part, since every line counts, a blank one too: three files of 16 MiB that are nothing but LF
+//! need 805,306,624 bytes, so that the most is about 860 MB, besides the files themselves. No delivery that is meant needs that (BAHNHOF's shortest line has 13 bytes), but a broken export may: a host whose memory is
+//! bounded caps the sizes of the files, or the number of lines of BITFELD, BAHNHOF and UMSTEIGB ([`helper_words`](crate::by_number::helper_words) says the words before a load), and does not load what is over. The archive itself takes no heap, and little stack: the crate's tests load and walk the largest service on a thread of 64 KiB.
 //!
 //! # Load
 //!
 //! One call for a delivery, at night, on any thread. It is accepted or refused as a whole. A refusal is an `Err` and yields no timetable, so there is nothing that could be asked by
 //! mistake; the one of the night before stands as it stood, and goes on answering for its own period. Write the refusal to the log (its text begins as the program's line does) and to the
 //! operator's data desk (docs/REFUSALS.md says how to mend it).
+//!
+//! The crate and the archive that it is linked with have to be of one version. They are compared once, before the first call; a host that was built with an archive of another version panics at its first load, and not with a wrong answer later.
 //!
 //! An accepted delivery may be empty: no services, or a period that is over. That is for the host to see, before it swaps:
 //!
@@ -68,7 +73,7 @@
 //! /// When the last run that starts on a date has ended, in minutes from the start of that date; found once, when the timetable is loaded.
 //! fn last_arrival(timetable: &Timetable, date: Date) -> Option<u32> {
 //!     timetable.open(|timetable| {
-//!         let last_runs = timetable.services().filter_map(|service| service.runs(date).ok()?.last());
+//!         let last_runs = timetable.services().filter_map(|service| service.runs(date).ok()?.next_back());
 //!         last_runs.filter_map(|run| run.calls().last()?.arrival()).max()
 //!     })
 //! }
@@ -87,6 +92,9 @@
 //! # Ok(())
 //! # }
 //! ```
+//!
+//! A run may be on its way for longer than a night (hours count up to 999): the old timetable stays until the last runs of *all* its earlier dates have ended, not of yesterday's alone. And this host keeps one old
+//! timetable: who swaps twice in a night, for a corrected delivery, keeps a list of them, or the first swap's is dropped too early.
 //!
 //! Numbers do not survive the night: an index of a service, and the number of a bit field, mean something in their own delivery only. What a host keeps over the night it keeps by what people know:
 //! service number, administration, stop numbers, dates.

@@ -5,7 +5,7 @@
 //! keep apart. A [`Timetable`](crate::Timetable) keeps it apart by itself.
 //!
 //! ```
-//! use estelunya_planner::by_number::{category_word, load, Date, Table, Walk};
+//! use estelunya_planner::by_number::{category_word, load, room, Date, Table, Walk};
 //! use estelunya_planner::{Files, Language, NameType, MOST_ROW_WORDS};
 //! use std::fs::read;
 //!
@@ -19,7 +19,7 @@
 //!     fplan: &read("../crates/ferry/data/FPLAN")?,
 //!     zugart: &read("../crates/ferry/data/ZUGART")?,
 //! };
-//! let mut words = vec![0; 4096];
+//! let mut words = vec![0; room(&files)];
 //! let loaded = load(&files, &mut words)?;
 //! words.truncate(loaded.words as usize);
 //!
@@ -75,5 +75,5 @@ pub use crate::row::category_word;
 pub use crate::runs::Run;
 pub use ask::{Date, Table, Walk};
 pub use days::BitField;
-pub use load::{helper_words, load, load_with, Loaded};
+pub use load::{helper_words, load, load_with, room, room_for, Lengths, Loaded};
 pub use names::Stop;

@@ -13,17 +13,17 @@ use crate::by_number::names::{Language, NameType};
 use crate::by_number::Table;
 use crate::date::Date;
 use crate::layout::{
-    ADMINISTRATION_AT, ARRIVAL, CALLS_AT, CALL_WORDS, CATEGORIES_AT, CATEGORY_WORDS, DAYS_AT, DAYS_WORDS, DEPARTURE,
-    EXTRAS_AT, EXTRA_WORDS, NO_ALIGHTING, NO_BOARDING, NUMBER_AT, OPENING_LINE_AT, ROW_CATEGORY_AT, ROW_WORDS,
-    SERVICE_WORDS,
+    ADMINISTRATION_AT, ARRIVAL, BIT_FIELD_NUMBER_AT, CALLS_AT, CALL_ADMINISTRATION_AT, CALL_ARRIVAL_AT,
+    CALL_DEPARTURE_AT, CALL_FLAGS_AT, CALL_NUMBER_AT, CALL_PLACE_AT, CALL_WORDS, CATEGORIES_AT, CATEGORY_CODE_AT,
+    CATEGORY_FROM_AT, CATEGORY_TO_AT, CATEGORY_WORDS, CLASS_AT, CLASS_CODE_AT, DAYS_AT, DAYS_FIELD_AT, DAYS_FROM_AT,
+    DAYS_TO_AT, DAYS_WORDS, DEPARTURE, EVERY_STOP, EXTRAS_AT, EXTRA_CODE_AT, EXTRA_FIELD_AT, EXTRA_FROM_AT,
+    EXTRA_TO_AT, EXTRA_WORDS, INTERCHANGE_FIRST_TIME_AT, INTERCHANGE_SECOND_TIME_AT, INTERCHANGE_STOP_AT, NO_ALIGHTING,
+    NO_BOARDING, NUMBER_AT, OPENING_LINE_AT, ROW_CATEGORY_AT, ROW_WORDS, SERVICE_WORDS, STOP_NUMBER_AT,
 };
 use crate::refusal::Refusal;
 use crate::row::{six_bytes, three_bytes, Row};
 use crate::runs::Runs;
 use crate::timetable::{Period, Timetable};
-
-/// In an interchange record: every stop without its own.
-const EVERY_STOP: u32 = 9_999_999;
 
 /// Items in the order of their file, from either end, with their number known.
 pub trait Listed<T>: ExactSizeIterator<Item = T> + DoubleEndedIterator {}
@@ -61,28 +61,28 @@ impl<'t> Opened<'t> {
 
     /// All stops, in BAHNHOF's order.
     pub fn stops(self) -> impl Listed<Stop<'t>> + 't {
-        self.table().stop_records().map(move |record| self.stop(record[0]))
+        self.table().stop_records().map(move |record| self.stop(record[STOP_NUMBER_AT]))
     }
 
     /// All bit fields, in BITFELD's order.
     pub fn bit_fields(self) -> impl Listed<BitField<'t>> + 't {
-        self.table().bit_field_records().map(move |record| self.bit_field(record[0]))
+        self.table().bit_field_records().map(move |record| self.bit_field(record[BIT_FIELD_NUMBER_AT]))
     }
 
     /// All categories that a service may have, in ZUGART's order.
     pub fn categories(self) -> impl Listed<ServiceCategory<'t>> + 't {
         self.table().class_records().map(|record| ServiceCategory {
             mark: PhantomData,
-            code: record[0],
-            class: record[1],
+            code: record[CLASS_CODE_AT],
+            class: record[CLASS_AT],
         })
     }
 
     /// All interchange records, in UMSTEIGB's order: the first is that of every stop without its own.
     pub fn interchanges(self) -> impl Listed<Interchange<'t>> + 't {
         self.table().interchange_records().map(move |record| Interchange {
-            stop: if record[0] == EVERY_STOP { None } else { Some(self.stop(record[0])) },
-            times: [record[1], record[2]],
+            stop: Some(record[INTERCHANGE_STOP_AT]).filter(|stop| *stop != EVERY_STOP).map(|stop| self.stop(stop)),
+            times: [record[INTERCHANGE_FIRST_TIME_AT], record[INTERCHANGE_SECOND_TIME_AT]],
         })
     }
 
@@ -206,30 +206,30 @@ impl<'t> Service<'t> {
     /// Its categories, from its *G lines.
     pub fn categories(self) -> impl Listed<Category<'t>> + 't {
         self.records(1).chunks_exact(CATEGORY_WORDS).map(move |record| Category {
-            category: self.opened.category(three_bytes(record[0])),
-            from: record[1] as usize,
-            to: record[2] as usize,
+            category: self.opened.category(three_bytes(record[CATEGORY_CODE_AT])),
+            from: record[CATEGORY_FROM_AT] as usize,
+            to: record[CATEGORY_TO_AT] as usize,
         })
     }
 
     /// Its operating days, from its *A VE lines.
     pub fn operating_days(self) -> impl Listed<OperatingDays<'t>> + 't {
         self.records(2).chunks_exact(DAYS_WORDS).map(move |record| OperatingDays {
-            field: self.opened.bit_field(record[0]),
-            from: record[1] as usize,
-            to: record[2] as usize,
+            field: self.opened.bit_field(record[DAYS_FIELD_AT]),
+            from: record[DAYS_FROM_AT] as usize,
+            to: record[DAYS_TO_AT] as usize,
         })
     }
 
     /// Its other attributes, from its *A lines that are not *A VE.
     pub fn attributes(self) -> impl Listed<Attribute<'t>> + 't {
         self.records(3).chunks_exact(EXTRA_WORDS).map(move |record| {
-            let [_, first, second] = three_bytes(record[0]);
+            let [_, first, second] = three_bytes(record[EXTRA_CODE_AT]);
             Attribute {
                 code: [first, second],
-                field: self.opened.bit_field(record[1]),
-                from: record[2] as usize,
-                to: record[3] as usize,
+                field: self.opened.bit_field(record[EXTRA_FIELD_AT]),
+                from: record[EXTRA_FROM_AT] as usize,
+                to: record[EXTRA_TO_AT] as usize,
             }
         })
     }
@@ -316,23 +316,23 @@ pub struct Attribute<'t> {
 #[must_use]
 pub struct RouteCall<'t> {
     opened: Opened<'t>,
-    /// Place of the stop, arrival, departure, flags, number, administration in two.
+    /// Its `CALL_WORDS`.
     words: &'t [u32],
 }
 
 impl<'t> RouteCall<'t> {
     /// The stop.
     pub fn stop(self) -> Stop<'t> {
-        let number = self.opened.table().stop_number(self.words[0]);
-        self.opened
-            .stop(number.unwrap_or_else(|| panic!("the archive accepted a call at stop {} of fewer", self.words[0])))
+        let place = self.words[CALL_PLACE_AT];
+        let number = self.opened.table().stop_number(place);
+        self.opened.stop(number.unwrap_or_else(|| panic!("the archive accepted a call at stop {} of fewer", place)))
     }
 
     /// The arrival of the first run in minutes, if the line states one.
     #[must_use]
     pub fn arrival(self) -> Option<u32> {
         if self.flag(ARRIVAL) {
-            Some(self.words[1])
+            Some(self.words[CALL_ARRIVAL_AT])
         } else {
             None
         }
@@ -342,7 +342,7 @@ impl<'t> RouteCall<'t> {
     #[must_use]
     pub fn departure(self) -> Option<u32> {
         if self.flag(DEPARTURE) {
-            Some(self.words[2])
+            Some(self.words[CALL_DEPARTURE_AT])
         } else {
             None
         }
@@ -363,17 +363,17 @@ impl<'t> RouteCall<'t> {
     /// The service's number that holds from this call on.
     #[must_use]
     pub fn number(self) -> u32 {
-        self.words[4]
+        self.words[CALL_NUMBER_AT]
     }
 
     /// The administration that holds from this call on.
     #[must_use]
     pub fn administration(self) -> [u8; 6] {
-        six_bytes(&self.words[5..])
+        six_bytes(&self.words[CALL_ADMINISTRATION_AT..])
     }
 
     fn flag(self, flag: u32) -> bool {
-        self.words[3] & flag == flag
+        self.words[CALL_FLAGS_AT] & flag == flag
     }
 }
 

@@ -22,16 +22,41 @@ pub const FIRST_SERVICE_AT: usize = 7;
 /// Header: how many categories have a class.
 pub const CLASSES_AT: usize = 8;
 
-/// Words of a bit field: number, then its bits.
+/// Words of a bit field.
 pub const BIT_FIELD_WORDS: usize = 13;
-/// Words of its bits, bit 0 the highest of the first.
+/// Bit field: its number.
+pub const BIT_FIELD_NUMBER_AT: usize = 0;
+/// Bit field: its bits, bit 0 the highest of the first word.
+pub const BIT_FIELD_BITS_AT: usize = 1;
+/// Words of its bits.
 pub const BIT_WORDS: usize = 12;
-/// Words of a stop: number, byte of BAHNHOF at which its name starts, length of the name.
+
+/// Words of a stop.
 pub const STOP_WORDS: usize = 3;
-/// Words of an interchange record: number of the stop, two times.
+/// Stop: its number.
+pub const STOP_NUMBER_AT: usize = 0;
+/// Stop: byte of BAHNHOF at which its name field starts.
+pub const STOP_NAME_AT: usize = 1;
+/// Stop: length of the name field without trailing blanks.
+pub const STOP_NAME_LENGTH_AT: usize = 2;
+
+/// Words of an interchange record.
 pub const INTERCHANGE_WORDS: usize = 3;
-/// Words of a category's class: its code in three bytes, its class.
+/// Interchange record: number of the stop.
+pub const INTERCHANGE_STOP_AT: usize = 0;
+/// Interchange record: time for two classes of which both are 0, 1 or 2.
+pub const INTERCHANGE_FIRST_TIME_AT: usize = 1;
+/// Interchange record: time for all other classes.
+pub const INTERCHANGE_SECOND_TIME_AT: usize = 2;
+/// Number in an interchange record: every stop without its own.
+pub const EVERY_STOP: u32 = 9_999_999;
+
+/// Words of a category with its class.
 pub const CLASS_WORDS: usize = 2;
+/// Category: its code in three bytes.
+pub const CLASS_CODE_AT: usize = 0;
+/// Category: its class.
+pub const CLASS_AT: usize = 1;
 
 /// Words of a service's head.
 pub const SERVICE_WORDS: usize = 12;
@@ -63,14 +88,49 @@ pub const KIND_Z: u32 = 0;
 /// Kind of a service: opened by *T, with a running time and a density.
 pub const KIND_T: u32 = 1;
 
-/// Words of a call: place of its stop among the stops (counted in records from 0), arrival, departure, flags, number, administration (two words).
+/// Words of a call.
 pub const CALL_WORDS: usize = 7;
-/// Words of a *G: category, from, to.
+/// Call: place of its stop among the stops, counted in records from 0.
+pub const CALL_PLACE_AT: usize = 0;
+/// Call: arrival.
+pub const CALL_ARRIVAL_AT: usize = 1;
+/// Call: departure.
+pub const CALL_DEPARTURE_AT: usize = 2;
+/// Call: flags.
+pub const CALL_FLAGS_AT: usize = 3;
+/// Call: the service's number that holds from this call on.
+pub const CALL_NUMBER_AT: usize = 4;
+/// Call: the administration that holds from this call on, two words of three bytes.
+pub const CALL_ADMINISTRATION_AT: usize = 5;
+
+/// Words of a *G.
 pub const CATEGORY_WORDS: usize = 3;
-/// Words of a *A VE: bit field, from, to.
+/// *G: category in three bytes.
+pub const CATEGORY_CODE_AT: usize = 0;
+/// *G: index of the first call.
+pub const CATEGORY_FROM_AT: usize = 1;
+/// *G: index of the last call.
+pub const CATEGORY_TO_AT: usize = 2;
+
+/// Words of a *A VE.
 pub const DAYS_WORDS: usize = 3;
-/// Words of another *A: code, bit field, from, to.
+/// *A VE: number of the bit field, 0 for daily.
+pub const DAYS_FIELD_AT: usize = 0;
+/// *A VE: index of the first call.
+pub const DAYS_FROM_AT: usize = 1;
+/// *A VE: index of the last call.
+pub const DAYS_TO_AT: usize = 2;
+
+/// Words of another *A.
 pub const EXTRA_WORDS: usize = 4;
+/// Other *A: code in two bytes.
+pub const EXTRA_CODE_AT: usize = 0;
+/// Other *A: number of the bit field, 0 for daily.
+pub const EXTRA_FIELD_AT: usize = 1;
+/// Other *A: index of the first call.
+pub const EXTRA_FROM_AT: usize = 2;
+/// Other *A: index of the last call.
+pub const EXTRA_TO_AT: usize = 3;
 
 /// Words of a row.
 pub const ROW_WORDS: usize = 10;

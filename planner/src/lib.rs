@@ -53,8 +53,10 @@
 //! How a host lives with it from night to night says [a day in the host](a_day_in_the_host); `examples/trial_week.rs` is a whole program. Who lends the words
 //! himself, or keeps numbers, asks [by bare number](by_number).
 //!
+//! Crate and archive have to be of one version of the boundary between them ([`raw::VERSION`], not the version in `Cargo.toml`). They are compared once, before the first call of the archive; if they differ, that call and every later one panics, and says so.
+//!
 //! With cargo, `build.rs` links the archive: the one in the directory that the environment variable `ESTELUNYA_LIB` names, else the one
-//! that `rt staticlib estelunya` has written. Without cargo, rustc takes it in by `-L DIRECTORY -l static=estelunya`; `tools/archive.sh` gives
+//! that `rt staticlib estelunya` has written to `target/staticlib`, or, if there is none, the one in `lib/`, where `tools/install.sh` puts it. Without cargo, rustc takes it in by `-L DIRECTORY -l static=estelunya`; `tools/archive.sh` gives
 //! these flags.
 
 #![warn(missing_docs)]
@@ -72,6 +74,7 @@ mod refusal;
 mod row;
 mod runs;
 mod timetable;
+mod version;
 
 pub use by_number::load::Files;
 pub use by_number::names::{Language, NameType};

@@ -1,6 +1,10 @@
 //! The archive's functions and their answers, as `include/estelunya.h` and `crates/estelunya/src/lib.rt` declare
 //! them. A slice is a pointer, then its length in items. `tools/drift.sh` holds the three declarations together.
 
+/// The version of the archive's functions and of a table's words that this crate was written for. The crate compares it with
+/// [`estelunya_version`] before its first call; who calls a function of this module compares it himself.
+pub const VERSION: u32 = 1;
+
 /// The answer of [`estelunya_load`].
 #[repr(C)]
 #[derive(Clone, Copy, Debug, PartialEq, Eq)]
@@ -83,6 +87,12 @@ pub struct DayCountResult {
 // The contract of all: each pointer is good for its length (reads, and writes for `table` and `helper` of the load, `rows` and `result`);
 // the words lent overlap no other argument. Nothing is asked of what the bytes, words and numbers say.
 extern "C" {
+    /// The version of the archive, which grows whenever a function of it, or a table's words, change.
+    pub fn estelunya_version() -> u32;
+
+    /// Words that are enough for the table of any delivery whose files have so many bytes: with these no load is refused by 20.
+    pub fn estelunya_room(bitfeld: usize, bahnhof: usize, umsteigb: usize, fplan: usize, zugart: usize) -> usize;
+
     /// Loads the six files into the words lent. Accepted: the first `words` of them are the table, later words stay.
     /// Refused: all words stay. The helper words needed hold 0 afterwards, later ones stay; after 1 and 51 all stay.
     pub fn estelunya_load(

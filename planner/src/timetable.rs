@@ -1,17 +1,14 @@
 //! A loaded delivery that owns all that its questions need.
 
 use std::error::Error;
-use std::path::Path;
+use std::path::{Path, PathBuf};
 use std::{fmt, fs, io};
 
 use crate::by_number::load::Files;
-use crate::by_number::{load, Table};
+use crate::by_number::{load, room, room_for, Lengths, Table};
 use crate::date::Date;
 use crate::handles::Opened;
-use crate::layout::{
-    BIT_FIELD_WORDS, CLASS_WORDS, FIRST_DAY_AT, FIRST_SERVICE_AT, HEADER_WORDS, INTERCHANGE_WORDS, SERVICE_WORDS,
-    SIZE_AT, STOP_WORDS,
-};
+use crate::layout::{FIRST_DAY_AT, FIRST_SERVICE_AT, SIZE_AT};
 use crate::refusal::{File, LoadRefusal, Offence};
 
 /// The table of one accepted delivery, with the bytes of its BAHNHOF, in which the names of its stops stand. It is never changed, and is made
@@ -29,7 +26,8 @@ pub struct Timetable {
 impl Timetable {
     /// Loads a delivery. A refused one yields no timetable; one that was loaded before is not touched.
     ///
-    /// It takes the words for the table and for the work from the heap, and copies BAHNHOF; the files are not needed afterwards.
+    /// It takes the words for the table and for the work from the heap: as many as are [enough](crate::by_number::room) for files of these lengths, so that one load
+    /// does. What the table does not use is given back. BAHNHOF is copied; the files are not needed afterwards.
     ///
     /// # Errors
     ///
@@ -38,20 +36,32 @@ impl Timetable {
     ///
     /// # Panics
     ///
-    /// If the archive answers what this crate does not know: the two are not of one version. The same holds for every question.
+    /// If the archive and this crate are not of one version ([`raw::VERSION`](crate::raw::VERSION)): they are compared once, before the first call of the archive. And if the
+    /// archive answers what this crate does not know, which would mean the same. So it is for every question.
     pub fn load(files: &Files<'_>) -> Result<Timetable, LoadRefusal> {
-        let mut words = vec![0; likely_words(files)];
+        let mut words = vec![0; room(files)];
         let loaded = match load(files, &mut words) {
-            // A guess that was too low costs a second load; the answer says how many words are needed.
-            Err(LoadRefusal { offence: Offence::TableTooShort, needed, .. }) => {
-                words = vec![0; needed as usize];
-                load(files, &mut words)?
-            }
+            Err(LoadRefusal { offence: Offence::TableTooShort, needed, .. }) => panic!(
+                "the archive says that {} words are enough, and then needs {}: it is of another version than this crate",
+                words.len(),
+                needed
+            ),
             answer => answer?,
         };
         words.truncate(loaded.words as usize);
         let services = service_places(Table::new(&words));
         Ok(Timetable { words: words.into(), bahnhof: files.bahnhof.into(), services })
+    }
+
+    /// How many words [`Timetable::load`] lends to the table of files with these lengths, as [`room_for`] says: known before a file is read. Helper words
+    /// come on top: four for each line of BITFELD, BAHNHOF and UMSTEIGB, and 64.
+    ///
+    /// # Panics
+    ///
+    /// As [`Timetable::load`] does.
+    #[must_use]
+    pub fn room_for(lengths: &Lengths) -> usize {
+        room_for(lengths)
     }
 
     /// Reads the six files of a delivery in a directory, each under its name in capitals, and loads them.
@@ -61,7 +71,8 @@ impl Timetable {
     /// The first file that cannot be read, or the refusal as of [`Timetable::load`].
     pub fn read(directory: impl AsRef<Path>) -> Result<Timetable, ReadError> {
         let read = |file: File| {
-            fs::read(directory.as_ref().join(file.name())).map_err(|error| ReadError::Unread { file, error })
+            let path = directory.as_ref().join(file.name());
+            fs::read(&path).map_err(|error| ReadError::Unread { file, path, error })
         };
         let files = Files {
             eckdaten: &read(File::Eckdaten)?,
@@ -107,9 +118,10 @@ impl Timetable {
     /// # }
     /// ```
     ///
-    /// This does not, since `ferry` is of another timetable than `daily`:
+    /// This does not, since `ferry` is of another timetable than `daily`. The compiler says `error[E0521]: borrowed data escapes outside of closure` and "`new` escapes the closure body here": where two
+    /// openings are at hand, that means that their handles met in one question.
     ///
-    /// ```compile_fail
+    /// ```compile_fail,E0521
     /// # fn main() -> Result<(), Box<dyn std::error::Error>> {
     /// # let (old, new) = (estelunya_planner::Timetable::read("../crates/ferry/data")?, estelunya_planner::Timetable::read("../crates/ferry/data")?);
     /// let days = old.open(|old| new.open(|new| {
@@ -120,9 +132,9 @@ impl Timetable {
     /// # }
     /// ```
     ///
-    /// Nor does a function of the host that is given a handle of another timetable than it asks, if it says so by one lifetime:
+    /// Nor does a function of the host that is given a handle of another timetable than it asks, if it says so by one lifetime (E0521 again):
     ///
-    /// ```compile_fail
+    /// ```compile_fail,E0521
     /// # use estelunya_planner::{Opened, Service};
     /// # fn main() -> Result<(), Box<dyn std::error::Error>> {
     /// # let (old, new) = (estelunya_planner::Timetable::read("../crates/ferry/data")?, estelunya_planner::Timetable::read("../crates/ferry/data")?);
@@ -134,7 +146,8 @@ impl Timetable {
     /// # }
     /// ```
     ///
-    /// Nor does a handle that is kept for later, when its timetable may be gone:
+    /// Nor does a handle that is kept for later, when its timetable may be gone. Given back, it is "error: lifetime may not live long enough: returning this value requires that `'1` must outlive
+    /// `'2`": give back numbers, dates or strings.
     ///
     /// ```compile_fail
     /// # fn main() -> Result<(), Box<dyn std::error::Error>> {
@@ -144,7 +157,9 @@ impl Timetable {
     /// # }
     /// ```
     ///
-    /// ```compile_fail
+    /// Put into a variable outside, it is E0521, "`timetable` escapes the closure body here":
+    ///
+    /// ```compile_fail,E0521
     /// # fn main() -> Result<(), Box<dyn std::error::Error>> {
     /// # let timetable = estelunya_planner::Timetable::read("../crates/ferry/data")?;
     /// let mut kept = None;
@@ -215,6 +230,8 @@ pub enum ReadError {
     Unread {
         /// Which.
         file: File,
+        /// Where it was looked for.
+        path: PathBuf,
         /// Why.
         error: io::Error,
     },
@@ -225,7 +242,9 @@ pub enum ReadError {
 impl fmt::Display for ReadError {
     fn fmt(&self, f: &mut fmt::Formatter<'_>) -> fmt::Result {
         match self {
-            ReadError::Unread { file, error } => write!(f, "unread file {}: {}: {}", file.number(), file, error),
+            ReadError::Unread { file, path, error } => {
+                write!(f, "unread file {}: {}: {}", file.number(), path.display(), error)
+            }
             ReadError::Refused(refusal) => refusal.fmt(f),
         }
     }
@@ -267,27 +286,6 @@ impl Period {
     pub fn dates(self) -> impl DoubleEndedIterator<Item = Date> {
         (self.first.day_number()..=self.last.day_number()).filter_map(Date::from_day_number)
     }
-}
-
-/// The bytes that a line which makes a record has at least, with its LF: up to the last bit, the first byte of a name, the second time, the
-/// supplement, "%".
-const BIT_FIELD_LINE: usize = 104;
-const STOP_LINE: usize = 14;
-const INTERCHANGE_LINE: usize = 14;
-const CATEGORY_LINE: usize = 22;
-const SERVICE_LINE: usize = 60;
-
-/// Words for the table of a delivery with files of these lengths, if each file were full of the shortest lines, of the kind that takes most
-/// words. No proof says that they are enough.
-fn likely_words(files: &Files<'_>) -> usize {
-    // The last line may have no LF.
-    let lines = |bytes: &[u8], shortest: usize| bytes.len() / shortest + 1;
-    HEADER_WORDS
-        + BIT_FIELD_WORDS * lines(files.bitfeld, BIT_FIELD_LINE)
-        + STOP_WORDS * lines(files.bahnhof, STOP_LINE)
-        + INTERCHANGE_WORDS * lines(files.umsteigb, INTERCHANGE_LINE)
-        + CLASS_WORDS * lines(files.zugart, CATEGORY_LINE)
-        + SERVICE_WORDS * lines(files.fplan, SERVICE_LINE)
 }
 
 fn service_places(table: Table<'_>) -> Box<[usize]> {

@@ -263,7 +263,9 @@ fn refused() {
     let refusal = Timetable::load(&none).unwrap_err();
     assert_eq!(refusal.offence, Offence::LineMissing);
     match Timetable::read(Path::new("no such directory")) {
-        Err(ReadError::Unread { file: File::Eckdaten, .. }) => {}
+        Err(error @ ReadError::Unread { file: File::Eckdaten, .. }) => {
+            assert!(error.to_string().starts_with("unread file 1: no such directory/ECKDATEN: "), "{}", error);
+        }
         other => panic!("{:?}", other),
     }
 }

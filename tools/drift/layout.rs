@@ -1,11 +1,13 @@
 //! The Rust side of the drift test: what `planner/src/raw.rs` declares against what a C compiler made of `include/estelunya.h`. What it says of each
 //! function and answer is written by `sides.awk` from the Rattle source; only the calls with something given stand here.
 
+use std::ffi::CStr;
 use std::mem::{size_of, MaybeUninit};
+use std::os::raw::c_char;
 use std::ptr::addr_of;
 
 use estelunya_planner::layout::{BIT_WORDS, MOST_ROW_WORDS};
-use estelunya_planner::raw;
+use estelunya_planner::{raw, Offence, Refusal};
 
 /// The size of an answer and the places of its fields.
 macro_rules! layout {
@@ -34,9 +36,22 @@ fn main() {
     assert_eq!(unsafe { drift_most_row_words }, MOST_ROW_WORDS);
     rust_types();
     nothing_given();
+    numbers_handed_on();
     handed_on();
     days_handed_on();
-    println!("drift: layouts, prototypes and calls of C and Rust agree");
+    texts();
+    println!("drift: layouts, prototypes, calls and texts of C and Rust agree");
+}
+
+/// The version, and words for files of 1 to 5 times 103 * 13 * 21 * 59 bytes: each in its own place.
+fn numbers_handed_on() {
+    // SAFETY: only numbers are given.
+    unsafe {
+        assert_eq!((drift_estelunya_version(), raw::estelunya_version()), (raw::VERSION, raw::VERSION));
+        let [a, b, c, d, e] = [1, 2, 3, 4, 5].map(|times: usize| times * 103 * 13 * 21 * 59);
+        let expected = 9 + 13 * a / 103 + 3 * b / 13 + 3 * c / 13 + 8 * d / 59 + 2 * e / 21;
+        assert_eq!((drift_estelunya_room(a, b, c, d, e), raw::estelunya_room(a, b, c, d, e)), (expected, expected));
+    }
 }
 
 /// The six files, the table and the helper words, each with its length.
@@ -136,5 +151,23 @@ fn days_handed_on() {
     unsafe {
         let count = drift_estelunya_days_count(7, a.0, a.1);
         assert_eq!((count, count.days), (raw::estelunya_days_count(7, a.0, a.1), 5));
+    }
+}
+
+/// The sentences of `estelunya_texts.h` are those of the crate, which says number and words needed besides.
+fn texts() {
+    // SAFETY: every text is a constant of the C side.
+    let text = |said: *const c_char| unsafe { CStr::from_ptr(said) }.to_str().expect("ASCII").to_string();
+    for number in (0..1000).chain([u32::MAX]) {
+        let (offence, refusal) = unsafe { (text(drift_offence_text(number)), text(drift_refusal_text(number))) };
+        let expected = Offence::from_number(number).map_or(String::new(), |offence| offence.to_string());
+        assert_eq!(offence, expected, "the text of offence {}", number);
+        match Refusal::from_number(number, 7) {
+            None => assert_eq!(refusal, "", "the text of refusal {}", number),
+            Some(expected) => {
+                let needed = if number == 29 { ": 7 words are needed" } else { "" };
+                assert_eq!(format!("refused {}: {}{}", number, refusal, needed), expected.to_string());
+            }
+        }
     }
 }

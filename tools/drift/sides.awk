@@ -1,7 +1,7 @@
 # The two sides of the drift test, from declarations as drift.sh writes them, a line each:
 #
 #   struct NAME { field: type, .. }
-#   fn name(parameter: type, ..) -> NAME
+#   fn name(parameter: type, ..) -> NAME or type
 #
 # With side=c a C file over include/estelunya.h, with side=rust a part of layout.rs over planner/src/raw.rs. Both have the places of all fields of each
 # answer, and each function as a value of its declared type; the C side hands each call on, and the Rust side makes it both ways, with nothing given.
@@ -29,6 +29,8 @@ function c_type(type, words) {
     if (words[1] == "*mut") return c[words[2]] " *"
     return c[type] " "
 }
+
+function c_answer(answer) { return answer in c ? c[answer] : "Estelunya" answer }
 
 function nothing(type) {
     if (type ~ /^\*const/) return "std::ptr::null()"
@@ -64,8 +66,9 @@ function joined(list, text) { return list == "" ? text : list ", " text }
         handed = joined(handed, names[i])
         none = joined(none, nothing(types[i]))
     }
-    c_calls = c_calls "Estelunya" answer " (*const drift_type_" name ")(" c_types ") = " name ";\n" \
-        "Estelunya" answer " drift_" name "(" c_given ") {\n    return " name "(" handed ");\n}\n"
+    if (count == 0) c_types = c_given = "void"
+    c_calls = c_calls c_answer(answer) " (*const drift_type_" name ")(" c_types ") = " name ";\n" \
+        c_answer(answer) " drift_" name "(" c_given ") {\n    return " name "(" handed ");\n}\n"
     rust_handed = rust_handed "    fn drift_" name "(" given ") -> " answer ";\n"
     rust_typed = rust_typed "    let _: unsafe extern \"C\" fn(" rust_types ") -> " answer " = raw::" name ";\n"
     rust_none = rust_none "    assert_eq!(unsafe { drift_" name "(" none ") }, unsafe { raw::" name "(" none ") }, \"" name "\");\n"
@@ -73,11 +76,14 @@ function joined(list, text) { return list == "" ? text : list ", " text }
 
 END {
     if (side == "c") {
-        printf "#include \"estelunya.h\"\n\nconst size_t drift_places[] = {%s};\nconst size_t drift_most_row_words = ESTELUNYA_MOST_ROW_WORDS;\n%s", c_places, c_calls
+        printf "#include \"estelunya.h\"\n#include \"estelunya_texts.h\"\n\n"
+        printf "const char *drift_offence_text(uint32_t number) {\n    return estelunya_offence_text(number);\n}\n"
+        printf "const char *drift_refusal_text(uint32_t number) {\n    return estelunya_refusal_text(number);\n}\n"
+        printf "const size_t drift_places[] = {%s};\nconst size_t drift_most_row_words = ESTELUNYA_MOST_ROW_WORDS;\n%s", c_places, c_calls
         exit
     }
     printf "use estelunya_planner::raw::{%s};\n\n", answers
-    printf "extern \"C\" {\n    static drift_places: [usize; %d];\n    static drift_most_row_words: usize;\n%s}\n\n", places, rust_handed
+    printf "extern \"C\" {\n    static drift_places: [usize; %d];\n    static drift_most_row_words: usize;\n    fn drift_offence_text(number: u32) -> *const c_char;\n    fn drift_refusal_text(number: u32) -> *const c_char;\n%s}\n\n", places, rust_handed
     printf "fn rust_places() -> Vec<usize> {\n    [%s].concat()\n}\n\n", rust_places
     printf "fn rust_types() {\n%s}\n\n", rust_typed
     printf "/// SAFETY: null with length 0 is nothing.\nfn nothing_given() {\n%s}\n", rust_none

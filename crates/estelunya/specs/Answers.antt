@@ -1,5 +1,6 @@
 -- "For an answer that is an enum, a definition provides this paper's number and values for each of the enum's cases."
 -- A number of 0 says that nothing was refused. Assumes nothing.
+use Prim.Native.Nat.{ℕ}
 use Rattle.timetable.specs.declared.Loaded.{Loaded}
 use Rattle.timetable.specs.declared.Loaded.the-variants.{Accepted, Refused}
 use Rattle.timetable.specs.declared.DayAnswer.{DayAnswer}
@@ -42,3 +43,8 @@ abbrev pub walkResult : Walked → WalkResult
 walkResult (Listed rows) = record { number = 0; rows = rows; needed = 0 }
 walkResult NotRunning = record { number = 0; rows = 0; needed = 0 }
 walkResult (WalkRefused number needed) = record { number = number; rows = 0; needed = needed }
+
+-- ---- the version of the boundary, which crate and archive compare
+
+abbrev pub version : ℕ
+version = 1

@@ -16,7 +16,8 @@ ghost use Rattle.timetable.specs.Questions.{dayAsked, interchangeAsked, between
 ghost use Rattle.timetable.specs.StopNames.{stopNameAsked};
 ghost use Rattle.day_sets.specs.declared.Operation.the-variants.{Union, Intersection, Difference};
 ghost use Rattle.day_sets.specs.DaySets.{combineAsked, combineWritten, complementAsked, complementWritten, countAsked};
-ghost use Rattle.estelunya.specs.Answers.{loadResult, dayResult, interchangeResult, nameResult, walkResult};
+ghost use Rattle.estelunya.specs.Answers.{version, loadResult, dayResult, interchangeResult, nameResult, walkResult};
+ghost use Rattle.room.specs.Room.{roomFor, Enough};
 ghost use Rattle.estelunya.specs.DaySets.{daySetResult, dayCountResult};
 
 // number 0: accepted, and words is the words used; else the refusal's number, file and line, words is the words needed (0 unless 20 or 51), and column is
@@ -71,6 +72,31 @@ pub struct DaySetResult {
 pub struct DayCountResult {
     pub number: u32,
     pub days: u32,
+}
+
+// The version of this boundary: it grows whenever a function here, or the table's words, changes. A caller compares it with the version that it was built for.
+pub const VERSION: u32 = 1;
+
+#[no_mangle]
+pub extern "C" fn estelunya_version() -> u32
+    ensures { λ r. ⌜ r ≡ version ⌝ }
+{
+    VERSION
+}
+
+// Words that are enough for the table of any delivery whose files have so many bytes: with these no load is refused by 20.
+#[no_mangle]
+pub extern "C" fn estelunya_room(
+    bitfeld: usize,
+    bahnhof: usize,
+    umsteigb: usize,
+    fplan: usize,
+    zugart: usize,
+) -> usize
+    ensures { λ r. ⌜ r ≡ roomFor bitfeld bahnhof umsteigb fplan zugart ⌝ }
+    ensures enough { λ r. ⌜ Enough bitfeld bahnhof umsteigb fplan zugart r ⌝ }
+{
+    room::room_for(bitfeld, bahnhof, umsteigb, fplan, zugart)
 }
 
 #[no_mangle]

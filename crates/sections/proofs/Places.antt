@@ -14,7 +14,6 @@ use Rattle.lines.specs.Lines.{linesOf}
 use Rattle.map.specs.Map.{wordValues, Mapped, Finds, Distinct, numbersIn}
 use Rattle.map.specs.declared.Found.{Found}
 use Rattle.map.specs.declared.Found.the-variants.{At, Nowhere}
-use Rattle.map.proofs.Columns.{length-column}
 use Rattle.map.proofs.Meaning.{distinct-tail, found-inside, found-number, found-room}
 use Rattle.timetable.specs.Delivery.{StopRecord}
 use Rattle.timetable.specs.Files.{held-in, stopOf, hasStop}

@@ -3,12 +3,11 @@ use mathlib.Core.Path.{_≡_, refl, sym, ap, _∙_}
 use mathlib.Core.List.{List, [], _∷_, _++_, map, append-assoc}
 use Prim.Native.Nat.{ℕ, zero, suc, _+_, _-_, _*_, _^_, _≤_, _<_}
 use native.Mathlib.Nat.{add-zero, sub-zero}
-use native.Mathlib.Numerals.{add-one}
 use native.Mathlib.Omega.{arith}
 use lib.ListN.{length, getD, take, drop, set, length-append, length-map, length-drop, length-set}
 use lib.Seq.{drop-cons, drop-drop, drop-at, getD-drop}
 use Rattle.base.specs.Lists.{gathered}
-use Rattle.base.proofs.Laws.{tests, len-trans}
+use Rattle.base.proofs.Laws.{tests}
 use Rattle.words.specs.Words.{write}
 use Rattle.words.proofs.Laws.{reads, length-write, write-none, write-write, write-one, drop-write, take-before}
 use Rattle.timetable.specs.Layout.{serviceHead, callSize}

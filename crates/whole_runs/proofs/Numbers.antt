@@ -63,10 +63,11 @@ record Sound (number column : ℕ) : Type 0 where
   pub placed : number ≡ 4 → 1 ≤ column
   pub unplaced : (number ≡ 4 → ⊥) → column ≡ 0
 
--- an offence of what stands in the files is neither 1 nor 51
+-- an offence of what stands in the files is neither 1 nor 20 nor 51
 record Inside (number column : ℕ) : Type 0 where
   pub sound : Sound number column
   pub not-1 : number ≡ 1 → ⊥
+  pub not-20 : number ≡ 20 → ⊥
   pub not-51 : number ≡ 51 → ⊥
 
 -- an offence, if there is one, is so
@@ -80,19 +81,21 @@ it number line column h o e = let z : number ≡ o .number = cc in let w : colum
 plain : (number : ℕ) → 1 ≤ number → (number ≡ 4 → ⊥) → Sound number 0
 plain number h n = record { numbered = h; placed = λ e. absurd (n e); unplaced = λ e. refl }
 
--- a number that is none of 0, 1, 4 and 51
+-- a number that is none of 0, 1, 4, 20 and 51
 abbrev other : ℕ → Bool
-other n = leb 2 n && (not (eqb n 4) && not (eqb n 51))
+other n = leb 2 n && (not (eqb n 4) && (not (eqb n 20) && not (eqb n 51)))
 
 without : (number : ℕ) → other number ≡ true → Inside number 0
 without number h =
-    let p = and-true (leb 2 number) (not (eqb number 4) && not (eqb number 51)) h in
-    let q = and-true (not (eqb number 4)) (not (eqb number 51)) (p .1) in
+    let p = and-true (leb 2 number) (not (eqb number 4) && (not (eqb number 20) && not (eqb number 51))) h in
+    let q = and-true (not (eqb number 4)) (not (eqb number 20) && not (eqb number 51)) (p .1) in
+    let r = and-true (not (eqb number 20)) (not (eqb number 51)) (q .1) in
     let l = leb-true 2 number (p .0) in
     record {
       sound = plain number (omega arith) (eqb-false number 4 (not-true (eqb number 4) (q .0)));
       not-1 = λ e. absurd (omega (arith, e));
-      not-51 = eqb-false number 51 (not-true (eqb number 51) (q .1));
+      not-20 = eqb-false number 20 (not-true (eqb number 20) (r .0));
+      not-51 = eqb-false number 51 (not-true (eqb number 51) (r .1));
     }
 
 by-given : (t : Bool) (number line : ℕ) → other number ≡ true → Numbered (given t number line)
@@ -101,7 +104,7 @@ by-given false number line h o e = apart (cc)
 
 by-form : (f : Form) (line : ℕ) → ((c : ℕ) → f ≡ Broken c → 1 ≤ c) → Numbered (formOffence f line)
 by-form Fits line h o e = apart (cc)
-by-form (Broken c) line h o e = it 4 line c (record { sound = record { numbered = omega arith; placed = λ z. h c refl; unplaced = λ z. absurd (z refl) }; not-1 = λ z. absurd (omega (arith, z)); not-51 = λ z. absurd (omega (arith, z)) }) o e
+by-form (Broken c) line h o e = it 4 line c (record { sound = record { numbered = omega arith; placed = λ z. h c refl; unplaced = λ z. absurd (z refl) }; not-1 = λ z. absurd (omega (arith, z)); not-20 = λ z. absurd (omega (arith, z)); not-51 = λ z. absurd (omega (arith, z)) }) o e
 
 either : (a b : Option Offence) → Numbered a → Numbered b → Numbered (a <|> b)
 either a b p q o e = one-of a b e (p o) (q o)
@@ -268,12 +271,19 @@ module _ {w : Where} where
       one-of _ _ e (by-length 1 (f .eckdaten)) (λ e. one-of _ _ e (by-length 2 (f .bitfeld)) (λ e. one-of _ _ e (by-length 3 (f .bahnhof))
       (λ e. one-of _ _ e (by-length 4 (f .umsteigb)) (λ e. one-of _ _ e (by-length 6 (f .zugart)) (by-length 5 (f .fplan))))))
 
+pub content-not-20 : (f : Files) {w : Where} → contentOffence f ≡ some w → w .offence .number ≡ 20 → ⊥
+content-not-20 f {w} e = content-inside {w = w} f e .not-20
+
+pub length-not-20 : (f : Files) {w : Where} → lengthOffence f ≡ some w → w .offence .number ≡ 20 → ⊥
+length-not-20 f {w} e z = let o = length-1 {w = w} f e in let n : _≡_ {A = ℕ} 1 20 = sym (ap (λ (y : Offence). y .number) o) ∙ z in absurd (omega (arith, n))
+
 -- ---- the answers
 
 -- how a load is refused: 1 for a file's length, 51, or 20 or an offence of what stands in the files
 data Refusal (f : Files) (helper : ℕ) : ℕ → ℕ → Type 0 where
   long : (w : Where) → lengthOffence f ≡ some w → Refusal f helper 1 0
   few : lengthOffence f ≡ none → ltb helper (helperNeeded f) ≡ true → Refusal f helper 51 0
+  scant : lengthOffence f ≡ none → ltb helper (helperNeeded f) ≡ false → Refusal f helper 20 0
   inside : {number column : ℕ} → lengthOffence f ≡ none → ltb helper (helperNeeded f) ≡ false → Inside number column → Refusal f helper number column
 
 module _ (f : Files) (room helper number file line column needed : ℕ) (e : loaded f room helper ≡ Refused number file line column needed) where
@@ -282,7 +292,7 @@ module _ (f : Files) (room helper number file line column needed : ℕ) (e : loa
   refusal = at-length (lengthOffence f) refl e
     where
       at-room : lengthOffence f ≡ none → ltb helper (helperNeeded f) ≡ false → (t : Bool) (n : ℕ) → cond t (Refused 20 0 0 0 n) (Accepted n) ≡ Refused number file line column needed → Refusal f helper number column
-      at-room p q true n e = let z : _≡_ {A = ℕ} 20 number = cc in let w : _≡_ {A = ℕ} 0 column = cc in subst (λ (c : ℕ). Refusal f helper number c) w (subst (λ (n : ℕ). Refusal f helper n 0) z (inside p q (without 20 refl)))
+      at-room p q true n e = let z : _≡_ {A = ℕ} 20 number = cc in let w : _≡_ {A = ℕ} 0 column = cc in subst (λ (c : ℕ). Refusal f helper number c) w (subst (λ (n : ℕ). Refusal f helper n 0) z (scant p q))
       at-room p q false n e = apart (cc)
 
       at-content : lengthOffence f ≡ none → ltb helper (helperNeeded f) ≡ false → (o : Option Where) → contentOffence f ≡ o → (n : ℕ) → refusedOr o (shortOr 20 room n (Accepted n)) ≡ Refused number file line column needed → Refusal f helper number column
@@ -310,6 +320,7 @@ module _ (f : Files) (room helper number file line column needed : ℕ) (e : loa
       go : {n c : ℕ} → Refusal f helper n c → Sound n c
       go (long w p) = plain 1 (omega arith) (λ z. absurd (omega (arith, z)))
       go (few p q) = plain 51 (omega arith) (λ z. absurd (omega (arith, z)))
+      go (scant p q) = plain 20 (omega arith) (λ z. absurd (omega (arith, z)))
       go (inside p q h) = h .sound
 
   pub load-numbered : 1 ≤ number
@@ -340,6 +351,8 @@ module _ (f : Files) (h : List ℕ) where
         go : {n c : ℕ} → Refusal f (length h) n c → (n ≡ 1) ⊎ (n ≡ 51) → helped f h ≡ h
         go (long w p) x = kept-long w p
         go (few p q) x = kept-few p q
+        go (scant p q) (inl x) = absurd (omega (arith, x))
+        go (scant p q) (inr x) = absurd (omega (arith, x))
         go (inside p q i) (inl x) = absurd (i .not-1 x)
         go (inside p q i) (inr x) = absurd (i .not-51 x)
 
@@ -349,6 +362,7 @@ module _ (f : Files) (h : List ℕ) where
         go : {n c : ℕ} → Refusal f (length h) n c → (n ≡ 1 → ⊥) → (n ≡ 51 → ⊥) → helped f h ≡ onto (replicate (helperNeeded f) 0) h
         go (long w p) x y = absurd (x refl)
         go (few p q) x y = absurd (y refl)
+        go (scant p q) x y = zeros p q
         go (inside p q i) x y = zeros p q
 
   pub helper-accepted : (room u : ℕ) → loaded f room (length h) ≡ Accepted u → helped f h ≡ onto (replicate (helperNeeded f) 0) h

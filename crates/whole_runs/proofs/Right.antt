@@ -63,7 +63,7 @@ pub record Right (d : Delivery) (s : Service) : Type 0 where
 once-at : {X : Type 0} (legs : X → Legs) (n : ℕ) (rs : List X) (k : ℕ) → eachOnce legs n rs ≡ true → k < n → covering legs rs k ≡ 1
 once-at legs n rs k e h = eqb-true (covering legs rs k) 1 (every-below (λ (k : ℕ). eqb (covering legs rs k) 1) n k e h)
 
-right : (d : Delivery) (ls : List Line) → Fair d ls → Right d (serviceOf ls)
+pub right : (d : Delivery) (ls : List Line) → Fair d ls → Right d (serviceOf ls)
 unfolding serviceOf
 right d ls h =
     let m = limits d ls h in

@@ -5,6 +5,7 @@ use std::fmt;
 use crate::raw;
 use crate::refusal::Refusal;
 use crate::row::Rows;
+use crate::version::compared;
 
 /// A date as three numbers; whether it exists is for the answer to say. One that exists is a [`Date`](crate::Date).
 #[derive(Clone, Copy, Debug, PartialEq, Eq)]
@@ -69,6 +70,7 @@ impl<'a> Table<'a> {
     ///
     /// As [`load`](crate::by_number::load) does, here and in the other questions.
     pub fn day(self, field: u32, date: Date) -> Result<bool, Refusal> {
+        compared();
         let Date { day, month, year } = date;
         // SAFETY: pointer and length are those of a slice.
         let answer = unsafe { raw::estelunya_day(self.words.as_ptr(), self.words.len(), day, month, year, field) };
@@ -81,6 +83,7 @@ impl<'a> Table<'a> {
     ///
     /// 21, 26 or 27.
     pub fn interchange(self, stop: u32, arriving: u32, departing: u32) -> Result<u32, Refusal> {
+        compared();
         // SAFETY: pointer and length are those of a slice.
         let answer =
             unsafe { raw::estelunya_interchange(self.words.as_ptr(), self.words.len(), stop, arriving, departing) };
@@ -93,6 +96,7 @@ impl<'a> Table<'a> {
     ///
     /// 21, 27 or 38.
     pub fn interchange_between(self, stop: u32, arriving: u32, departing: u32) -> Result<u32, Refusal> {
+        compared();
         let (words, used) = (self.words.as_ptr(), self.words.len());
         // SAFETY: pointer and length are those of a slice.
         let answer = unsafe { raw::estelunya_interchange_between(words, used, stop, arriving, departing) };
@@ -106,6 +110,7 @@ impl<'a> Table<'a> {
     ///
     /// 21 to 25, 29, 31, or 33 to 36; the rows stay as lent.
     pub fn walk(self, service: u32, repeat: u32, date: Date, rows: &mut [u32]) -> Result<Walk<'_>, Refusal> {
+        compared();
         let Date { day, month, year } = date;
         // SAFETY: each pointer and length is that of a slice, and the mutable slice does not overlap the other.
         let answer = unsafe {

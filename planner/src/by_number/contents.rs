@@ -6,8 +6,10 @@
 use super::ask::Table;
 use crate::handles::Listed;
 use crate::layout::{
-    BIT_FIELDS_AT, BIT_FIELD_WORDS, CLASSES_AT, CLASS_WORDS, FIRST_SERVICE_AT, HEADER_WORDS, INTERCHANGES_AT,
-    INTERCHANGE_WORDS, NUMBER_AT, PERIOD_DAYS_AT, SERVICES_AT, SERVICE_WORDS, SIZE_AT, STOPS_AT, STOP_WORDS, USED_AT,
+    BIT_FIELDS_AT, BIT_FIELD_BITS_AT, BIT_FIELD_NUMBER_AT, BIT_FIELD_WORDS, CLASSES_AT, CLASS_AT, CLASS_CODE_AT,
+    CLASS_WORDS, FIRST_SERVICE_AT, HEADER_WORDS, INTERCHANGES_AT, INTERCHANGE_WORDS, NUMBER_AT, PERIOD_DAYS_AT,
+    SERVICES_AT, SERVICE_WORDS, SIZE_AT, STOPS_AT, STOP_NAME_AT, STOP_NAME_LENGTH_AT, STOP_NUMBER_AT, STOP_WORDS,
+    USED_AT,
 };
 use crate::runs::Runs;
 
@@ -46,7 +48,7 @@ impl<'a> Table<'a> {
 
     /// The number of the stop with this index, in BAHNHOF's order; `None` if there is no such stop.
     pub fn stop_number(self, index: u32) -> Option<u32> {
-        self.stop_records().nth(index as usize).map(|record| record[0])
+        self.stop_records().nth(index as usize).map(|record| record[STOP_NUMBER_AT])
     }
 
     /// The name field of the stop with this number, as a [`Row`](crate::Row) says it: the bytes from column 13 of its line in
@@ -54,8 +56,8 @@ impl<'a> Table<'a> {
     /// [`Stop::name`](crate::by_number::Stop::name). The bytes of BAHNHOF must be those that were loaded. `None` if the stop is not in
     /// the table, or these bytes do not reach so far.
     pub fn stop_name(self, stop: u32, bahnhof: &[u8]) -> Option<&[u8]> {
-        let record = self.stop_records().find(|record| record[0] == stop)?;
-        let (start, length) = (record[1] as usize, record[2] as usize);
+        let record = self.stop_records().find(|record| record[STOP_NUMBER_AT] == stop)?;
+        let (start, length) = (record[STOP_NAME_AT] as usize, record[STOP_NAME_LENGTH_AT] as usize);
         bahnhof.get(start..)?.get(..length)
     }
 
@@ -66,12 +68,14 @@ impl<'a> Table<'a> {
 
     /// The class of a category, 0 to 13, by its [word](crate::by_number::category_word); `None` if the category is not in the table.
     pub fn class_of(self, category: u32) -> Option<u32> {
-        self.class_records().find(|record| record[0] == category).map(|record| record[1])
+        self.class_records().find(|record| record[CLASS_CODE_AT] == category).map(|record| record[CLASS_AT])
     }
 
     /// The words of the bits of the bit field with this number.
     pub(crate) fn bit_field_words(self, number: u32) -> Option<&'a [u32]> {
-        self.bit_field_records().find(|record| record[0] == number).map(|record| &record[1..])
+        self.bit_field_records()
+            .find(|record| record[BIT_FIELD_NUMBER_AT] == number)
+            .map(|record| &record[BIT_FIELD_BITS_AT..])
     }
 
     /// A word of the header.

@@ -7,6 +7,7 @@ use super::ask::{answered, Table};
 use crate::layout::BIT_WORDS;
 use crate::raw;
 use crate::refusal::Refusal;
+use crate::version::compared;
 
 /// Bits of a bit field, and those of its frame.
 const BITS: u32 = 32 * BIT_WORDS as u32;
@@ -48,6 +49,8 @@ impl<'a> Table<'a> {
     ///
     /// [`Refusal::NotAField`] unless they are twelve with the frame of its period.
     pub fn bit_field_from(self, words: &[u32]) -> Result<BitField<'a>, Refusal> {
+        // Every field comes through here, so that arithmetic need not look again.
+        compared();
         // SAFETY: pointer and length are those of a slice.
         let answer = unsafe { raw::estelunya_days_count(self.period_days(), words.as_ptr(), words.len()) };
         answered(answer.number, 0, ())?;

@@ -4,6 +4,7 @@ use std::fmt;
 
 use crate::raw;
 use crate::refusal::{File, LoadRefusal, Offence};
+use crate::version::compared;
 
 /// The six files of a delivery, each as its bytes.
 #[derive(Clone, Copy, PartialEq, Eq)]
@@ -54,14 +55,64 @@ pub struct Loaded {
 ///
 /// # Errors
 ///
-/// The first offence of the delivery, in document 01's order; [`Offence::TableTooShort`] if it is right but the words lent are too few.
+/// The first offence of the delivery, in document 01's order; [`Offence::TableTooShort`] if it is right but the words lent are too few, which
+/// [`room`] words never are.
 ///
 /// # Panics
 ///
-/// If the archive answers a number that this crate does not have: the two are not of one version.
+/// If the archive and this crate are not of one version ([`raw::VERSION`]): they are compared once, before the first call of the archive. And if the archive
+/// answers a number that this crate does not have, which would mean the same.
 pub fn load(files: &Files<'_>, table: &mut [u32]) -> Result<Loaded, LoadRefusal> {
     let mut helper = vec![0; helper_words(files)?];
     load_with(files, table, &mut helper)
+}
+
+/// How many words are enough for the table of files with these lengths: lent so many, no load is refused with [`Offence::TableTooShort`]. That is
+/// proved. No file is looked into, so most tables have fewer words: [`Loaded::words`] says how many.
+///
+/// # Panics
+///
+/// As [`load`] does.
+pub fn room(files: &Files<'_>) -> usize {
+    let [bitfeld, bahnhof, umsteigb, fplan, zugart] =
+        [files.bitfeld, files.bahnhof, files.umsteigb, files.fplan, files.zugart].map(<[u8]>::len);
+    room_for(&Lengths { bitfeld, bahnhof, umsteigb, fplan, zugart })
+}
+
+/// The lengths, in bytes, of the files that a table's size depends on: all but ECKDATEN.
+#[derive(Clone, Copy, Debug, Default, PartialEq, Eq)]
+pub struct Lengths {
+    /// Of BITFELD.
+    pub bitfeld: usize,
+    /// Of BAHNHOF.
+    pub bahnhof: usize,
+    /// Of UMSTEIGB.
+    pub umsteigb: usize,
+    /// Of FPLAN.
+    pub fplan: usize,
+    /// Of ZUGART.
+    pub zugart: usize,
+}
+
+/// As [`room`], by the lengths alone, before a file is read. A file that is too long for a load counts as the longest.
+///
+/// ```
+/// use estelunya_planner::by_number::{room_for, Lengths};
+///
+/// let longest = 16 * 1024 * 1024;
+/// let most = Lengths { bitfeld: longest, bahnhof: longest, umsteigb: longest, fplan: longest, zugart: longest };
+/// assert_eq!(room_for(&most) * 4, 54_934_228); // bytes
+/// ```
+///
+/// # Panics
+///
+/// As [`load`] does.
+#[must_use]
+pub fn room_for(lengths: &Lengths) -> usize {
+    compared();
+    let Lengths { bitfeld, bahnhof, umsteigb, fplan, zugart } = *lengths;
+    // SAFETY: only numbers are given.
+    unsafe { raw::estelunya_room(bitfeld, bahnhof, umsteigb, fplan, zugart) }
 }
 
 /// How many helper words the load of these files needs: 64, and four for each line of BITFELD, BAHNHOF and UMSTEIGB. No file is
@@ -91,6 +142,7 @@ pub fn helper_words(files: &Files<'_>) -> Result<usize, LoadRefusal> {
 ///
 /// As of [`load`], and [`Offence::HelperTooShort`].
 pub fn load_with(files: &Files<'_>, table: &mut [u32], helper: &mut [u32]) -> Result<Loaded, LoadRefusal> {
+    compared();
     let Files { eckdaten, bitfeld, bahnhof, umsteigb, fplan, zugart } = *files;
     // SAFETY: each pointer and length is that of a slice, and the two mutable slices overlap no other.
     let answer = unsafe {

@@ -5,6 +5,7 @@ use std::fmt;
 use super::ask::{answered, Table};
 use crate::raw;
 use crate::refusal::Refusal;
+use crate::version::compared;
 
 /// A language by its letter in the standard's list (5.1). Any number may be asked; one that is not in the list is refused with
 /// [`Refusal::NoSuchLanguageOrType`].
@@ -91,6 +92,7 @@ impl<'a> Stop<'a> {
     ///
     /// 21, 27, 39, 40 or 41.
     pub fn name(self, language: Language, kind: NameType) -> Result<&'a [u8], Refusal> {
+        compared();
         let (words, bahnhof) = (self.table.words(), self.bahnhof);
         // SAFETY: each pointer and length is that of a slice.
         let answer = unsafe {

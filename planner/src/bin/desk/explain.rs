@@ -49,7 +49,8 @@ pub fn screen(delivery: &Delivery, answer: &Answer) -> String {
     let mend = if hints.is_empty() {
         mend.to_string()
     } else {
-        format!("as the line before says; if that is not it: {}", mend)
+        let lines = if hints.len() == 1 { "the line before says" } else { "the lines before say" };
+        format!("as {}; if that is not it: {}", lines, mend)
     };
     out.extend(hints.into_iter().map(|hint| format!("  look: {}", hint)));
     out.push(format!("  mend: {}", mend));
@@ -295,6 +296,18 @@ fn trimmed_end(bytes: &[u8]) -> &[u8] {
 /// What the file or the line looks like, where that may be the reason.
 fn hints(delivery: &Delivery, answer: &Answer) -> Vec<String> {
     let file = delivery.file(answer.file);
+    let searched = match (answer.number, answer.file) {
+        (9, _) => BAHNHOF,
+        (10, _) => BITFELD,
+        (38, FPLAN) => ZUGART,
+        _ => 0,
+    };
+    if let Some(name) = NAMES.get((searched as usize).wrapping_sub(1)) {
+        let told = looks::searched(delivery.file(searched));
+        if !told.is_empty() {
+            return told.into_iter().map(|told| format!("{}: {}", name, told)).collect();
+        }
+    }
     let mut found: Vec<String> = looks::file(file).into_iter().collect();
     if found.is_empty() && [4, 11, 12, 39].contains(&answer.number) {
         found.extend(line(file, answer.line).map_or_else(Vec::new, |bytes| looks::line(answer.file, bytes, file)));
@@ -302,13 +315,16 @@ fn hints(delivery: &Delivery, answer: &Answer) -> Vec<String> {
     found
 }
 
-/// How to mend a field of FPLAN, whose lines have many.
+/// How to mend a field, by its rule and what is wrong with it.
 fn field_mend(delivery: &Delivery, answer: &Answer) -> Option<&'static str> {
-    if (answer.number, answer.file) != (4, FPLAN) {
+    if answer.number != 4 || ![ECKDATEN, UMSTEIGB, ZUGART, FPLAN].contains(&answer.file) {
         return None;
     }
-    let bytes = line(delivery.file(FPLAN), answer.line)?;
-    let rule = match field_at(FPLAN, bytes, answer.column) {
+    let bytes = line(delivery.file(answer.file), answer.line)?;
+    if answer.file == ZUGART && (bytes.starts_with(b"<") || bytes.starts_with(b"class")) {
+        return Some("the lines of 5.5.1 (`<text>`, `class00`) are not taken: put a \"%\" in column 1");
+    }
+    let rule = match field_at(answer.file, bytes, answer.column) {
         Some(field) => field.3,
         None => return Some("make the column blank, or move what stands there to its field"),
     };
@@ -319,7 +335,11 @@ fn field_mend(delivery: &Delivery, answer: &Answer) -> Option<&'static str> {
         Rule::Offset => {
             Some("give both repeats and offset, three digits each, or neither; with repeats the offset is at least 001")
         }
+        Rule::Begins if answer.file == ZUGART => Some("begin the code in column 1"),
         Rule::Begins => Some("begin the code in column 4"),
+        Rule::Date => Some(date_mend(bytes)),
+        Rule::Count(most) => Some(count_mend(&columns(bytes, answer.column, answer.column + 1), most)),
+        Rule::OneOf(_) => Some("write one of these; if the line is moved, set it to its columns"),
         Rule::Filled => Some("fill all six columns, with `_` for blanks"),
         Rule::FilledOrBlank => Some("fill all six columns, with `_` for blanks, or none"),
         Rule::End => Some("leave it blank, or write `#` and the call's place from 0, or a stop of seven digits"),
@@ -329,6 +349,31 @@ fn field_mend(delivery: &Delivery, answer: &Answer) -> Option<&'static str> {
         Rule::Percent => Some("put \"%\" in column 59 of the line"),
         _ => None,
     }
+}
+
+fn date_mend(bytes: &[u8]) -> &'static str {
+    let parts = digits(bytes, 1, 2).and(digits(bytes, 4, 5)).and(digits(bytes, 7, 10));
+    if parts.is_some() {
+        "write points between day, month and year"
+    } else if digits(bytes, 1, 4).is_some() {
+        "write the day first, then the month, then the year, with points between them"
+    } else {
+        "write day and month with two digits, the year with four, from column 1 on"
+    }
+}
+
+fn count_mend(field: &[u8], most: u32) -> &'static str {
+    match (form_number(field), most) {
+        (Some(value), 13) if value > most => "give the category a class from 0 to 13",
+        (Some(value), _) if value > most => "write at most 60 minutes",
+        (Some(_), _) => "set the number to the right edge of its columns",
+        (None, 13) => "write the class, 0 to 13, at the right edge of columns 5-6",
+        (None, _) => "write the minutes in digits, at the right edge of the field",
+    }
+}
+
+fn form_number(field: &[u8]) -> Option<u32> {
+    super::lines::number(trimmed(field))
 }
 
 /// Where REFUSALS.md says it.

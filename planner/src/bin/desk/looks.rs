@@ -1,7 +1,7 @@
 //! What makes a file that looks right be refused: byte order marks, UTF-16, line ends, tabs, letters of two bytes, stripped "%".
 
 use super::form::named;
-use super::lines::{column, kind, lines, passed_over, trimmed, Kind, FPLAN};
+use super::lines::{column, kind, lines, numbered, passed_over, trimmed, Kind, FPLAN};
 
 /// What the file as a whole looks like.
 pub fn file(bytes: &[u8]) -> Option<String> {
@@ -17,6 +17,23 @@ pub fn file(bytes: &[u8]) -> Option<String> {
         return None;
     };
     Some(told.to_string())
+}
+
+/// What a file looks like in which a number or code was not found.
+pub fn searched(bytes: &[u8]) -> Vec<String> {
+    if let Some(told) = file(bytes) {
+        return vec![told];
+    }
+    let mut found = Vec::new();
+    let first = |byte: u8| numbered(bytes).find(|(_, line)| line.contains(&byte)).map(|(number, _)| number);
+    if let Some(number) = first(b'\r') {
+        found
+            .push(format!("line {} has a CR inside, which ends no line: what follows it is not read as lines", number));
+    }
+    if let Some(number) = first(b'\t') {
+        found.push(format!("line {} has a tab, which is one column and no blank", number));
+    }
+    found
 }
 
 /// What a line looks like.
@@ -42,7 +59,15 @@ pub fn line(of: u32, bytes: &[u8], all: &[u8]) -> Vec<String> {
             start + 1
         ));
     }
-    if of == FPLAN && kind(bytes) != Kind::Other && column(bytes, 59) != b'%' {
+    if of == FPLAN && bytes.first() == Some(&b'*') && b"ztga".contains(&column(bytes, 2)) && column(bytes, 3) == b' ' {
+        found.push(format!(
+            "the line begins with `*{}`: capitals are meant, `*{}`",
+            char::from(bytes[1]),
+            char::from(bytes[1].to_ascii_uppercase())
+        ));
+    }
+    // A "%" that was moved by what has been found already is no cause of its own.
+    if found.is_empty() && of == FPLAN && kind(bytes) != Kind::Other && column(bytes, 59) != b'%' {
         found.extend(percent(bytes, all));
     }
     found

@@ -38,17 +38,27 @@ const ACCEPTED: i32 = 0;
 const REFUSED: i32 = 1;
 const UNREAD: i32 = 2;
 
+const USAGE: &str = "desk [--all] [DIRECTORY]: loads the delivery there, or at hand; status 0 accepted, 1 refused, 2 unread; \
+                     --all: what else of the refused file is likely to be refused; docs/REFUSALS.md says how to mend it";
+
 /// A load that takes longer says that it goes on, and says it again each time.
 const LONG_WAIT: Duration = Duration::from_secs(2);
 
 /// Further offences that `--all` shows at most.
 const MOST_FURTHER: usize = 200;
 
+/// Services that `--all` names at most as not checked as a whole.
+const MOST_NAMED: usize = 10;
+
 fn main() {
     let (mut all, mut directory) = (false, None);
     for word in env::args_os().skip(1) {
         match word.to_str() {
             Some("--all") => all = true,
+            Some("--help" | "-h") => {
+                println!("{}", USAGE);
+                exit(ACCEPTED)
+            }
             Some(option) if option.starts_with('-') => usage(),
             _ if directory.is_none() => directory = Some(word),
             _ => usage(),
@@ -61,7 +71,7 @@ fn main() {
 }
 
 fn usage() -> ! {
-    eprintln!("desk [--all] [DIRECTORY]: loads the delivery there; status 0 accepted, 1 refused, 2 unread");
+    eprintln!("{}", USAGE);
     exit(UNREAD)
 }
 
@@ -178,11 +188,36 @@ fn further(delivery: &Delivery, first: &Answer) -> String {
         file => NAMES[file as usize - 1],
     };
     let end = match shown.len() {
-        0 => format!("--all: nothing else of {} was found\n", name),
+        0 => format!("--all: nothing else of {} was found, which is no proof\n", name),
         MOST_FURTHER => {
-            format!("--all: {} more of {}, likely and not proved; there may be others\n", MOST_FURTHER, name)
+            format!(
+                "--all: {} more of {}, likely and not proved; it stops here, there may be others\n",
+                MOST_FURTHER, name
+            )
         }
         count => format!("--all: {} more of {}, likely and not proved\n", count, name),
     };
-    format!("\n{}{}", shown.concat(), end)
+    format!("\n{}{}{}", shown.concat(), end, not_checked(&state))
+}
+
+/// What `--all` could not look at.
+fn not_checked(state: &Further) -> String {
+    let mut text = String::new();
+    if state.headless {
+        text.push_str("--all: the lines before the first *Z or *T were not checked\n");
+    }
+    let named: Vec<String> = state.unchecked.iter().take(MOST_NAMED).map(u32::to_string).collect();
+    let more = match state.unchecked.len() {
+        0 => return text,
+        count if count > MOST_NAMED => format!(" and {} more", count - MOST_NAMED),
+        _ => String::new(),
+    };
+    let s = if state.unchecked.len() == 1 { "" } else { "s" };
+    text.push_str(&format!(
+        "--all: in the service{s} of line{s} {}{} not all of 14 to 19 could be checked: ask again when mended\n",
+        named.join(", "),
+        more,
+        s = s
+    ));
+    text
 }

@@ -255,7 +255,30 @@ impl Service {
             Some(range) => range,
             None => return Finding::default(),
         };
-        let spans = range.ends.map(|(first, _)| (first, first + 6));
+        let mut found = self.wrong_end(range, at);
+        found.says.push("the service's calls:".to_string());
+        let time = |time: Option<u32>| time.map_or_else(|| "-----".to_string(), clock);
+        let told = |(index, call): (usize, &Call)| {
+            format!(
+                "  #{} {:07} arrives {} departs {} (line {})",
+                index,
+                call.stop,
+                time(call.arrival),
+                time(call.departure),
+                call.line
+            )
+        };
+        found.says.extend(self.calls.iter().enumerate().map(told));
+        found
+    }
+
+    fn wrong_end(&self, range: &Range, at: u32) -> Finding {
+        // an end by its stop's number and a detail is said by both
+        let detailed = |(first, detail): (usize, usize)| {
+            digits(&range.bytes, first, first + 6).is_some() && !blank(&columns(&range.bytes, detail, detail + 5))
+        };
+        let mut spans: Vec<(usize, usize)> = range.ends.iter().map(|(first, _)| (*first, first + 6)).collect();
+        spans.extend(range.ends.iter().filter(|ends| detailed(**ends)).map(|(_, detail)| (*detail, detail + 5)));
         match (self.end(range, false), self.end(range, true)) {
             (Err((columns, why)), _) => Finding::at(at, columns, format!("from is not found: {}", why)),
             (_, Err((columns, why))) => Finding::at(at, columns, format!("to is not found: {}", why)),
@@ -265,7 +288,7 @@ impl Service {
                     "from is call #{} (line {}), to is call #{} (line {}): from must stand {} to",
                     from, self.calls[from].line, to, self.calls[to].line, rule
                 );
-                Finding { marks: vec![(at, spans.to_vec())], says: vec![says] }
+                Finding { marks: vec![(at, spans)], says: vec![says] }
             }
         }
     }

@@ -95,6 +95,7 @@ fn cases() -> Vec<(&'static str, Delivery, bool)> {
         ("4, a tariff group", with_line(ZUGART, 1, "BAT  4 I 0 BAT      0 B"), false),
         ("4, no supplement", with_line(ZUGART, 1, "BAT  4   0 BAT"), false),
         ("4, a line of 5.5.1", with_line(ZUGART, 2, "<German>"), false),
+        ("4, a date with hyphens", with_line(ECKDATEN, 2, "07-12-2025"), false),
         ("5, no such month", with_line(ECKDATEN, 2, "07.13.2025"), false),
         ("5, the end before the start", with_line(ECKDATEN, 2, "30.11.2025"), false),
         ("5, 381 days", with_line(ECKDATEN, 2, "16.12.2026"), false),
@@ -111,6 +112,7 @@ fn cases() -> Vec<(&'static str, Delivery, bool)> {
         ("10", with_line(FPLAN, 3, &format!("{:58}%", "*A VE                 000007")), false),
         ("11", with_line(FPLAN, 8, &format!("{:58}%", "*L 00001000")), false),
         ("12", with_file(FPLAN, &plan(&["*G BAT"])), false),
+        ("12, small letters", with_line(FPLAN, 1, &format!("{:58}%", "*z 00042 FERRY_")), false),
         ("13", with_plan(&gs), false),
         (
             "14",
@@ -144,6 +146,9 @@ fn cases() -> Vec<(&'static str, Delivery, bool)> {
         ("38", with_line(FPLAN, 2, &format!("{:58}%", "*G CAT")), false),
         ("38, in small letters", with_line(FPLAN, 2, &format!("{:58}%", "*G bat")), false),
         ("38, no categories", with_file(ZUGART, b"% none\n"), false),
+        ("38, CR only", with_file(ZUGART, b"CAT  4   0 CAT      0   Cat\rBAT  4   0 BAT      0\r"), false),
+        ("9, CR only", with_file(BAHNHOF, b"1000011     Quay A\r1000022     Quay B\r1000033     Quay C\r"), false),
+        ("9, a CR inside", with_file(BAHNHOF, b"1000011     Quay A\r1000022     Quay B\n1000033     Quay C\n"), false),
         ("39, no $", with_line(BAHNHOF, 2, "1000022     Quay B<d>"), false),
         ("39, cut", with_line(BAHNHOF, 2, "1000022     Louvain [B]$<f>$Leuven [B]$<n>$Louvain$<f2>Louv$<f1>"), false),
         ("a byte order mark", with_file(ECKDATEN, &[b"\xEF\xBB\xBF", week.file(ECKDATEN)].concat()), false),
@@ -164,6 +169,43 @@ fn cases() -> Vec<(&'static str, Delivery, bool)> {
         ),
         ("--all, stripped \"%\"", with_file(FPLAN, stripped.as_bytes()), true),
         ("--all, nothing else", with_line(FPLAN, 3, &format!("{:58}%", "*A VE                 000007")), true),
+        (
+            "--all, three fields of a line",
+            with_line(FPLAN, 5, &format!("{:58}%", "1000022                       00872  0081x 4")),
+            true,
+        ),
+        (
+            "--all, 15 behind 10",
+            with_file(
+                FPLAN,
+                &plan(&[
+                    "*Z 00042 FERRY_",
+                    "*G BAT",
+                    "*A VE                 000007",
+                    ROUTE[0],
+                    ROUTE[3],
+                    ROUTE[1],
+                    ROUTE[3],
+                ]),
+            ),
+            true,
+        ),
+        (
+            "--all, a time behind an unknown category",
+            with_file(
+                FPLAN,
+                &plan(&[
+                    "*Z 00042 FERRY_",
+                    "*G CAT",
+                    "*A VE                 000001",
+                    ROUTE[0],
+                    ROUTE[3],
+                    ROUTE[1],
+                    ROUTE[3],
+                ]),
+            ),
+            true,
+        ),
         ("--all, dates", with_file(ECKDATEN, b"1.12.2025\n07.13.2025\nTrial week\n"), true),
     ];
     let several = [
@@ -272,6 +314,11 @@ fn looks_right() {
     assert_eq!(refused(&cr(UMSTEIGB, "1000011  4  5\n")), Err((4, 1, 14)));
     let remark = with_file(UMSTEIGB, b"9999999  2  3 all stops\r1000011  4  5\r");
     assert_eq!(loaded(&remark).map(|words| words[5]), Ok(1));
+    let more = with_file(ZUGART, b"BAT  4   0 BAT      0 B Boat\rCAT  4   0 CAT      0\r");
+    assert_eq!(loaded(&more).map(|words| words[8]), Ok(1));
+    let remarked = [b"% made at night\n", week.file(FPLAN)].concat();
+    let remarked: Vec<u8> = remarked.iter().map(|byte| if *byte == b'\n' { b'\r' } else { *byte }).collect();
+    assert_eq!(loaded(&with_file(FPLAN, &remarked)).map(|words| words[6]), Ok(0));
     assert_eq!(refused(&cr(FPLAN, "")), Err((14, 1, 0)));
     assert_eq!(refused(&cr(ZUGART, "CAT  4   0 CAT      0 B\n")), Err((4, 1, 24)));
     assert_eq!(refused(&with_file(ZUGART, b"CAT  4   0 CAT      0\rBAT  4   0 BAT      0\r")), Err((4, 1, 22)));
@@ -336,8 +383,11 @@ fn many() {
     let bad = plan(&["*Z 00042 FERRY_", "*G BAT", "*A VE                 000009"]);
     let broken = with_file(FPLAN, &[service.repeat(50), bad].concat().repeat(20));
     let (status, text) = told(&broken, true);
-    assert_eq!((status, text.matches("likely 10 file 5").count()), (1, 19));
-    assert!(text.ends_with("--all: 19 more of FPLAN, likely and not proved\n"));
+    // each lacks its calls too
+    let counts = ["likely 10 file 5", "likely 14 file 5"].map(|told| text.matches(told).count());
+    assert_eq!((status, counts), (1, [19, 20]));
+    assert!(text.contains("--all: 39 more of FPLAN, likely and not proved\n"));
+    assert!(text.contains(" and 10 more not all of 14 to 19 could be checked"));
 }
 
 /// Whatever the bytes are, the program finds a reason for what the loader has answered.

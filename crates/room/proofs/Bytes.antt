@@ -1,0 +1,127 @@
+-- The bytes of a file's lines, and how many a line has at least whose form fits. Assumes nothing.
+use mathlib.Core.Path.{_≡_, refl, sym, ap, _∙_, subst}
+use mathlib.Core.List.{List, [], _∷_, _++_}
+use mathlib.Core.Bool.{Bool, true, false, cond, not, _&&_, _||_}
+use Prim.Native.Nat.{ℕ, zero, suc, _+_, _-_, _*_, _≤_, _<_}
+use native.Mathlib.Nat.{mul-add, mul-zero, mul-one}
+use native.Mathlib.Omega.{arith}
+use lib.ListN.{length, drop, length-append, length-drop}
+use lib.Dec.{eqb, leb}
+use Rattle.base.specs.Lists.{every}
+use Rattle.base.proofs.Laws.{clash}
+use Rattle.base.proofs.Loops.{and-true}
+use Rattle.columns.specs.Columns.{padTo, columns, isBlank, isDigit, blank, digits, count, countTo}
+use Rattle.forms.specs.Form.{Row, formOf}
+use Rattle.forms.specs.declared.Form.{Form}
+use Rattle.forms.specs.declared.Form.the-variants.{Fits, Broken}
+use Rattle.lines.specs.Lines.{startWith, pieces, noCR, Line, numbered, linesFrom, linesOf, skipped}
+use Rattle.lines.proofs.Pieces.{noCR-take}
+use Rattle.timetable.specs.Files.{Held, skip, broken, held, listed, held-in, heldBy, holding}
+
+-- ---- the lines of a file have no more bytes than the file
+
+unfoldable pub bytesOf : List Line → ℕ
+bytesOf [] = 0
+bytesOf (l ∷ ls) = length (l .text) + bytesOf ls
+
+unfoldable total : List (List ℕ) → ℕ
+total [] = 0
+total (p ∷ ps) = length p + total ps
+
+start-total : (b : ℕ) (ps : List (List ℕ)) → total (startWith b ps) ≡ suc (total ps)
+unfolding startWith total
+start-total b [] = refl
+start-total b (p ∷ ps) = omega arith
+
+pieces-total : (s : List ℕ) → total (pieces s) ≤ length s
+unfolding pieces total
+pieces-total [] = omega arith
+pieces-total (b ∷ s) = go (eqb b 10) (pieces-total s)
+  where
+    go : (t : Bool) → total (pieces s) ≤ length s → total (cond t ([] ∷ pieces s) (startWith b (pieces s))) ≤ suc (length s)
+    go true h = omega (arith, h)
+    go false h = let e = start-total b (pieces s) in omega (arith, h, e)
+
+numbered-bytes : (n at : ℕ) (ps : List (List ℕ)) → bytesOf (numbered n at ps) ≤ total ps
+unfolding numbered bytesOf total
+numbered-bytes n at [] = omega arith
+numbered-bytes n at (p ∷ ps) = let h = noCR-take p .1 in let t = numbered-bytes (n + 1) (at + length p + 1) ps in omega (arith, h, t)
+
+pub lines-bytes : (f : List ℕ) → bytesOf (linesOf f) ≤ length f
+unfolding linesFrom
+lines-bytes f = let a = numbered-bytes 1 0 (pieces f) in let b = pieces-total f in omega (arith, a, b)
+
+pub bytes-append : (a b : List Line) → bytesOf (a ++ b) ≡ bytesOf a + bytesOf b
+unfolding bytesOf
+bytes-append [] b = omega arith
+bytes-append (l ∷ a) b = let h = bytes-append a b in omega (arith, h)
+
+-- ---- fields that reach so far
+
+-- a test that a blank fails holds of no column past the end
+every-reaches : (t : ℕ → Bool) → t 32 ≡ false → (w : ℕ) (l : List ℕ) → every t (padTo w l) ≡ true → w ≤ length l
+unfolding padTo every
+every-reaches t off zero l e = omega arith
+every-reaches t off (suc w) [] e = clash (sym (rw off) ∙ e)
+every-reaches t off (suc w) (b ∷ l) e = let h = every-reaches t off w l (and-true (t b) (every t (padTo w l)) e .1) in omega (arith, h)
+
+count-reaches : (w : ℕ) (l : List ℕ) → count (padTo w l) ≡ true → w ≤ length l
+unfolding padTo count every
+count-reaches zero l e = omega arith
+count-reaches (suc w) [] e = let h = count-reaches w [] e in let z : w ≡ 0 = omega (arith, h) in clash (sym (rw z) ∙ e)
+count-reaches (suc w) (b ∷ l) e = go (isBlank b) e (count-reaches w l)
+  where
+    go : (t : Bool) → cond t (count (padTo w l)) (digits (b ∷ padTo w l)) ≡ true → (count (padTo w l) ≡ true → w ≤ length l) → suc w ≤ suc (length l)
+    go true h more = let k = more h in omega (arith, k)
+    go false h more = let k = every-reaches isDigit refl w l (and-true (isDigit b) (every isDigit (padTo w l)) h .1) in omega (arith, k)
+
+blank-past : (w : ℕ) → blank (padTo w []) ≡ true
+unfolding padTo every
+blank-past zero = refl
+blank-past (suc w) = blank-past w
+
+-- ---- a form that asks for it
+
+-- the rules of a line's form that reach so far
+pub every-long : (t : ℕ → Bool) → t 32 ≡ false → (a b : ℕ) (line : List ℕ) → 1 ≤ a → a ≤ b → every t (columns a b line) ≡ true → b ≤ length line
+unfolding columns
+every-long t off a b line h1 h2 e = let k = every-reaches t off (b - (a - 1)) (drop (a - 1) line) e in let d = length-drop (a - 1) line in omega (arith, k, d, h1, h2)
+
+pub count-long : (m a b : ℕ) (line : List ℕ) → 1 ≤ a → a ≤ b → countTo m (columns a b line) ≡ true → b ≤ length line
+unfolding columns
+count-long m a b line h1 h2 e =
+    let k = count-reaches (b - (a - 1)) (drop (a - 1) line) (and-true _ _ e .0) in
+    let d = length-drop (a - 1) line in omega (arith, k, d, h1, h2)
+
+-- not all blank: the first of the columns is there
+pub filled-long : (a b : ℕ) (line : List ℕ) → 1 ≤ a → not (blank (columns a b line)) ≡ true → a ≤ length line
+unfolding columns
+filled-long a b line h1 e = go (drop (a - 1) line) refl e
+  where
+    go : (l : List ℕ) → drop (a - 1) line ≡ l → not (blank (padTo (b - (a - 1)) l)) ≡ true → a ≤ length line
+    go [] q e = clash (sym (ap not (blank-past (b - (a - 1)))) ∙ e)
+    go (x ∷ l) q e = let d = length-drop (a - 1) line in let z : length (drop (a - 1) line) ≡ suc (length l) = ap length q in omega (arith, d, z, h1)
+
+-- ---- records of a file
+
+module _ {X : Type 0} (rows : List Row) (read : Line → X) (least : ℕ) (long : (line : List ℕ) → formOf rows line ≡ Fits → least ≤ length line) where
+  held-one : (l : Line) → least * length (listed (holding rows read l)) ≤ length (l .text)
+  held-one l = go (skipped (l .text)) (formOf rows (l .text)) refl
+    where
+      go : (t : Bool) (f : Form) → formOf rows (l .text) ≡ f → least * length (listed (cond t skip (heldBy f (read l)))) ≤ length (l .text)
+      go true f e = rw (mul-zero least) (omega arith)
+      go false Fits e = rw (mul-one least) (long (l .text) e)
+      go false (Broken c) e = rw (mul-zero least) (omega arith)
+
+  held-bytes : (ls : List Line) → least * length (held-in (holding rows read) ls) ≤ bytesOf ls
+  unfolding held-in bytesOf
+  held-bytes [] = rw (mul-zero least) (omega arith)
+  held-bytes (l ∷ ls) =
+      let a = held-one l in let b = held-bytes ls in
+      let e = length-append (listed (holding rows read l)) (held-in (holding rows read) ls) in
+      let m = mul-add least (length (listed (holding rows read l))) (length (held-in (holding rows read) ls)) in
+      rw e (omega (arith, a, b, m))
+
+  -- what a file gives
+  pub file-bytes : (f : List ℕ) → least * length (held-in (holding rows read) (linesOf f)) ≤ length f
+  file-bytes f = let a = held-bytes (linesOf f) in let b = lines-bytes f in omega (arith, a, b)

@@ -1,0 +1,4 @@
+pub mod Bytes
+pub mod Told
+pub mod Enough
+pub mod Laws

@@ -1,0 +1,138 @@
+-- A service takes at most eight words for each line of its calls and ranges, and each such line has 59 bytes at least. Assumes nothing.
+use mathlib.Core.Path.{_≡_, refl, sym, ap, _∙_, subst}
+use mathlib.Core.List.{List, [], _∷_, _++_, map}
+use mathlib.Core.Bool.{Bool, true, false, cond}
+use Prim.Native.Nat.{ℕ, zero, suc, _+_, _-_, _*_, _≤_, _<_}
+use native.Mathlib.Omega.{arith}
+use lib.ListN.{length, length-append}
+use lib.Dec.{eqb}
+use borrow.Author.Tests.{ltb-false}
+use Rattle.base.specs.Lists.{All, nil, cons, countIf, gathered}
+use Rattle.base.proofs.Laws.{apart}
+use Rattle.forms.specs.Form.{Row, formOf}
+use Rattle.forms.specs.Columns.{serviceColumns, frequencyColumns, categoryColumns, attributeColumns, callColumns}
+use Rattle.forms.specs.Kinds.{kindOf}
+use Rattle.forms.specs.declared.Form.{Form}
+use Rattle.forms.specs.declared.Form.the-variants.{Fits, Broken as BrokenForm}
+use Rattle.forms.specs.declared.Kind.{Kind}
+use Rattle.forms.specs.declared.Kind.the-variants.{Opening as OpeningKind, Frequency, Category as CategoryKind, Attribute, Schedule, Other as OtherKind}
+use Rattle.forms.proofs.Laws.{row-holds}
+use Rattle.lines.specs.Lines.{Line, linesOf, skipped}
+use Rattle.timetable.specs.Delivery.{Legs, CategoryRange, DayRange, Service, Delivery}
+use Rattle.timetable.specs.Plan.{formed, toldBy, toldIn, tolds, openingIn, frequencyIn, categoryIn, attributeIn, callIn, asCall, asRange, rangesOf, partNumber, ofPart, partLines}
+use Rattle.timetable.specs.Service.{headLines, blocks, callsOf, serviceOf}
+use Rattle.timetable.specs.Legs.{covers, covering, legCount}
+use Rattle.timetable.specs.Table.{serviceSize, serviceWords}
+use Rattle.timetable.specs.declared.Part.{Part}
+use Rattle.timetable.specs.declared.Part.the-variants.{Category, Days, Extra}
+use Rattle.timetable.specs.declared.RangeLine.{RangeLine}
+use Rattle.timetable.specs.declared.Told.{Told}
+use Rattle.timetable.specs.declared.Told.the-variants.{Skip, Other, Broken, Opens, Ranges, Calls}
+use Rattle.timetable.proofs.Calls.{calls-count}
+use Rattle.timetable.proofs.Records.{service-length}
+use Rattle.whole_runs.proofs.Clear.{Fair}
+use Rattle.whole_runs.proofs.Lines.{NoneDropped, nothing-dropped}
+use Rattle.whole_runs.proofs.Right.{Right, right}
+use Rattle.whole_runs.proofs.Text.{blocks-whole}
+use Rattle.room.specs.Room.{planBytes, planLineSize}
+use Rattle.room.proofs.Bytes.{bytesOf, bytes-append, every-long}
+
+-- ---- a line
+
+-- how many calls and ranges it says
+abbrev said : Told → ℕ
+said t = length (asCall t) + length (asRange t)
+
+marked : (rows : List Row) (text : List ℕ) → (formOf rows text ≡ Fits → planBytes ≤ length text) → (t : Told) → said t ≤ 1 → planBytes * said (formed (formOf rows text) t) ≤ length text
+marked rows text long t one = go (formOf rows text) refl
+  where
+    go : (f : Form) → formOf rows text ≡ f → planBytes * said (formed f t) ≤ length text
+    go Fits e = let h = long e in omega (arith, h, one)
+    go (BrokenForm c) e = omega arith
+
+told-bytes : (text : List ℕ) → planBytes * said (toldIn text) ≤ length text
+unfolding toldIn
+told-bytes text = go (skipped text) (kindOf text)
+  where
+    go : (t : Bool) (k : Kind) → planBytes * said (cond t Skip (toldBy k text)) ≤ length text
+    go true k = omega arith
+    go false OpeningKind = marked serviceColumns text (λ e. every-long (λ (b : ℕ). eqb b 37) refl 59 59 text (omega arith) (omega arith) (row-holds serviceColumns text 5 e)) (Opens (openingIn text)) (omega arith)
+    go false Frequency = marked frequencyColumns text (λ e. every-long (λ (b : ℕ). eqb b 37) refl 59 59 text (omega arith) (omega arith) (row-holds frequencyColumns text 5 e)) (Opens (frequencyIn text)) (omega arith)
+    go false CategoryKind = marked categoryColumns text (λ e. every-long (λ (b : ℕ). eqb b 37) refl 59 59 text (omega arith) (omega arith) (row-holds categoryColumns text 6 e)) (Ranges (categoryIn text)) (omega arith)
+    go false Attribute = marked attributeColumns text (λ e. every-long (λ (b : ℕ). eqb b 37) refl 59 59 text (omega arith) (omega arith) (row-holds attributeColumns text 7 e)) (Ranges (attributeIn text)) (omega arith)
+    go false Schedule = marked callColumns text (λ e. every-long (λ (b : ℕ). eqb b 37) refl 59 59 text (omega arith) (omega arith) (row-holds callColumns text 7 e)) (Calls (callIn text)) (omega arith)
+    go false OtherKind = omega arith
+
+-- ---- the lines of a service
+
+lines-said : (ls : List Line) → planBytes * (length (gathered asCall (tolds ls)) + length (rangesOf ls)) ≤ bytesOf ls
+unfolding tolds gathered bytesOf
+lines-said [] = omega arith
+lines-said (l ∷ ls) =
+    let t = toldIn (l .text) in
+    let a = told-bytes (l .text) in let b = lines-said ls in
+    let c = length-append (asCall t) (gathered asCall (tolds ls)) in let r = length-append (asRange t) (rangesOf ls) in
+    omega (arith, a, b, c, r)
+
+-- a range is of one part
+one-part : (r : RangeLine) → length (ofPart Category r) + length (ofPart Days r) + length (ofPart Extra r) ≡ 1
+one-part r = go (r .part)
+  where
+    go : (p : Part) → length (cond (eqb (partNumber p) 0) (r ∷ []) []) + length (cond (eqb (partNumber p) 1) (r ∷ []) []) + length (cond (eqb (partNumber p) 2) (r ∷ []) []) ≡ 1
+    go Category = refl
+    go Days = refl
+    go Extra = refl
+
+parts-sum : (rs : List RangeLine) → length (gathered (ofPart Category) rs) + length (gathered (ofPart Days) rs) + length (gathered (ofPart Extra) rs) ≡ length rs
+unfolding gathered
+parts-sum [] = refl
+parts-sum (r ∷ rs) =
+    let h = parts-sum rs in let o = one-part r in
+    let a = length-append (ofPart Category r) (gathered (ofPart Category) rs) in
+    let b = length-append (ofPart Days r) (gathered (ofPart Days) rs) in
+    let c = length-append (ofPart Extra r) (gathered (ofPart Extra) rs) in
+    omega (arith, h, o, a, b, c)
+
+-- some range covers the first leg, so there is one
+one-there : {X : Type 0} (legs : X → Legs) (rs : List X) → covering legs rs 0 ≡ 1 → 1 ≤ length rs
+unfolding countIf
+one-there legs [] e = apart e
+one-there legs (r ∷ rs) e = omega arith
+
+calls-same : (ls : List Line) → length (serviceOf ls .calls) ≡ length (callsOf ls)
+unfolding serviceOf
+calls-same ls = refl
+
+-- the words of a service
+service-words : (d : Delivery) (ls : List Line) → Fair d ls → planBytes * length (serviceWords (serviceOf ls)) ≤ planLineSize * bytesOf ls
+service-words d ls h =
+    let r = right d ls h in
+    let n = nothing-dropped d ls h in
+    let z = service-length (serviceOf ls) in
+    let two = r .two in
+    let g = one-there (λ (x : CategoryRange). x .legs) (serviceOf ls .categories) (r .categories 0 (omega (arith, two))) in
+    let v = one-there (λ (x : DayRange). x .legs) (serviceOf ls .days) (r .days 0 (omega (arith, two))) in
+    let c = calls-same ls ∙ calls-count ls in
+    let p = parts-sum (rangesOf ls) in
+    let b = lines-said ls in
+    omega (arith, z, two, g, v, c, p, b, n .categories, n .days, n .extras)
+
+-- ---- all services
+
+blocks-bytes : (ls : List Line) → bytesOf (gathered (λ (b : List Line). b) (blocks ls)) ≤ bytesOf ls
+blocks-bytes ls =
+    let e = ap bytesOf (blocks-whole ls) in
+    let a = bytes-append (headLines ls) (gathered (λ (b : List Line). b) (blocks ls)) in
+    omega (arith, e, a)
+
+services-words : (d : Delivery) {bs : List (List Line)} → All (Fair d) bs → planBytes * length (gathered serviceWords (map serviceOf bs)) ≤ planLineSize * bytesOf (gathered (λ (b : List Line). b) bs)
+unfolding gathered
+services-words d nil = omega arith
+services-words d (cons {x = b} {xs = bs} h t) =
+    let x = service-words d b h in let y = services-words d t in
+    let a = length-append (serviceWords (serviceOf b)) (gathered serviceWords (map serviceOf bs)) in
+    let e = bytes-append b (gathered (λ (b : List Line). b) bs) in
+    omega (arith, x, y, a, e)
+
+pub plan-words : (d : Delivery) (ls : List Line) → All (Fair d) (blocks ls) → planBytes * length (gathered serviceWords (map serviceOf (blocks ls))) ≤ planLineSize * bytesOf ls
+plan-words d ls h = let a = services-words d h in let b = blocks-bytes ls in omega (arith, a, b)
