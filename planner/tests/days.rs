@@ -1,19 +1,14 @@
 //! Operating days as sets, on the trial week's table.
 
+mod trial_week;
+
 use estelunya_planner::by_number::{load, Table};
-use estelunya_planner::{Files, Refusal};
+use estelunya_planner::Refusal;
+use trial_week::TRIAL_WEEK;
 
 fn trial_week() -> Vec<u32> {
-    let files = Files {
-        eckdaten: include_bytes!("../../crates/ferry/data/ECKDATEN"),
-        bitfeld: include_bytes!("../../crates/ferry/data/BITFELD"),
-        bahnhof: include_bytes!("../../crates/ferry/data/BAHNHOF"),
-        umsteigb: include_bytes!("../../crates/ferry/data/UMSTEIGB"),
-        fplan: include_bytes!("../../crates/ferry/data/FPLAN"),
-        zugart: include_bytes!("../../crates/ferry/data/ZUGART"),
-    };
     let mut words = vec![7; 100];
-    load(&files, &mut words).unwrap();
+    load(&TRIAL_WEEK, &mut words).unwrap();
     words
 }
 

@@ -1,18 +1,11 @@
 //! Helper words (document 02, No. 13): how many a load needs, and what it leaves in them.
 
+mod trial_week;
+
 use estelunya_planner::by_number::{helper_words, load, load_with, Loaded};
 use estelunya_planner::layout::{HELPER_HEAD_WORDS, HELPER_LINE_WORDS};
 use estelunya_planner::{File, Files, Offence};
-
-/// The trial week: one bit field, three stops, one record.
-const TRIAL_WEEK: Files<'static> = Files {
-    eckdaten: include_bytes!("../../crates/ferry/data/ECKDATEN"),
-    bitfeld: include_bytes!("../../crates/ferry/data/BITFELD"),
-    bahnhof: include_bytes!("../../crates/ferry/data/BAHNHOF"),
-    umsteigb: include_bytes!("../../crates/ferry/data/UMSTEIGB"),
-    fplan: include_bytes!("../../crates/ferry/data/FPLAN"),
-    zugart: include_bytes!("../../crates/ferry/data/ZUGART"),
-};
+use trial_week::TRIAL_WEEK;
 
 const NEEDED: usize = HELPER_HEAD_WORDS + 5 * HELPER_LINE_WORDS;
 

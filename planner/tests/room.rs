@@ -1,22 +1,16 @@
 //! Room known beforehand: so many words are enough for files of so many bytes, and one load does.
 
+mod trial_week;
+
 use estelunya_planner::by_number::{load, room, Lengths, Table};
 use estelunya_planner::layout::{
     BIT_FIELD_WORDS, CALL_WORDS, CATEGORY_WORDS, CLASS_WORDS, DAYS_WORDS, EXTRA_WORDS, HEADER_WORDS, INTERCHANGE_WORDS,
     SERVICE_WORDS, STOP_WORDS,
 };
 use estelunya_planner::{raw, Files, Timetable};
+use trial_week::TRIAL_WEEK;
 
 const MOST_BYTES: usize = 16_777_216;
-
-const TRIAL_WEEK: Files<'static> = Files {
-    eckdaten: include_bytes!("../../crates/ferry/data/ECKDATEN"),
-    bitfeld: include_bytes!("../../crates/ferry/data/BITFELD"),
-    bahnhof: include_bytes!("../../crates/ferry/data/BAHNHOF"),
-    umsteigb: include_bytes!("../../crates/ferry/data/UMSTEIGB"),
-    fplan: include_bytes!("../../crates/ferry/data/FPLAN"),
-    zugart: include_bytes!("../../crates/ferry/data/ZUGART"),
-};
 
 /// A right delivery with as little as there can be: one interchange record.
 const LEAST: Files<'static> = Files {

@@ -1,22 +1,17 @@
 //! The trial week's table: what it answers and lists; and what any words list.
 
+mod trial_week;
+
 use estelunya_planner::by_number::{category_word, load, Date, Table, Walk};
 use estelunya_planner::layout::HEADER_WORDS;
 use estelunya_planner::{Files, Refusal, MOST_ROW_WORDS};
+use trial_week::TRIAL_WEEK;
 
 const BAHNHOF: &[u8] = include_bytes!("../../crates/ferry/data/BAHNHOF");
 
 fn trial_week() -> Vec<u32> {
-    let files = Files {
-        eckdaten: include_bytes!("../../crates/ferry/data/ECKDATEN"),
-        bitfeld: include_bytes!("../../crates/ferry/data/BITFELD"),
-        bahnhof: BAHNHOF,
-        umsteigb: include_bytes!("../../crates/ferry/data/UMSTEIGB"),
-        fplan: include_bytes!("../../crates/ferry/data/FPLAN"),
-        zugart: include_bytes!("../../crates/ferry/data/ZUGART"),
-    };
     let mut words = vec![7; 100];
-    assert_eq!(load(&files, &mut words).unwrap().words, 82);
+    assert_eq!(load(&TRIAL_WEEK, &mut words).unwrap().words, 82);
     words
 }
 
