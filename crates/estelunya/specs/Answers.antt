@@ -44,7 +44,7 @@ walkResult (Listed rows) = record { number = 0; rows = rows; needed = 0 }
 walkResult NotRunning = record { number = 0; rows = 0; needed = 0 }
 walkResult (WalkRefused number needed) = record { number = number; rows = 0; needed = needed }
 
--- ---- the version of the boundary, which crate and archive compare
+-- ---- the version of the boundary, which crate and archive compare (docs/DECISIONS 109; 01 and 02 know none)
 
 abbrev pub version : ℕ
 version = 1

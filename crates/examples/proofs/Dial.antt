@@ -38,7 +38,7 @@ pub accepted : loaded dial 4096 4096 ≡ Accepted 82
 unfolding computing
 accepted = refl
 
-period-is : (delivered dial .period .start ≡ 45990) × (delivered dial .period .days ≡ 7)
+period-is : (delivered dial .period .start ≡ 45990) × (delivered dial .period .n ≡ 7)
 unfolding computing
 period-is = (refl, refl)
 

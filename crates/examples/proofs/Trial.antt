@@ -120,7 +120,7 @@ ferry-runs : hasRun (ferry .opening) 0 ≡ true
 unfolding computing ferry
 ferry-runs = refl
 
-period-is : (delivered trial .period .start ≡ 45990) × (delivered trial .period .days ≡ 7)
+period-is : (delivered trial .period .start ≡ 45990) × (delivered trial .period .n ≡ 7)
 unfolding computing
 period-is = (refl, refl)
 

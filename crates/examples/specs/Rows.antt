@@ -74,7 +74,7 @@ abbrev pub rows : List Row
 rows =
     -- "P 30.09.1996 is day 35,336; to 01.06.1997 is 245 days."
     row (dayOf 30 9 1996) (Day 35336)
-    ∷ row (periodIn (linesOf (period "30.09.1996" "01.06.1997"))) (record { start = 35336; days = 245 })
+    ∷ row (periodIn (linesOf (period "30.09.1996" "01.06.1997"))) (record { start = 35336; n = 245 })
     -- "P 29.02.2000 exists, 29.02.1900 does not."
     ∷ row (dayOf 29 2 2000) (Day 36583)
     ∷ row (dayOf 29 2 1900) NoSuchDate

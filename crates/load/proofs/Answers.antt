@@ -140,10 +140,10 @@ module _ (e b s u p z : List ℕ) (d : Delivered)
         go (some w) v = apart (cc)
 
     pub none-stray : headFirst (linesOf p) ≡ none
-    none-stray = head-none (bitFieldsIn b) (stopsIn s) (classesIn z) (periodIn (linesOf e) .days) (linesOf p) (plan-none e b s u p z (clean .0))
+    none-stray = head-none (bitFieldsIn b) (stopsIn s) (classesIn z) (periodIn (linesOf e) .n) (linesOf p) (plan-none e b s u p z (clean .0))
 
     pub none-over : withinLimits (blocks (linesOf p)) ≡ true
-    none-over = plan-within (bitFieldsIn b) (stopsIn s) (classesIn z) (periodIn (linesOf e) .days) (linesOf p) (plan-none e b s u p z (clean .0))
+    none-over = plan-within (bitFieldsIn b) (stopsIn s) (classesIn z) (periodIn (linesOf e) .n) (linesOf p) (plan-none e b s u p z (clean .0))
 
     words-known : g .words ≡ headerSize + length (bodyWords b s u z p)
     words-known = ap (λ (x : Header). x .words) (sym (clean .1)) ∙ words-needed e b s u p z

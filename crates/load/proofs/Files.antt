@@ -68,9 +68,9 @@ module _ (e b s u p z : List ℕ) where
   -- the first offence of files 1 to 4, 6 and 5
   abbrev inFiles : Option Where
   inFiles =
-      inFile 1 (periodFirst (linesOf e)) <|> inFile 2 (bitFieldsFirst (periodIn (linesOf e) .days) (linesOf b)) <|> inFile 3 (stopsFirst (linesOf s))
+      inFile 1 (periodFirst (linesOf e)) <|> inFile 2 (bitFieldsFirst (periodIn (linesOf e) .n) (linesOf b)) <|> inFile 3 (stopsFirst (linesOf s))
       <|> inFile 4 (interchangesFirst (stopsIn s) (linesOf u)) <|> inFile 6 (classesFirst (linesOf z))
-      <|> inFile 5 (planFirst (bitFieldsIn b) (stopsIn s) (classesIn z) (periodIn (linesOf e) .days) (linesOf p))
+      <|> inFile 5 (planFirst (bitFieldsIn b) (stopsIn s) (classesIn z) (periodIn (linesOf e) .n) (linesOf p))
 
   length-is : lengthOffence (filesOf e b s u p z) ≡ longAt long
   unfolding lengthOffence
@@ -120,10 +120,10 @@ module _ (e b s u p z : List ℕ) where
       pub short-plan : length p ≤ mostFileBytes
       short-plan = all-short .fplan
 
-  pub plan-none : contentOffence (filesOf e b s u p z) ≡ none → planFirst (bitFieldsIn b) (stopsIn s) (classesIn z) (periodIn (linesOf e) .days) (linesOf p) ≡ none
+  pub plan-none : contentOffence (filesOf e b s u p z) ≡ none → planFirst (bitFieldsIn b) (stopsIn s) (classesIn z) (periodIn (linesOf e) .n) (linesOf p) ≡ none
   plan-none v =
       let a₁ = then-none (inFile 1 (periodFirst (linesOf e))) _ (sym content-is ∙ v) in
-      let a₂ = then-none (inFile 2 (bitFieldsFirst (periodIn (linesOf e) .days) (linesOf b))) _ (a₁ .1) in
+      let a₂ = then-none (inFile 2 (bitFieldsFirst (periodIn (linesOf e) .n) (linesOf b))) _ (a₁ .1) in
       let a₃ = then-none (inFile 3 (stopsFirst (linesOf s))) _ (a₂ .1) in
       let a₄ = then-none (inFile 4 (interchangesFirst (stopsIn s) (linesOf u))) _ (a₃ .1) in
       let a₆ = then-none (inFile 6 (classesFirst (linesOf z))) _ (a₄ .1) in
@@ -187,7 +187,7 @@ refusal file y v = v ∙ ap (refusedIn file) y
 
 -- ECKDATEN, BITFELD, BAHNHOF, UMSTEIGB, ZUGART, FPLAN
 abbrev Period : List ℕ → Checked → Type 0
-Period e x = Says (periodFirst (linesOf e)) (periodIn (linesOf e) .start) (periodIn (linesOf e) .days) x
+Period e x = Says (periodFirst (linesOf e)) (periodIn (linesOf e) .start) (periodIn (linesOf e) .n) x
 
 abbrev Fields : List ℕ → ℕ → ℕ → Checked → Type 0
 Fields b days m x = Says (bitFieldsFirst days (linesOf b)) (length (bitFieldsIn b)) m x
@@ -218,7 +218,7 @@ pub ruleset refusals = (tests, refused-is, refused-never)
 -- ---- bounds of what was counted, for the calls
 
 module _ (x : Checked) (c k : ℕ) (y : x ≡ Both c k) where
-  pub days-few : (e : List ℕ) → x ≡ checkedBy (periodFirst (linesOf e)) (periodIn (linesOf e) .start) (periodIn (linesOf e) .days) → k ≤ mostPeriodDays
+  pub days-few : (e : List ℕ) → x ≡ checkedBy (periodFirst (linesOf e)) (periodIn (linesOf e) .start) (periodIn (linesOf e) .n) → k ≤ mostPeriodDays
   days-few e d = let q : Period e x = record { is = d } in omega (arith, period-short (linesOf e), counted-too q y)
 
   pub fields-few : (b : List ℕ) (days m : ℕ) → x ≡ checkedBy (bitFieldsFirst days (linesOf b)) (length (bitFieldsIn b)) m → length b ≤ mostFileBytes → c ≤ mostFileBytes
@@ -239,13 +239,13 @@ module _ (x : Checked) (c k : ℕ) (y : x ≡ Both c k) where
 -- ---- the files, one after the other
 
 module _ (e b s u p z : List ℕ)
-    (x₁ : Checked) (e₁ : x₁ ≡ checkedBy (periodFirst (linesOf e)) (periodIn (linesOf e) .start) (periodIn (linesOf e) .days)) where
+    (x₁ : Checked) (e₁ : x₁ ≡ checkedBy (periodFirst (linesOf e)) (periodIn (linesOf e) .start) (periodIn (linesOf e) .n)) where
   abbrev header : Header
   header = headerOf (delivered (filesOf e b s u p z))
 
   -- the days of the period
   abbrev own : ℕ
-  own = periodIn (linesOf e) .days
+  own = periodIn (linesOf e) .n
 
   -- the offences of the files
   abbrev o₁ : Option Offence

@@ -23,7 +23,7 @@ use Rattle.load.specs.Delivered.{headerBy, headerOf}
 -- ---- the words of a delivery
 
 same-header : (w w′ start days b s u v v′ first k : ℕ) → w ≡ w′ → v ≡ v′
-    → _≡_ {A = Header} (record { words = w; start = start; days = days; fields = b; stops = s; interchanges = u; services = v; first = first; classes = k }) (record { words = w′; start = start; days = days; fields = b; stops = s; interchanges = u; services = v′; first = first; classes = k })
+    → _≡_ {A = Header} (record { words = w; start = start; n = days; fields = b; stops = s; interchanges = u; services = v; first = first; classes = k }) (record { words = w′; start = start; n = days; fields = b; stops = s; interchanges = u; services = v′; first = first; classes = k })
 same-header w w′ start days b s u v v′ first k e d = rw (e, d) refl
 
 module _ (e b s u p z : List ℕ) where
@@ -55,7 +55,7 @@ module _ (e b s u p z : List ℕ) where
         length-append (sectionWords Interchanges (linesOf u)) (sectionWords Classes (linesOf z)),
       )
 
-  pub header-is : headerOf whole ≡ headerBy (periodIn (linesOf e) .start) (periodIn (linesOf e) .days) (length (bitFieldsIn b)) (length (stopsIn s)) (length (interchangesIn u)) (length (classesIn z)) (length (blocks (linesOf p))) (length plan)
+  pub header-is : headerOf whole ≡ headerBy (periodIn (linesOf e) .start) (periodIn (linesOf e) .n) (length (bitFieldsIn b)) (length (stopsIn s)) (length (interchangesIn u)) (length (classesIn z)) (length (blocks (linesOf p))) (length plan)
   unfolding delivered
   header-is = same-header _ _ _ _ _ _ _ _ _ _ _ (ap (λ (ws : List ℕ). headerSize + length ws) sections-are ∙ body-length) (length-map (blocks (linesOf p)) serviceOf)
 

@@ -29,7 +29,7 @@ abbrev pub headerBy : ℕ → ℕ → ℕ → ℕ → ℕ → ℕ → ℕ → �
 headerBy start days b s u k v w = record {
   words = firstService b s u k + w;
   start = start;
-  days = days;
+  n = days;
   fields = b;
   stops = s;
   interchanges = u;
@@ -43,7 +43,7 @@ abbrev pub headerOf : Delivery → Header
 headerOf d = record {
   words = headerSize + length (sections d);
   start = d .period .start;
-  days = d .period .days;
+  n = d .period .n;
   fields = length (d .fields);
   stops = length (d .stops);
   interchanges = length (d .interchanges);

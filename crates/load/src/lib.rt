@@ -396,7 +396,7 @@ fn header_of(
     Header {
         words: first + words,
         start,
-        days,
+        n: days,
         fields,
         stops,
         interchanges,

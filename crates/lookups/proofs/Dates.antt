@@ -22,18 +22,18 @@ use Rattle.lookups.specs.declared.PeriodDay.the-variants.{On, Refused}
 
 -- ---- a date in a period of n days from start on
 
-pub no-date : (start n : ℕ) (date : Date) → date ≡ NoSuchDate → Refused 22 ≡ periodDay (datedBy (record { start = start; days = n }) date)
+pub no-date : (start n : ℕ) (date : Date) → date ≡ NoSuchDate → Refused 22 ≡ periodDay (datedBy (record { start = start; n = n }) date)
 no-date start n date e = rw e
 
 module _ (start n k : ℕ) (date : Date) (e : date ≡ Day k) where
-  pub too-early : k < start → Refused 23 ≡ periodDay (datedBy (record { start = start; days = n }) date)
+  pub too-early : k < start → Refused 23 ≡ periodDay (datedBy (record { start = start; n = n }) date)
   too-early h = rw (e, lt-leb start k h)
 
   module _ (h : start ≤ k) where
-    pub too-late : n ≤ k - start → Refused 23 ≡ periodDay (datedBy (record { start = start; days = n }) date)
+    pub too-late : n ≤ k - start → Refused 23 ≡ periodDay (datedBy (record { start = start; n = n }) date)
     too-late l = rw (e, le-leb start k h, le-ltb k (start + n) (omega arith))
 
-    pub in-period : k - start < n → On (k - start) ≡ periodDay (datedBy (record { start = start; days = n }) date)
+    pub in-period : k - start < n → On (k - start) ≡ periodDay (datedBy (record { start = start; n = n }) date)
     in-period l = rw (e, le-leb start k h, lt-ltb k (start + n) (omega arith))
 
 -- ---- x says whether the words are a table
@@ -44,7 +44,7 @@ module _ (w : List ℕ) (day month year : ℕ) (x : Bool) (e : x ≡ isTable w) 
   dated-no-table n = rw (sym e ∙ not-true x n)
 
   module _ (n : not x ≡ false) where
-    pub dated-is : (date : Date) → date ≡ dayOf day month year → (r : PeriodDay) → r ≡ periodDay (datedBy (record { start = getD w 1 0; days = getD w 2 0 }) date) → r ≡ datedAsked w day month year
+    pub dated-is : (date : Date) → date ≡ dayOf day month year → (r : PeriodDay) → r ≡ periodDay (datedBy (record { start = getD w 1 0; n = getD w 2 0 }) date) → r ≡ datedAsked w day month year
     unfolding datedAsked tableOf
     dated-is date d r f = f ∙ rw (sym e ∙ not-false x n, d)
 
@@ -82,7 +82,7 @@ abbrev Kept : Bool → ℕ → PeriodDay → Type 0
 Kept t n (Refused number) = Unit {0}
 Kept t n (On k) = (t ≡ true) × (k < n)
 
-kept : (t : Bool) (start n : ℕ) (date : Date) → Kept t n (cond t (periodDay (datedBy (record { start = start; days = n }) date)) (Refused 21))
+kept : (t : Bool) (start n : ℕ) (date : Date) → Kept t n (cond t (periodDay (datedBy (record { start = start; n = n }) date)) (Refused 21))
 kept false start n date = tt
 kept true start n NoSuchDate = tt
 kept true start n (Day k) = go (leb start k) (ltb k (start + n)) refl refl

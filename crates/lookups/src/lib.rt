@@ -75,7 +75,7 @@ pub fn dated(w: &[u32], day: u32, month: u32, year: u32) -> PeriodDay
 
 // The day of a period of n days from start on that a date is.
 fn in_period(start: u32, n: u32, date: Date) -> PeriodDay
-    ensures { λ r. ⌜ r ≡ periodDay (datedBy (record { start = start; days = n }) date) ⌝ }
+    ensures { λ r. ⌜ r ≡ periodDay (datedBy (record { start = start; n = n }) date) ⌝ }
 {
     let Date::Day(k) = date else {
         return PeriodDay::Refused(22);

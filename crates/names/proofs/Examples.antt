@@ -8,7 +8,7 @@ use lib.ListN.{length, take, drop}
 use Rattle.base.specs.Lists.{some-of, find}
 use Rattle.base.specs.Text.{bytes}
 use Rattle.names.specs.Grammar.{among, languages, isLanguage, Named}
-use Rattle.names.specs.Names.{run, closed, bodyOf, bodySize, hasPattern, patternOf, patternSize, namesFrom, patternsFrom, nameList, isNameList, askable, wantedBy, allows, fits, nameFor}
+use Rattle.names.specs.Names.{span, closed, bodyOf, bodySize, hasPattern, patternOf, patternSize, namesFrom, patternsFrom, nameList, isNameList, askable, wantedBy, allows, fits, nameFor}
 use Rattle.names.specs.declared.Name.{Name}
 
 -- the bytes of the name that a language and a type ask for; none where the field is no name list
@@ -50,7 +50,7 @@ pub stop-8800002 : (length bruxelles ≡ 49)
     × (asked french 0 bruxelles ≡ bytes "Bruxelles-Nord")
     × (asked dutch 7 bruxelles ≡ bytes "Brussel Noord")
     × (asked 0 0 bruxelles ≡ bytes "Br" ++ (129 ∷ bytes "ssel Nord"))
-unfolding asked bytes run closed bodyOf bodySize hasPattern patternOf patternSize namesFrom patternsFrom nameList allows fits nameFor some-of find among
+unfolding asked bytes span closed bodyOf bodySize hasPattern patternOf patternSize namesFrom patternsFrom nameList allows fits nameFor some-of find among
 stop-8800002 = (refl, refl, refl, refl, refl, refl)
 
 -- ---- 8833001: 52 bytes; columns 13 to 62 end in "$<f"
@@ -63,7 +63,7 @@ pub stop-8833001 : (length louvain ≡ 52)
     × (take 50 louvain ≡ bytes "Louvain [B]$<f>$Leuven [B]$<n>$Louvain$<f2>Louv$<f")
     × (isNameList (take 50 louvain) ≡ false)
     × (isNameList (take 47 louvain) ≡ true)
-unfolding bytes run closed bodyOf bodySize hasPattern patternOf patternSize namesFrom patternsFrom nameList among
+unfolding bytes span closed bodyOf bodySize hasPattern patternOf patternSize namesFrom patternsFrom nameList among
 stop-8833001 = (refl, refl, refl, refl, refl)
 
 -- ---- 1234567: "AAAA" is German with types 1 and 2, French with 2 and 3; "BBBB" English and French with type 1
@@ -80,7 +80,7 @@ pub stop-1234567 : (asked german 1 aaaa ≡ bytes "AAAA")
     × (asked english 0 aaaa ≡ bytes "BBBB")
     × (asked english 2 aaaa ≡ bytes "AAAA")
     × (asked dutch 0 aaaa ≡ bytes "AAAA")
-unfolding asked bytes run closed bodyOf bodySize hasPattern patternOf patternSize namesFrom patternsFrom nameList allows fits nameFor some-of find among
+unfolding asked bytes span closed bodyOf bodySize hasPattern patternOf patternSize namesFrom patternsFrom nameList allows fits nameFor some-of find among
 stop-1234567 = (refl, refl, refl, refl, refl, refl, refl, refl)
 
 -- ---- 7654321: "used in any language, but have different types"
@@ -93,7 +93,7 @@ pub stop-7654321 : (asked german 1 cccc ≡ bytes "CCCC")
     × (asked german 3 cccc ≡ bytes "DDDD")
     × (asked 0 4 cccc ≡ bytes "DDDD")
     × (asked 0 5 cccc ≡ bytes "CCCC")
-unfolding asked bytes run closed bodyOf bodySize hasPattern patternOf patternSize namesFrom patternsFrom nameList allows fits nameFor some-of find among
+unfolding asked bytes span closed bodyOf bodySize hasPattern patternOf patternSize namesFrom patternsFrom nameList allows fits nameFor some-of find among
 stop-7654321 = (refl, refl, refl, refl, refl)
 
 -- ---- the edges of the grammar
@@ -106,7 +106,7 @@ pub right : (isNameList (bytes "A") ≡ true)
     × (isNameList (bytes "A$<d11>") ≡ true)
     × (isNameList (bytes "A$ $B") ≡ true)
     × (isNameList (bytes "A$<d> ") ≡ true)
-unfolding bytes run closed bodyOf bodySize hasPattern patternOf patternSize namesFrom patternsFrom nameList among
+unfolding bytes span closed bodyOf bodySize hasPattern patternOf patternSize namesFrom patternsFrom nameList among
 right = (refl, refl, refl, refl, refl, refl, refl, refl)
 
 pub wrong : (isNameList (bytes "") ≡ false)
@@ -125,14 +125,14 @@ pub wrong : (isNameList (bytes "") ≡ false)
     × (isNameList (bytes "A$<d") ≡ false)
     × (isNameList (bytes "A>") ≡ false)
     × (isNameList (bytes "A$<d>>") ≡ false)
-unfolding bytes run closed bodyOf bodySize hasPattern patternOf patternSize namesFrom patternsFrom nameList among
+unfolding bytes span closed bodyOf bodySize hasPattern patternOf patternSize namesFrom patternsFrom nameList among
 wrong = (refl, refl, refl, refl, refl, refl, refl, refl, refl, refl, refl, refl, refl, refl, refl, refl)
 
 -- a name without patterns is answered only as the first; 0 fits every pattern
 pub first-of-several : (asked 0 0 (bytes "A$B$<e>$C") ≡ bytes "B")
     × (asked german 0 (bytes "A$B$<e>$C") ≡ bytes "A")
     × (asked english 9 (bytes "A$B$<d><e>$C$<e>") ≡ bytes "B")
-unfolding asked bytes run closed bodyOf bodySize hasPattern patternOf patternSize namesFrom patternsFrom nameList allows fits nameFor some-of find among
+unfolding asked bytes span closed bodyOf bodySize hasPattern patternOf patternSize namesFrom patternsFrom nameList allows fits nameFor some-of find among
 first-of-several = (refl, refl, refl)
 
 -- what may be asked

@@ -10,14 +10,14 @@ use borrow.Author.Tests.{le-leb, lt-leb}
 use Rattle.base.specs.Lists.{find, some-of}
 use Rattle.base.proofs.Laws.{tests, apart}
 use Rattle.names.specs.Grammar.{dollar, isPlain, Named, IsNames, last-name, then-name, then-patterns}
-use Rattle.names.specs.Names.{run, namesOf, nameList, isNameList, isRead, fitting, nameElse, answerIn, answerBy, nameFor}
+use Rattle.names.specs.Names.{span, namesOf, nameList, isNameList, isRead, fitting, nameElse, answerIn, answerBy, nameFor}
 use Rattle.names.specs.Answers.{fitBy, foundIn, chosenBy}
 use Rattle.names.specs.declared.Name.{Name}
 use Rattle.names.specs.declared.Wanted.{Wanted}
 use Rattle.names.specs.declared.Found.{Found}
 use Rattle.names.specs.declared.Found.the-variants.{Broken, Unfit, Fits}
 use Rattle.names.specs.declared.Chosen.the-variants.{Is, NoList}
-use Rattle.names.proofs.Runs.{run-all, run-ends}
+use Rattle.names.proofs.Spans.{span-all, span-ends}
 use Rattle.names.proofs.Reading.{reads-right}
 
 -- ---- the first name of a reading
@@ -26,10 +26,10 @@ abbrev firstName : List Named → Option Name
 firstName [] = none
 firstName (n ∷ names) = some (n .name)
 
-names-first : {at : ℕ} {text : List ℕ} {ns : List Named} → IsNames at text ns → firstName ns ≡ some (record { place = at; size = run isPlain text })
-names-first (last-name {n = n} h) = rw (run-all isPlain n (h .plain))
-names-first (then-name {n = n} {rest = rest} h k) = rw (run-ends isPlain n dollar rest (h .plain) refl)
-names-first (then-patterns {n = n} {rest = rest} h k) = rw (run-ends isPlain n dollar rest (h .plain) refl)
+names-first : {at : ℕ} {text : List ℕ} {ns : List Named} → IsNames at text ns → firstName ns ≡ some (record { place = at; size = span isPlain text })
+names-first (last-name {n = n} h) = rw (span-all isPlain n (h .plain))
+names-first (then-name {n = n} {rest = rest} h k) = rw (span-ends isPlain n dollar rest (h .plain) refl)
+names-first (then-patterns {n = n} {rest = rest} h k) = rw (span-ends isPlain n dollar rest (h .plain) refl)
 
 -- ---- what was found, and what is answered
 
@@ -103,7 +103,7 @@ module _ (f : List ℕ) where
       unfolding nameFor
       answer-fitting n k = sym (rw (as-read, answer-fits w (namesOf 0 f) n (sym e ∙ k)))
 
-      pub answer-default : x ≡ Unfit → (first : Name) → first ≡ record { place = 0; size = run isPlain f } → Is first ≡ chosenBy (nameFor w f)
+      pub answer-default : x ≡ Unfit → (first : Name) → first ≡ record { place = 0; size = span isPlain f } → Is first ≡ chosenBy (nameFor w f)
       unfolding nameFor
       answer-default k first g =
           let h : (ns : List Named) → namesOf 0 f ≡ some ns → firstName ns ≡ some first = λ ns y. names-first (reads-right 0 f ns y) ∙ ap (λ (n : Name). some n) (sym g) in

@@ -13,7 +13,7 @@ use Rattle.names.specs.Grammar.{dollar, Pattern, Named, named, IsName, I
 use Rattle.names.specs.Names.{namesOf, nameList, isRead, isNameList, fitting, nameElse, answerBy, nameFor, IsPart}
 use Rattle.names.specs.declared.Name.{Name}
 use Rattle.names.specs.declared.Wanted.{Wanted}
-use Rattle.names.proofs.Runs.{inside}
+use Rattle.names.proofs.Spans.{inside}
 use Rattle.names.proofs.Reading.{field-right, names-filled, patterns-front, shorter, less}
 
 module _ (f : List ℕ) where

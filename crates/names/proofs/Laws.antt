@@ -11,7 +11,7 @@ use borrow.Author.Tests.{eq-eqb, ne-eqb, le-leb, lt-leb, leb-true, not-true, not
 use Rattle.base.specs.Lists.{every}
 use Rattle.base.proofs.Laws.{tests, clash, drop-next}
 use Rattle.names.specs.Grammar.{isPlain, among, languages, isLanguage, isType, Pattern}
-use Rattle.names.specs.Names.{run, languageKnown, typeDigit, wantedBy, allows, fits}
+use Rattle.names.specs.Names.{span, languageKnown, typeDigit, wantedBy, allows, fits}
 use Rattle.names.specs.Answers.{isOf, askedBy, firstOf}
 use Rattle.names.specs.declared.Name.{Name}
 use Rattle.names.specs.declared.Wanted.{Wanted}
@@ -45,33 +45,33 @@ module _ (p : List ℕ) (i : ℕ) (h : i < length p) where
   among-out b r n v = sym (rw (drop-next p i (getD p i 0) h refl, eq-eqb (getD p i 0) b n)) ∙ v
 
   module _ (k : Class) (t : Bool) (d : t ≡ isOf k (getD p i 0)) (r : ℕ) where
-    pub run-again : t ≡ true → i + run (isOf k) (drop i p) ≡ r → i + 1 + run (isOf k) (drop (i + 1) p) ≡ r
-    unfolding run
-    run-again y v =
-        let s : run (isOf k) (drop i p) ≡ suc (run (isOf k) (drop (i + 1) p)) = rw (drop-next p i (getD p i 0) h refl, sym d ∙ y) in
+    pub span-again : t ≡ true → i + span (isOf k) (drop i p) ≡ r → i + 1 + span (isOf k) (drop (i + 1) p) ≡ r
+    unfolding span
+    span-again y v =
+        let s : span (isOf k) (drop i p) ≡ suc (span (isOf k) (drop (i + 1) p)) = rw (drop-next p i (getD p i 0) h refl, sym d ∙ y) in
         omega arith
 
-    pub run-out : t ≡ false → i + run (isOf k) (drop i p) ≡ r → i ≡ r
-    unfolding run
-    run-out y v =
-        let s : run (isOf k) (drop i p) ≡ 0 = rw (drop-next p i (getD p i 0) h refl, sym d ∙ y) in
+    pub span-out : t ≡ false → i + span (isOf k) (drop i p) ≡ r → i ≡ r
+    unfolding span
+    span-out y v =
+        let s : span (isOf k) (drop i p) ≡ 0 = rw (drop-next p i (getD p i 0) h refl, sym d ∙ y) in
         omega arith
 
 pub among-done : (p : List ℕ) (i b : ℕ) (r : Bool) → length p ≤ i → among b (drop i p) ≡ r → false ≡ r
 unfolding among
 among-done p i b r h v = sym (rw (drop-of-length-le p h)) ∙ v
 
-pub run-done : (p : List ℕ) (i : ℕ) (k : Class) (r : ℕ) → length p ≤ i → i + run (isOf k) (drop i p) ≡ r → i ≡ r
-unfolding run
-run-done p i k r h v =
-    let s : run (isOf k) (drop i p) ≡ 0 = rw (drop-of-length-le p h) in
+pub span-done : (p : List ℕ) (i : ℕ) (k : Class) (r : ℕ) → length p ≤ i → i + span (isOf k) (drop i p) ≡ r → i ≡ r
+unfolding span
+span-done p i k r h v =
+    let s : span (isOf k) (drop i p) ≡ 0 = rw (drop-of-length-le p h) in
     omega arith
 
 -- the first name begins at place 0
-pub name-first : (f : List ℕ) (end : ℕ) → end ≡ 0 + run (isOf Plain) (drop 0 f) → _≡_ {A = Name} (record { place = 0; size = end }) (record { place = 0; size = run isPlain f })
+pub name-first : (f : List ℕ) (end : ℕ) → end ≡ 0 + span (isOf Plain) (drop 0 f) → _≡_ {A = Name} (record { place = 0; size = end }) (record { place = 0; size = span isPlain f })
 name-first f end e = rw (e, zero-add)
 
-pub ruleset loops = (tests, of-plain, of-letter, of-digit, name-first, among-again, among-out, among-done, run-again, run-out, run-done)
+pub ruleset loops = (tests, of-plain, of-letter, of-digit, name-first, among-again, among-out, among-done, span-again, span-out, span-done)
 
 -- ---- a name before what reading on tells
 

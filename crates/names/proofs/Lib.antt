@@ -1,4 +1,4 @@
-pub mod Runs
+pub mod Spans
 pub mod Reading
 pub mod Laws
 pub mod PatternAt

@@ -12,13 +12,13 @@ use lib.Dec.{eqb, leb, ltb}
 use borrow.Author.Tests.{eq-eqb, ne-eqb, lt-ltb, le-ltb}
 use Rattle.base.proofs.Laws.{tests, getD-any}
 use Rattle.names.specs.Grammar.{opens, closes, isLanguage, isType, Pattern}
-use Rattle.names.specs.Names.{run, closed, bodyOf, bodySize, hasPattern, patternOf, patternSize, fits}
+use Rattle.names.specs.Names.{span, closed, bodyOf, bodySize, hasPattern, patternOf, patternSize, fits}
 use Rattle.names.specs.Answers.{isOf, patternAnswer, behindAnswer}
 use Rattle.names.specs.declared.Wanted.{Wanted}
 use Rattle.names.specs.declared.PatternRead.{PatternRead}
 use Rattle.names.specs.declared.PatternRead.the-variants.{To, Nothing}
 use Rattle.names.specs.declared.Class.the-variants.{Plain, Letter, Digit}
-use Rattle.names.proofs.Runs.{run-le}
+use Rattle.names.proofs.Spans.{span-le}
 
 -- a byte that was read as no blank stands inside the field
 pub read-inside : (f : List ℕ) (i x : ℕ) → x ≡ getD f i 32 → (x ≡ 32 → ⊥) → i < length f
@@ -32,8 +32,8 @@ same-byte [] i x b e n z k = z (sym k)
 same-byte (y ∷ f) zero x b e n z k = n (e ∙ k)
 same-byte (y ∷ f) (suc i) x b e n z k = same-byte f i x b e n z k
 
-pub run-inside : (t : ℕ → Bool) (f : List ℕ) (at : ℕ) → at ≤ length f → at + run t (drop at f) ≤ length f
-run-inside t f at h = omega (arith, run-le t (drop at f), length-drop at f)
+pub span-inside : (t : ℕ → Bool) (f : List ℕ) (at : ℕ) → at ≤ length f → at + span t (drop at f) ≤ length f
+span-inside t f at h = omega (arith, span-le t (drop at f), length-drop at f)
 
 and-false : (t : Bool) → (t && false) ≡ false
 and-false true = refl
@@ -44,15 +44,15 @@ front f at = rw add-zero at (getD-drop at f 0 0)
 
 -- ---- behind "<": letters stand from `letters` on, digits from `digits` on, up to `close`
 
-module _ (f : List ℕ) (letters digits : ℕ) (p : digits ≡ letters + run (isOf Letter) (drop letters f)) where
+module _ (f : List ℕ) (letters digits : ℕ) (p : digits ≡ letters + span (isOf Letter) (drop letters f)) where
   pub digits-inside : letters ≤ length f → digits ≤ length f
-  digits-inside h = omega (arith, run-inside (isOf Letter) f letters h)
+  digits-inside h = omega (arith, span-inside (isOf Letter) f letters h)
 
-  module _ (close : ℕ) (q : close ≡ digits + run (isOf Digit) (drop digits f)) where
+  module _ (close : ℕ) (q : close ≡ digits + span (isOf Digit) (drop digits f)) where
     pub close-inside : letters ≤ length f → close ≤ length f
-    close-inside h = omega (arith, run-inside (isOf Digit) f digits (digits-inside h))
+    close-inside h = omega (arith, span-inside (isOf Digit) f digits (digits-inside h))
 
-    letters-at : run isLanguage (drop letters f) ≡ digits - letters
+    letters-at : span isLanguage (drop letters f) ≡ digits - letters
     letters-at = omega arith
 
     from-digits : drop (digits - letters) (drop letters f) ≡ drop digits f
@@ -60,7 +60,7 @@ module _ (f : List ℕ) (letters digits : ℕ) (p : digits ≡ letters + run (is
         let e : letters + (digits - letters) ≡ digits = omega arith in
         rw (drop-drop, e)
 
-    digits-at : run isType (drop digits f) ≡ close - digits
+    digits-at : span isType (drop digits f) ≡ close - digits
     digits-at = omega arith
 
     closed-at : closed (drop letters f) ≡ (ltb 0 (close - letters) && eqb (getD f close 0) closes)
@@ -82,7 +82,7 @@ module _ (f : List ℕ) (letters digits : ℕ) (p : digits ≡ letters + run (is
 pub end-fits : (f : List ℕ) (close y : ℕ) → y ≡ getD f close 32 → y ≡ 62 → length f < 2 ^ 64 → close + 1 < 2 ^ 64
 end-fits f close y e o h = omega (arith, read-inside f close y e (λ k. omega arith))
 
-module _ (f : List ℕ) (w : Wanted) (letters digits close : ℕ) (p : digits ≡ letters + run (isOf Letter) (drop letters f)) (q : close ≡ digits + run (isOf Digit) (drop digits f)) where
+module _ (f : List ℕ) (w : Wanted) (letters digits close : ℕ) (p : digits ≡ letters + span (isOf Letter) (drop letters f)) (q : close ≡ digits + span (isOf Digit) (drop digits f)) where
   nothing-by : closed (drop letters f) ≡ false → Nothing ≡ behindAnswer w letters (drop letters f)
   unfolding behindAnswer
   nothing-by h = rw h

@@ -14,8 +14,8 @@ use borrow.Author.Tests.{eq-eqb, ne-eqb, le-leb, leb-true, eqb-true, eqb-false}
 use Rattle.base.specs.Lists.{every}
 use Rattle.base.proofs.Laws.{clash, apart, by-eqb}
 use Rattle.names.specs.Grammar.{dollar, opens, closes, isPlain, Pattern, Named, named, IsName, IsPattern, IsNames, IsPatterns, last-name, then-name, then-patterns, last-pattern, more-patterns, dollar-name, name-at-once}
-use Rattle.names.specs.Names.{run, hasPattern, patternOf, patternSize, Tail, mapped, namesFrom, patternsFrom, namesOf, patternsOf, mostNameBytes, nameList}
-use Rattle.names.proofs.Runs.{run-le, run-every, run-all, run-ends, inside, pattern-found, pattern-inside, pattern-long, pattern-there, pattern-read, pattern-size, pattern-opens}
+use Rattle.names.specs.Names.{span, hasPattern, patternOf, patternSize, Tail, mapped, namesFrom, patternsFrom, namesOf, patternsOf, mostNameBytes, nameList}
+use Rattle.names.proofs.Spans.{span-le, span-every, span-all, span-ends, inside, pattern-found, pattern-inside, pattern-long, pattern-there, pattern-read, pattern-size, pattern-opens}
 
 -- ---- what an answer of the reader's tests gives
 
@@ -117,13 +117,13 @@ names-right left f g at text ns h =
     (λ c o. no-some ns o)))
   where
     size : ℕ
-    size = run isPlain text
+    size = span isPlain text
 
     le : size ≤ length text
-    le = run-le isPlain text
+    le = span-le isPlain text
 
     pl : every isPlain (take size text) ≡ true
-    pl = run-every isPlain text
+    pl = span-every isPlain text
 
     nonzero : eqb size 0 ≡ false → size ≡ 0 → ⊥
     nonzero e = eqb-false size 0 e
@@ -203,22 +203,22 @@ module _ (left at : ℕ) (n : List ℕ) (h : IsName n) where
 
   all-last : namesFrom (suc left) at n ≡ some (named at (length n) [] ∷ [])
   unfolding namesFrom patternsFrom
-  all-last = rw (run-all isPlain n (h .plain), filled-name, eq-eqb (length n) (length n) refl)
+  all-last = rw (span-all isPlain n (h .plain), filled-name, eq-eqb (length n) (length n) refl)
 
   module _ (rest : List ℕ) where
-    run-is : run isPlain (n ++ (dollar ∷ rest)) ≡ length n
-    run-is = run-ends isPlain n dollar rest (h .plain) refl
+    span-is : span isPlain (n ++ (dollar ∷ rest)) ≡ length n
+    span-is = span-ends isPlain n dollar rest (h .plain) refl
 
     goes-on : eqb (length n) (length (n ++ (dollar ∷ rest))) ≡ false
     goes-on = ne-eqb (length n) (length (n ++ (dollar ∷ rest))) (λ e. omega (arith, length-append n (dollar ∷ rest)))
 
     all-name : (ns : List Named) → isPlain (getD rest 0 0) ≡ true → namesFrom left (at + (length n + 1)) rest ≡ some ns → namesFrom (suc left) at (n ++ (dollar ∷ rest)) ≡ some (named at (length n) [] ∷ ns)
     unfolding namesFrom patternsFrom
-    all-name ns b e = rw (run-is, filled-name, goes-on, getD-append-seam, getD-append-add n (dollar ∷ rest) 1 0, plain-opens (getD rest 0 0) b, drop-append-add n (dollar ∷ rest) 1, e)
+    all-name ns b e = rw (span-is, filled-name, goes-on, getD-append-seam, getD-append-add n (dollar ∷ rest) 1 0, plain-opens (getD rest 0 0) b, drop-append-add n (dollar ∷ rest) 1, e)
 
     all-patterns : (t : Tail) → getD rest 0 0 ≡ opens → patternsFrom left (at + (length n + 1)) rest ≡ some t → namesFrom (suc left) at (n ++ (dollar ∷ rest)) ≡ some (named at (length n) (t .patterns) ∷ t .names)
     unfolding namesFrom patternsFrom
-    all-patterns t b e = rw (run-is, filled-name, goes-on, getD-append-seam, getD-append-add n (dollar ∷ rest) 1 0, b, drop-append-add n (dollar ∷ rest) 1, e)
+    all-patterns t b e = rw (span-is, filled-name, goes-on, getD-append-seam, getD-append-add n (dollar ∷ rest) 1 0, b, drop-append-add n (dollar ∷ rest) 1, e)
 
 -- one pattern more
 module _ (left at : ℕ) (t : List ℕ) (p : Pattern) (h : IsPattern t p) where

@@ -14,7 +14,7 @@ use borrow.Author.Tests.{eq-eqb, ne-eqb}
 use Rattle.base.specs.Lists.{some-of, find}
 use Rattle.base.proofs.Laws.{tests, apart, by-eqb, getD-any}
 use Rattle.names.specs.Grammar.{dollar, opens, isPlain, Pattern, Named, named}
-use Rattle.names.specs.Names.{run, hasPattern, patternOf, patternSize, Tail, mapped, namesFrom, patternsFrom, namesOf, patternsOf, fits, fitting}
+use Rattle.names.specs.Names.{span, hasPattern, patternOf, patternSize, Tail, mapped, namesFrom, patternsFrom, namesOf, patternsOf, fits, fitting}
 use Rattle.names.specs.Answers.{isOf, fitBy, foundIn, foundBehind, firstOf, patternAnswer, nextName}
 use Rattle.names.specs.declared.Name.{Name}
 use Rattle.names.specs.declared.Wanted.{Wanted}
@@ -23,7 +23,7 @@ use Rattle.names.specs.declared.Found.the-variants.{Broken, Unfit, Fits}
 use Rattle.names.specs.declared.PatternRead.{PatternRead}
 use Rattle.names.specs.declared.PatternRead.the-variants.{To, Nothing}
 use Rattle.names.specs.declared.Class.the-variants.{Plain}
-use Rattle.names.proofs.Runs.{run-le, pattern-inside}
+use Rattle.names.proofs.Spans.{span-le, pattern-inside}
 use Rattle.names.proofs.PatternAt.{read-inside, same-byte}
 use Rattle.names.proofs.Reading.{names-enough, patterns-enough}
 
@@ -40,14 +40,14 @@ nameThen size at text =
     (mapped (λ (ns : List Named). named at size [] ∷ ns) (namesOf (at + (size + 1)) (drop (size + 1) text))))
     none))
 
-names-step : (at : ℕ) (text : List ℕ) → namesOf at text ≡ nameThen (run isPlain text) at text
-unfolding namesFrom patternsFrom run
+names-step : (at : ℕ) (text : List ℕ) → namesOf at text ≡ nameThen (span isPlain text) at text
+unfolding namesFrom patternsFrom span
 names-step at [] = refl
 names-step at (b ∷ text) =
-    let h : length (drop (run isPlain (b ∷ text) + 1) (b ∷ text)) ≤ length text = rw length-drop (omega arith) in
+    let h : length (drop (span isPlain (b ∷ text) + 1) (b ∷ text)) ≤ length text = rw length-drop (omega arith) in
     rw (
-      names-enough (at + (run isPlain (b ∷ text) + 1)) (drop (run isPlain (b ∷ text) + 1) (b ∷ text)) (length text) h,
-      patterns-enough (at + (run isPlain (b ∷ text) + 1)) (drop (run isPlain (b ∷ text) + 1) (b ∷ text)) (length text) h,
+      names-enough (at + (span isPlain (b ∷ text) + 1)) (drop (span isPlain (b ∷ text) + 1) (b ∷ text)) (length text) h,
+      patterns-enough (at + (span isPlain (b ∷ text) + 1)) (drop (span isPlain (b ∷ text) + 1) (b ∷ text)) (length text) h,
     )
 
 -- a pattern of `size` bytes, and what stands behind it
@@ -92,8 +92,8 @@ module _ (w : Wanted) (at size : ℕ) where
 
 -- ---- a name list from place `at` on; its first name ends at `end`
 
-module _ (f : List ℕ) (at end : ℕ) (e : end ≡ at + run (isOf Plain) (drop at f)) where
-  name-size : run isPlain (drop at f) ≡ end - at
+module _ (f : List ℕ) (at end : ℕ) (e : end ≡ at + span (isOf Plain) (drop at f)) where
+  name-size : span isPlain (drop at f) ≡ end - at
   name-size = omega arith
 
   at-end : at + (end - at) ≡ end
@@ -104,7 +104,7 @@ module _ (f : List ℕ) (at end : ℕ) (e : end ≡ at + run (isOf Plain) (drop 
 
   -- a name that is not empty lies inside the field
   pub name-inside : (end ≡ at → ⊥) → end ≤ length f
-  name-inside n = omega (arith, run-le isPlain (drop at f), length-drop at f)
+  name-inside n = omega (arith, span-le isPlain (drop at f), length-drop at f)
 
   names-at : namesOf at (drop at f) ≡
       cond (eqb (end - at) 0) none
@@ -116,7 +116,7 @@ module _ (f : List ℕ) (at end : ℕ) (e : end ≡ at + run (isOf Plain) (drop 
       none))
   names-at = names-step at (drop at f) ∙ rw (name-size, getD-drop at f (end - at) 0, at-end, getD-drop at f (end - at + 1) 0, at-next, drop-drop, at-next)
 
-module _ (f : List ℕ) (at end : ℕ) (e : end ≡ at + run (isOf Plain) (drop at f)) (n : end ≡ at → ⊥) (m : end ≡ length f → ⊥) where
+module _ (f : List ℕ) (at end : ℕ) (e : end ≡ at + span (isOf Plain) (drop at f)) (n : end ≡ at → ⊥) (m : end ≡ length f → ⊥) where
   pub name-index : end < length f
   name-index = omega (arith, name-inside f at end e n)
 
@@ -126,10 +126,10 @@ module _ (f : List ℕ) (at end : ℕ) (e : end ≡ at + run (isOf Plain) (drop 
   pub name-falls : (t : ℕ) → length f - at ≡ t → length f - (end + 1) < t
   name-falls t h = omega (arith, name-index)
 
-pub name-begins : (f : List ℕ) (at end : ℕ) → end ≡ at + run (isOf Plain) (drop at f) → at ≤ end
+pub name-begins : (f : List ℕ) (at end : ℕ) → end ≡ at + span (isOf Plain) (drop at f) → at ≤ end
 name-begins f at end e = omega arith
 
-module _ (f : List ℕ) (w : Wanted) (at end : ℕ) (e : end ≡ at + run (isOf Plain) (drop at f)) where
+module _ (f : List ℕ) (w : Wanted) (at end : ℕ) (e : end ≡ at + span (isOf Plain) (drop at f)) where
   pub list-empty : end ≡ at → Broken ≡ foundIn w (namesOf at (drop at f))
   unfolding foundIn
   list-empty k =

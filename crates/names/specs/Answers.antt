@@ -1,4 +1,4 @@
--- What the code answers, for its contracts: an enum for each "or none". Assumes nothing.
+-- What the code answers, for its contracts: an enum for each "or none". Nobody has to believe this file. Assumes nothing.
 use Prim.Native.Nat.{ℕ, _+_}
 use mathlib.Core.List.{List, [], _∷_}
 use mathlib.Core.Bool.{Bool, true, false, cond}

@@ -12,18 +12,18 @@ use Rattle.names.specs.declared.Name.{Name}
 use Rattle.names.specs.declared.Wanted.{Wanted}
 
 -- how many bytes from the front on pass a test
-unfoldable pub run : (ℕ → Bool) → List ℕ → ℕ
-run t [] = 0
-run t (b ∷ text) = cond (t b) (suc (run t text)) 0
+unfoldable pub span : (ℕ → Bool) → List ℕ → ℕ
+span t [] = 0
+span t (b ∷ text) = cond (t b) (suc (span t text)) 0
 
 -- ---- a pattern at the front of a text
 
 -- what stands behind "<": letters, then digits, and ">", "with at least one letter or digit"
 abbrev pub lettersIn : List ℕ → ℕ
-lettersIn body = run isLanguage body
+lettersIn body = span isLanguage body
 
 abbrev pub digitsIn : List ℕ → ℕ
-digitsIn body = run isType (drop (lettersIn body) body)
+digitsIn body = span isType (drop (lettersIn body) body)
 
 unfoldable pub closed : List ℕ → Bool
 closed body = ltb 0 (lettersIn body + digitsIn body) && eqb (getD body (lettersIn body + digitsIn body) 0) closes
@@ -59,7 +59,7 @@ unfoldable mutual
   pub namesFrom : ℕ → ℕ → List ℕ → Option (List Named)
   namesFrom zero at text = none
   namesFrom (suc left) at text =
-      let size : ℕ = run isPlain text in
+      let size : ℕ = span isPlain text in
       let patterns : Option Tail = patternsFrom left (at + (size + 1)) (drop (size + 1) text) in
       let names : Option (List Named) = namesFrom left (at + (size + 1)) (drop (size + 1) text) in
       cond (eqb size 0) none

@@ -5,7 +5,7 @@ ghost use mathlib.Core.Path.{_≡_};
 ghost use Prim.Native.Nat.{_+_, _≤_, _<_};
 ghost use lib.ListN.{length, drop};
 ghost use Rattle.names.specs.Grammar.{isPlain, among, isLanguage, isType};
-ghost use Rattle.names.specs.Names.{run, namesOf, patternsOf, isNameList, languageKnown, typeDigit, allows, fits, nameFor};
+ghost use Rattle.names.specs.Names.{span, namesOf, patternsOf, isNameList, languageKnown, typeDigit, allows, fits, nameFor};
 ghost use Rattle.names.specs.Answers.{isOf, askedBy, foundIn, foundBehind, firstOf, patternAnswer, behindAnswer, nextName, chosenBy};
 
 // A name inside its field: where it begins, from 0, and how many bytes it has.
@@ -76,11 +76,11 @@ pub fn name_for(field: &[u8], wanted: Wanted) -> Chosen
 
 // The first name of a name list.
 fn first_name(field: &[u8]) -> Name
-    ensures { λ r. ⌜ r ≡ record { place = 0; size = run isPlain (now (field .entry)) } ⌝ }
+    ensures { λ r. ⌜ r ≡ record { place = 0; size = span isPlain (now (field .entry)) } ⌝ }
 {
     Name {
         place: 0,
-        size: run_end(field, 0, Class::Plain),
+        size: span_end(field, 0, Class::Plain),
     }
 }
 
@@ -144,7 +144,7 @@ enum Found {
 fn name_list(field: &[u8], at: usize, wanted: Wanted) -> Found
     ensures { λ r. ⌜ r ≡ foundIn wanted (namesOf at (drop at (now (field .entry)))) ⌝ }
 {
-    let end = run_end(field, at, Class::Plain);
+    let end = span_end(field, at, Class::Plain);
     if end == at {
         return Found::Broken; // "A name is not empty"
     }
@@ -230,8 +230,8 @@ fn behind_opening(field: &[u8], letters: usize, wanted: Wanted) -> PatternRead
     requires { ⌜ letters ≤ length (now field) ⌝ }
     ensures { λ r. ⌜ r ≡ behindAnswer wanted letters (drop letters (now (field .entry))) ⌝ }
 {
-    let digits = run_end(field, letters, Class::Letter);
-    let close = run_end(field, digits, Class::Digit);
+    let digits = span_end(field, letters, Class::Letter);
+    let close = span_end(field, digits, Class::Digit);
     if close == letters {
         return PatternRead::Nothing;
     }
@@ -270,7 +270,7 @@ fn part_allows(part: &[u8], b: u8) -> bool
 
 // ---- bytes
 
-// What the bytes of a run are.
+// What the bytes of a span are.
 enum Class {
     Plain,
     Letter,
@@ -278,8 +278,8 @@ enum Class {
 }
 
 // Where the bytes of a class end that stand from a place on.
-fn run_end(field: &[u8], at: usize, class: Class) -> usize
-    ensures { λ r. ⌜ r ≡ at + run (isOf class) (drop at (now (field .entry))) ⌝ }
+fn span_end(field: &[u8], at: usize, class: Class) -> usize
+    ensures { λ r. ⌜ r ≡ at + span (isOf class) (drop at (now (field .entry))) ⌝ }
 {
     let mut i = at;
     while i < field.len() {

@@ -30,7 +30,7 @@ use Rattle.timetable.proofs.Offences.{checked-holds, checked-refused}
 use Rattle.period.specs.Dates.{dateOf, dateAt}
 
 -- "A period of n days has 1 to 380": no file gives more
-pub period-short : (ls : List Line) → periodIn ls .days ≤ mostPeriodDays
+pub period-short : (ls : List Line) → periodIn ls .n ≤ mostPeriodDays
 period-short [] = omega arith
 period-short (s ∷ []) = omega arith
 period-short (s ∷ e ∷ ls) = go (periodOf a b) refl
@@ -78,7 +78,7 @@ pub ruleset dates = (tests, walk, no-date, place-fits, date-broken, date-none, d
 -- ---- the lines, one after the other: what the file answers
 
 abbrev answered : List Line → Checked
-answered ls = checkedBy (periodFirst ls) (periodIn ls .start) (periodIn ls .days)
+answered ls = checkedBy (periodFirst ls) (periodIn ls .start) (periodIn ls .n)
 
 answered-none : answered [] ≡ Refused (offenceAt 2 1)
 unfolding periodFirst first _<|>_

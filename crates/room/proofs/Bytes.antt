@@ -16,7 +16,7 @@ use Rattle.forms.specs.declared.Form.{Form}
 use Rattle.forms.specs.declared.Form.the-variants.{Fits, Broken}
 use Rattle.lines.specs.Lines.{startWith, pieces, noCR, Line, numbered, linesFrom, linesOf, skipped}
 use Rattle.lines.proofs.Pieces.{noCR-take}
-use Rattle.timetable.specs.Files.{Held, skip, broken, held, listed, held-in, heldBy, holding}
+use Rattle.timetable.specs.Files.{Held, skip, broken, held, listed, held-in, heldBy, heldLine}
 
 -- ---- the lines of a file have no more bytes than the file
 
@@ -105,7 +105,7 @@ filled-long a b line h1 e = go (drop (a - 1) line) refl e
 -- ---- records of a file
 
 module _ {X : Type 0} (rows : List Row) (read : Line → X) (least : ℕ) (long : (line : List ℕ) → formOf rows line ≡ Fits → least ≤ length line) where
-  held-one : (l : Line) → least * length (listed (holding rows read l)) ≤ length (l .text)
+  held-one : (l : Line) → least * length (listed (heldLine rows read l)) ≤ length (l .text)
   held-one l = go (skipped (l .text)) (formOf rows (l .text)) refl
     where
       go : (t : Bool) (f : Form) → formOf rows (l .text) ≡ f → least * length (listed (cond t skip (heldBy f (read l)))) ≤ length (l .text)
@@ -113,15 +113,15 @@ module _ {X : Type 0} (rows : List Row) (read : Line → X) (least : ℕ) (long 
       go false Fits e = rw (mul-one least) (long (l .text) e)
       go false (Broken c) e = rw (mul-zero least) (omega arith)
 
-  held-bytes : (ls : List Line) → least * length (held-in (holding rows read) ls) ≤ bytesOf ls
+  held-bytes : (ls : List Line) → least * length (held-in (heldLine rows read) ls) ≤ bytesOf ls
   unfolding held-in bytesOf
   held-bytes [] = rw (mul-zero least) (omega arith)
   held-bytes (l ∷ ls) =
       let a = held-one l in let b = held-bytes ls in
-      let e = length-append (listed (holding rows read l)) (held-in (holding rows read) ls) in
-      let m = mul-add least (length (listed (holding rows read l))) (length (held-in (holding rows read) ls)) in
+      let e = length-append (listed (heldLine rows read l)) (held-in (heldLine rows read) ls) in
+      let m = mul-add least (length (listed (heldLine rows read l))) (length (held-in (heldLine rows read) ls)) in
       rw e (omega (arith, a, b, m))
 
   -- what a file gives
-  pub file-bytes : (f : List ℕ) → least * length (held-in (holding rows read) (linesOf f)) ≤ length f
+  pub file-bytes : (f : List ℕ) → least * length (held-in (heldLine rows read) (linesOf f)) ≤ length f
   file-bytes f = let a = held-bytes (linesOf f) in let b = lines-bytes f in omega (arith, a, b)

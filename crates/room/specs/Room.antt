@@ -1,4 +1,5 @@
--- Words that are enough for a delivery, from the sizes of its files alone. Assumes nothing.
+-- Words that are enough for a delivery, from the sizes of its files alone: asked for by the planner's side, not by 01 or 02 (docs/DECISIONS 90 and 111).
+-- Assumes nothing.
 use mathlib.Core.Path.{_≡_}
 use mathlib.Core.Bool.{cond}
 use Prim.Native.Nat.{ℕ, _+_, _*_, _/_, _≤_}

@@ -16,12 +16,12 @@ use Rattle.table_words.specs.Words.{headerWords, sectionsWords}
 
 -- ---- the header, for `search heading`
 
-pub header-written : (t t₁ t₂ t₃ : List ℕ) (h : Header) → headerSize ≤ length t → t₁ ≡ write t 0 (h .words ∷ h .start ∷ h .days ∷ [])
+pub header-written : (t t₁ t₂ t₃ : List ℕ) (h : Header) → headerSize ≤ length t → t₁ ≡ write t 0 (h .words ∷ h .start ∷ h .n ∷ [])
     → t₂ ≡ write t₁ 3 (h .fields ∷ h .stops ∷ h .interchanges ∷ []) → t₃ ≡ write t₂ 6 (h .services ∷ h .first ∷ h .classes ∷ []) → t₃ ≡ write t 0 (headerWords h)
 header-written t t₁ t₂ t₃ h l e₁ e₂ e₃ =
-    let v : t₂ ≡ write t 0 (h .words ∷ h .start ∷ h .days ∷ h .fields ∷ h .stops ∷ h .interchanges ∷ [])
-    = e₂ ∙ rw e₁ (write-write t 0 (h .words ∷ h .start ∷ h .days ∷ []) (h .fields ∷ h .stops ∷ h .interchanges ∷ []) (omega arith)) in
-    e₃ ∙ rw v (write-write t 0 (h .words ∷ h .start ∷ h .days ∷ h .fields ∷ h .stops ∷ h .interchanges ∷ []) (h .services ∷ h .first ∷ h .classes ∷ []) (omega arith))
+    let v : t₂ ≡ write t 0 (h .words ∷ h .start ∷ h .n ∷ h .fields ∷ h .stops ∷ h .interchanges ∷ [])
+    = e₂ ∙ rw e₁ (write-write t 0 (h .words ∷ h .start ∷ h .n ∷ []) (h .fields ∷ h .stops ∷ h .interchanges ∷ []) (omega arith)) in
+    e₃ ∙ rw v (write-write t 0 (h .words ∷ h .start ∷ h .n ∷ h .fields ∷ h .stops ∷ h .interchanges ∷ []) (h .services ∷ h .first ∷ h .classes ∷ []) (omega arith))
 
 pub ruleset heading = (tests, header-written)
 

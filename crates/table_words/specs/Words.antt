@@ -10,7 +10,7 @@ use Rattle.plan.specs.Services.{placedWords}
 use Rattle.table_words.specs.declared.Header.{Header}
 
 abbrev pub headerWords : Header → List ℕ
-headerWords h = h .words ∷ h .start ∷ h .days ∷ h .fields ∷ h .stops ∷ h .interchanges ∷ h .services ∷ h .first ∷ h .classes ∷ []
+headerWords h = h .words ∷ h .start ∷ h .n ∷ h .fields ∷ h .stops ∷ h .interchanges ∷ h .services ∷ h .first ∷ h .classes ∷ []
 
 -- those of BITFELD, BAHNHOF, UMSTEIGB and ZUGART
 unfoldable pub sectionsWords : List ℕ → List ℕ → List ℕ → List ℕ → List ℕ

@@ -21,7 +21,7 @@ ghost use Rattle.table_words.specs.Words.{headerWords, sectionsWords, bo
 pub struct Header {
     pub words: u32,
     pub start: u32,
-    pub days: u32,
+    pub n: u32,
     pub fields: u32,
     pub stops: u32,
     pub interchanges: u32,
@@ -56,7 +56,7 @@ fn put_header(h: Header, t: &mut [u32])
     requires { ⌜ headerSize ≤ length (now t) ⌝ }
     ensures { λ r. ⌜ now (t .exit) ≡ write (now (t .entry)) 0 (headerWords h) ⌝ }
 {
-    words::put3(t, 0, h.words, h.start, h.days);
+    words::put3(t, 0, h.words, h.start, h.n);
     words::put3(t, 3, h.fields, h.stops, h.interchanges);
     words::put3(t, 6, h.services, h.first, h.classes);
 }

@@ -1,15 +1,26 @@
--- Where the order of two offences of one line is a rule of its own. Assumes nothing.
+-- Where the order of two offences, of one line or of two files, is a rule of its own. Assumes nothing.
 use mathlib.Core.Path.{_≡_, refl}
 use mathlib.Core.List.{List}
 use mathlib.Core.Bool.{false}
-use mathlib.Core.Option.{some}
+use mathlib.Core.Option.{none, some}
 use Prim.Native.Nat.{ℕ}
+use Rattle.lines.specs.Lines.{linesOf}
 use Rattle.names.specs.Names.{isNameList}
-use Rattle.timetable.specs.Delivery.{StopRecord}
-use Rattle.timetable.specs.Files.{nameField, namedStopOffence}
+use Rattle.timetable.specs.Delivery.{StopRecord, Files}
+use Rattle.timetable.specs.Files.{nameField, namedStopOffence, periodFirst, bitFieldsFirst, stopsFirst, interchangesFirst, classesFirst}
 use Rattle.timetable.specs.Offences.{offenceAt, _<|>_}
+use Rattle.timetable.specs.Load.{Where, delivered, contentOffence}
+use Rattle.timetable.specs.declared.Offence.{Offence}
 
 -- document 02, No. 3: "39 after 4": whatever the stop's number
 pub named-first : (earlier : List StopRecord) (line : ℕ) (text : List ℕ) (s : StopRecord) → isNameList (nameField text) ≡ false → namedStopOffence earlier line text s ≡ some (offenceAt 39 line)
 unfolding _<|>_
 named-first earlier line text s e = rw e refl
+
+-- document 02, No. 1: "ZUGART is file 6, its lengths and lines checked after UMSTEIGB's": where the files before hold, its first offence is told whatever FPLAN has
+pub zugart-first : (f : Files) (o : Offence)
+    → periodFirst (linesOf (f .eckdaten)) ≡ none → bitFieldsFirst (delivered f .period .n) (linesOf (f .bitfeld)) ≡ none
+    → stopsFirst (linesOf (f .bahnhof)) ≡ none → interchangesFirst (delivered f .stops) (linesOf (f .umsteigb)) ≡ none
+    → classesFirst (linesOf (f .zugart)) ≡ some o → contentOffence f ≡ some (record { file = 6; offence = o })
+unfolding contentOffence _<|>_
+zugart-first f o e₁ e₂ e₃ e₄ e₅ = rw (e₁, e₂, e₃, e₄, e₅) refl

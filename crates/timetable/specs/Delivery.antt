@@ -20,7 +20,7 @@ filesOf e b s u p z = record { eckdaten = e; bitfeld = b; bahnhof = s; umsteigb 
 -- the first day and the number of days n
 pub record Period : Type 0 where
   pub start : ℕ
-  pub days : ℕ
+  pub n : ℕ
 
 -- a bit field: its number and its twelve words
 pub record BitField : Type 0 where

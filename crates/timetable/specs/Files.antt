@@ -47,8 +47,8 @@ heldBy Fits x = held x
 heldBy (Broken c) x = broken c
 
 -- a line that is not skipped holds what `read` says, if it has the form
-abbrev pub holding : {X : Type 0} → List Row → (Line → X) → Line → Held X
-holding rows read l = cond (skipped (l .text)) skip (heldBy (formOf rows (l .text)) (read l))
+abbrev pub heldLine : {X : Type 0} → List Row → (Line → X) → Line → Held X
+heldLine rows read l = cond (skipped (l .text)) skip (heldBy (formOf rows (l .text)) (read l))
 
 -- the offence of a line by its number: 4, then its record's own
 abbrev pub heldOffence : {X : Type 0} → (X → Option Offence) → ℕ → Held X → Option Offence
@@ -94,18 +94,18 @@ daysIn NoPeriod = 0
 
 -- the period of the first two lines; with fewer the delivery is refused (2)
 abbrev pub periodIn : List Line → Period
-periodIn [] = record { start = 0; days = 0 }
-periodIn (s ∷ []) = record { start = 0; days = 0 }
+periodIn [] = record { start = 0; n = 0 }
+periodIn (s ∷ []) = record { start = 0; n = 0 }
 periodIn (s ∷ e ∷ ls) = record {
   start = dayNumber (dateIn (s .text));
-  days = daysIn (periodOf (dayNumber (dateIn (s .text))) (dayNumber (dateIn (e .text))));
+  n = daysIn (periodOf (dayNumber (dateIn (s .text))) (dayNumber (dateIn (e .text))));
 }
 
 -- ---- 2 BITFELD
 
 abbrev pub bitFieldOf : Line → Held BitField
 bitFieldOf l =
-    holding bitFieldColumns
+    heldLine bitFieldColumns
     (λ (l : Line). record { number = number (columns 1 6 (l .text)); words = bitsIn (l .text) })
     l
 
@@ -142,7 +142,7 @@ nameField text = take (nameLength (columns 13 62 text)) (columns 13 62 text)
 -- "number, byte offset of column 13 in BAHNHOF from 0, name length"
 abbrev pub stopOf : Line → Held StopRecord
 stopOf l =
-    holding stopColumns
+    heldLine stopColumns
     (λ (l : Line). record { number = number (columns 1 7 (l .text)); offset = l .start + 12; size = nameLength (columns 13 62 (l .text)) })
     l
 
@@ -173,7 +173,7 @@ stopsFirst ls = first stopLineOffence [] ls
 
 abbrev pub interchangeOf : Line → Held Interchange
 interchangeOf l =
-    holding interchangeColumns
+    heldLine interchangeColumns
     (λ (l : Line). record { number = number (columns 1 7 (l .text)); firstTime = number (columns 9 10 (l .text)); secondTime = number (columns 12 13 (l .text)) })
     l
 
@@ -204,7 +204,7 @@ interchangesFirst stops ls =
 -- "code 1-3", "class 5-6"
 abbrev pub classOf : Line → Held CategoryClass
 classOf l =
-    holding classColumns
+    heldLine classColumns
     (λ (l : Line). record { code = threeBytes 1 (l .text); class = number (columns 5 6 (l .text)) })
     l
 
@@ -221,7 +221,7 @@ hasTariff text = not (isBlank (column 8 text))
 
 -- whether the lines of a file have one, in order, those that are skipped left out
 abbrev pub tariffOf : Line → Held Bool
-tariffOf l = holding classColumns (λ (l : Line). hasTariff (l .text)) l
+tariffOf l = heldLine classColumns (λ (l : Line). hasTariff (l .text)) l
 
 -- "37 for a tariff group missing or alone (first line that has one where the file's first has none, or the other way)"
 abbrev pub tariffOffence : List Bool → ℕ → Bool → Option Offence

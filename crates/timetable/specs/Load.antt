@@ -45,7 +45,7 @@ inFile f (some o) = some (record { file = f; offence = o })
 abbrev pub tooLong : ℕ → List ℕ → Option Where
 tooLong f s = inFile f (given (ltb mostFileBytes (length s)) 1 0)
 
--- "First, lengths in file order"
+-- "First, lengths in file order" (No. 1: 6 after 4)
 unfoldable pub lengthOffence : Files → Option Where
 lengthOffence f =
     tooLong 1 (f .eckdaten) <|> tooLong 2 (f .bitfeld) <|> tooLong 3 (f .bahnhof) <|> tooLong 4 (f .umsteigb) <|> tooLong 6 (f .zugart)
@@ -55,13 +55,13 @@ lengthOffence f =
 unfoldable pub contentOffence : Files → Option Where
 contentOffence f =
     inFile 1 (periodFirst (linesOf (f .eckdaten)))
-    <|> inFile 2 (bitFieldsFirst (delivered f .period .days) (linesOf (f .bitfeld)))
+    <|> inFile 2 (bitFieldsFirst (delivered f .period .n) (linesOf (f .bitfeld)))
     <|> inFile 3 (stopsFirst (linesOf (f .bahnhof)))
     <|> inFile 4 (interchangesFirst (delivered f .stops) (linesOf (f .umsteigb)))
     <|> inFile 6 (classesFirst (linesOf (f .zugart)))
-    <|> inFile 5 (planFirst (delivered f .fields) (delivered f .stops) (delivered f .classes) (delivered f .period .days) (linesOf (f .fplan)))
+    <|> inFile 5 (planFirst (delivered f .fields) (delivered f .stops) (delivered f .classes) (delivered f .period .n) (linesOf (f .fplan)))
 
--- the first offence of all
+-- the first offence of the files; 51 and 20, which are no file's, `loaded` puts between and behind
 unfoldable pub offence : Files → Option Where
 offence f = lengthOffence f <|> contentOffence f
 

@@ -39,7 +39,7 @@ pub data Dated : Type 0 where
 
 abbrev pub datedBy : Period → Date → Dated
 datedBy p NoSuchDate = undated 22
-datedBy p (Day k) = cond (leb (p .start) k && ltb k (p .start + p .days)) (dated (k - p .start)) (undated 23)
+datedBy p (Day k) = cond (leb (p .start) k && ltb k (p .start + p .n)) (dated (k - p .start)) (undated 23)
 
 abbrev pub dateOf : Delivery → ℕ → ℕ → ℕ → Dated
 dateOf d day month year = datedBy (d .period) (dayOf day month year)

@@ -110,7 +110,7 @@ unfoldable pub tableWords : Delivery → List ℕ
 tableWords d =
     (headerSize + length (sections d))
     ∷ d .period .start
-    ∷ d .period .days
+    ∷ d .period .n
     ∷ length (d .fields)
     ∷ length (d .stops)
     ∷ length (d .interchanges)
@@ -243,7 +243,7 @@ stopsAt w = rowsIn stopAt stopSize (stops# w) (drop (headerSize + bitFieldSize *
 
 unfoldable pub tableOf : List ℕ → Delivery
 tableOf w = record {
-  period = record { start = firstDay w; days = periodDays w };
+  period = record { start = firstDay w; n = periodDays w };
   fields = rowsIn bitFieldAt bitFieldSize (bitFields# w) (drop headerSize (used w));
   stops = stopsAt w;
   interchanges = rowsIn interchangeAt interchangeSize (interchanges# w) (drop (headerSize + bitFieldSize * bitFields# w + stopSize * stops# w) (used w));

@@ -93,7 +93,7 @@ pub record Sound (d : Delivery) : Type 0 where
   pub classes : every classSound (d .classes) ≡ true
   pub services : All Sized (d .services)
 
-header-words : (d : Delivery) (r : List ℕ) → (usedWords (oldTableWords d ++ r) ≡ headerSize + length (oldSections d)) × (firstDay (oldTableWords d ++ r) ≡ d .period .start) × (periodDays (oldTableWords d ++ r) ≡ d .period .days) × (bitFields# (oldTableWords d ++ r) ≡ length (d .fields)) × (stops# (oldTableWords d ++ r) ≡ length (d .stops)) × (interchanges# (oldTableWords d ++ r) ≡ length (d .interchanges)) × (services# (oldTableWords d ++ r) ≡ length (d .services)) × (servicesPlace (oldTableWords d ++ r) ≡ firstService (length (d .fields)) (length (d .stops)) (length (d .interchanges)) (length (d .classes))) × (classes# (oldTableWords d ++ r) ≡ length (d .classes))
+header-words : (d : Delivery) (r : List ℕ) → (usedWords (oldTableWords d ++ r) ≡ headerSize + length (oldSections d)) × (firstDay (oldTableWords d ++ r) ≡ d .period .start) × (periodDays (oldTableWords d ++ r) ≡ d .period .n) × (bitFields# (oldTableWords d ++ r) ≡ length (d .fields)) × (stops# (oldTableWords d ++ r) ≡ length (d .stops)) × (interchanges# (oldTableWords d ++ r) ≡ length (d .interchanges)) × (services# (oldTableWords d ++ r) ≡ length (d .services)) × (servicesPlace (oldTableWords d ++ r) ≡ firstService (length (d .fields)) (length (d .stops)) (length (d .interchanges)) (length (d .classes))) × (classes# (oldTableWords d ++ r) ≡ length (d .classes))
 unfolding oldTableWords
 header-words d r = (refl, refl, refl, refl, refl, refl, refl, refl, refl)
 
@@ -125,9 +125,9 @@ sound-table d h rest =
       le-leb headerSize (u + length rest) (omega arith),
       le-leb headerSize u (omega arith),
       le-leb u (u + length rest) (omega arith),
-      le-leb 1 (d .period .days) (p .one),
-      le-leb (d .period .days) mostPeriodDays (p .most),
-      le-leb (d .period .start + d .period .days) (lastDay + 1) (p .last),
+      le-leb 1 (d .period .n) (p .one),
+      le-leb (d .period .n) mostPeriodDays (p .most),
+      le-leb (d .period .start + d .period .n) (lastDay + 1) (p .last),
       le-leb 1 (length (d .interchanges)) (h .interchanges),
       eq-eqb at at refl,
       le-leb at u (omega (arith, z)),

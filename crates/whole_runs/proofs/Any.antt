@@ -49,7 +49,7 @@ by-test false n h m e = apart (cc)
 pub date-refusal : (p : Period) (t : Date) (n : ℕ) → datedBy p t ≡ undated n → Refusal n
 unfolding isWalkRefusal some-of
 date-refusal p NoSuchDate n e = let z : _≡_ {A = ℕ} 22 n = cc in subst Refusal z refl
-date-refusal p (Day k) n e = go (leb (p .start) k && ltb k (p .start + p .days)) e
+date-refusal p (Day k) n e = go (leb (p .start) k && ltb k (p .start + p .n)) e
   where
     go : (t : Bool) → cond t (dated (k - p .start)) (undated 23) ≡ undated n → Refusal n
     go true e = apart (cc)

@@ -65,9 +65,9 @@ pub record Fair (d : Delivery) (ls : List Line) : Type 0 where
   pub ranges : endsFirst (callsOf ls) (saidOn asRange ls) ≡ none
   pub categories : eachOnce (λ (r : CategoryRange). r .legs) (legCount (serviceOf ls)) (serviceOf ls .categories) ≡ true
   pub days : eachOnce (λ (r : DayRange). r .legs) (legCount (serviceOf ls)) (serviceOf ls .days) ≡ true
-  pub whole : torn (d .fields) (d .period .days) (serviceOf ls) ≡ false
+  pub whole : torn (d .fields) (d .period .n) (serviceOf ls) ≡ false
 
-fair : (d : Delivery) (ls : List Line) → serviceFirst (d .fields) (d .stops) (d .classes) (d .period .days) ls ≡ none → Fair d ls
+fair : (d : Delivery) (ls : List Line) → serviceFirst (d .fields) (d .stops) (d .classes) (d .period .n) ls ≡ none → Fair d ls
 unfolding serviceFirst serviceChecks
 fair d ls e =
     let o = then-none _ _ e in
@@ -82,18 +82,18 @@ fair d ls e =
       whole = given-none _ 19 _ (v .1);
     }
 
-all-fair : (d : Delivery) (bs : List (List Line)) → servicesFirst (d .fields) (d .stops) (d .classes) (d .period .days) bs ≡ none → All (Fair d) bs
+all-fair : (d : Delivery) (bs : List (List Line)) → servicesFirst (d .fields) (d .stops) (d .classes) (d .period .n) bs ≡ none → All (Fair d) bs
 unfolding servicesFirst
 all-fair d [] e = nil
 all-fair d (b ∷ bs) e =
-    let o = then-none (serviceFirst (d .fields) (d .stops) (d .classes) (d .period .days) b) (servicesFirst (d .fields) (d .stops) (d .classes) (d .period .days) bs) e in
+    let o = then-none (serviceFirst (d .fields) (d .stops) (d .classes) (d .period .n) b) (servicesFirst (d .fields) (d .stops) (d .classes) (d .period .n) bs) e in
     cons (fair d b (o .0)) (all-fair d bs (o .1))
 
 -- ---- a delivery without an offence
 
 pub record Clear (f : Files) : Type 0 where
   pub period : periodFirst (linesOf (f .eckdaten)) ≡ none
-  pub fields : bitFieldsFirst (delivered f .period .days) (linesOf (f .bitfeld)) ≡ none
+  pub fields : bitFieldsFirst (delivered f .period .n) (linesOf (f .bitfeld)) ≡ none
   pub stops : stopsFirst (linesOf (f .bahnhof)) ≡ none
   pub interchanges : interchangesFirst (delivered f .stops) (linesOf (f .umsteigb)) ≡ none
   pub classes : classesFirst (linesOf (f .zugart)) ≡ none

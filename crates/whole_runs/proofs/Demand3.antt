@@ -52,7 +52,7 @@ goes-on P false (some o) j x p q h = apart (cc)
 goes-on P true o j x p q h = clash (sym p)
 
 module _ (d : Delivery) (s : Service) (h : Right d s) (known : Interchanges d) (r k : ℕ) where
-  day-outcome : k < d .period .days → Outcome d s r k (onDay d s (lateness (s .opening) r) (operatedLegs (d .fields) s k))
+  day-outcome : k < d .period .n → Outcome d s r k (onDay d s (lateness (s .opening) r) (operatedLegs (d .fields) s k))
   day-outcome l = go (eqb (stretches false bs) 0) refl
     where
       bs : List Bool
@@ -76,7 +76,7 @@ module _ (d : Delivery) (s : Service) (h : Right d s) (known : Interchanges d) (
           (stretch-resolved d s h a n (inside d s r k a n one))
           (runs (stretched d s r k a n one h known))
 
-  service-outcome : hasRun (s .opening) r ≡ true → k < d .period .days → Outcome d s r k (serviceJourney d s r k)
+  service-outcome : hasRun (s .opening) r ≡ true → k < d .period .n → Outcome d s r k (serviceJourney d s r k)
   service-outcome l m =
       goes-on (Outcome d s r k) (not (hasRun (s .opening) r)) (firstRefusal (legRefusal d s) (below (legCount s))) (onDay d s (lateness (s .opening) r) (operatedLegs (d .fields) s k)) (refused 25)
       (ap not l) (legs-resolved d s h) (day-outcome m)
@@ -100,8 +100,8 @@ module _ {d : Delivery} {s : Service} {r k : ℕ} where
 
 -- ---- the walk of a delivery
 
-date-in : (p : Period) (o : Date) (day : ℕ) → o ≡ Day day → p .start ≤ day → day < p .start + p .days → datedBy p o ≡ dated (day - p .start)
-date-in p o day e a b = rw (e, le-leb (p .start) day a, lt-ltb day (p .start + p .days) b)
+date-in : (p : Period) (o : Date) (day : ℕ) → o ≡ Day day → p .start ≤ day → day < p .start + p .n → datedBy p o ≡ dated (day - p .start)
+date-in p o day e a b = rw (e, le-leb (p .start) day a, lt-ltb day (p .start + p .n) b)
 
 journey-is : (f : Files) (i r d m y day : ℕ) (s : Service) → Asked f i r d m y s day → journey (delivered f) i r d m y ≡ serviceJourney (delivered f) s r (day - delivered f .period .start)
 unfolding journey

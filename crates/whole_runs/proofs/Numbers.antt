@@ -251,11 +251,11 @@ module _ {w : Where} where
   unfolding contentOffence bitFieldsFirst stopsFirst classesFirst
   content-inside f e =
       one-of _ _ e (by-file 1 _ (by-period (linesOf (f .eckdaten))))
-      (λ e. one-of _ _ e (by-file 2 _ (by-line _ (by-field (delivered f .period .days)) [] (linesOf (f .bitfeld))))
+      (λ e. one-of _ _ e (by-file 2 _ (by-line _ (by-field (delivered f .period .n)) [] (linesOf (f .bitfeld))))
       (λ e. one-of _ _ e (by-file 3 _ (by-line _ by-stop [] (linesOf (f .bahnhof))))
       (λ e. one-of _ _ e (by-file 4 _ (by-interchanges (delivered f .stops) (linesOf (f .umsteigb))))
       (λ e. one-of _ _ e (by-file 6 _ (by-line _ by-class [] (linesOf (f .zugart))))
-      (by-file 5 _ (by-plan (delivered f .fields) (delivered f .stops) (delivered f .classes) (delivered f .period .days) (linesOf (f .fplan))))))))
+      (by-file 5 _ (by-plan (delivered f .fields) (delivered f .stops) (delivered f .classes) (delivered f .period .n) (linesOf (f .fplan))))))))
 
   -- a file's length is an offence 1
   by-length : (f : ℕ) (s : List ℕ) → tooLong f s ≡ some w → w .offence ≡ offenceAt 1 0

@@ -37,9 +37,9 @@ date-le text = go (dateIn text) refl
 -- ---- the period
 
 pub record PeriodSound (p : Period) : Type 0 where
-  pub one : 1 ≤ p .days
-  pub most : p .days ≤ mostPeriodDays
-  pub last : p .start + p .days ≤ lastDay + 1
+  pub one : 1 ≤ p .n
+  pub most : p .n ≤ mostPeriodDays
+  pub last : p .start + p .n ≤ lastDay + 1
 
 -- from the first day to the last, where there is a period
 record DaysOf (s e n : ℕ) : Type 0 where
@@ -97,7 +97,7 @@ three-lines (s ∷ t ∷ u ∷ []) e =
     let q = date-line t (c .0) in
     let d = days-of (dayNumber (dateIn (s .text))) (dayNumber (dateIn (t .text))) (given-none _ 5 (t .no) (c .1)) in
     let l = d .order in let n = d .count in
-    let last : dayNumber (dateIn (t .text)) ≡ periodIn (s ∷ t ∷ u ∷ []) .start + periodIn (s ∷ t ∷ u ∷ []) .days - 1 = omega arith in
+    let last : dayNumber (dateIn (t .text)) ≡ periodIn (s ∷ t ∷ u ∷ []) .start + periodIn (s ∷ t ∷ u ∷ []) .n - 1 = omega arith in
     record {
       first = s;
       second = t;

@@ -58,7 +58,7 @@ pub record Right (d : Delivery) (s : Service) : Type 0 where
   pub times : Timely (length (s .calls)) 0 0 (s .calls)
   pub categories : (k : ℕ) → k < legCount s → covering (λ (r : CategoryRange). r .legs) (s .categories) k ≡ 1
   pub days : (k : ℕ) → k < legCount s → covering (λ (r : DayRange). r .legs) (s .days) k ≡ 1
-  pub whole : (k : ℕ) → k < d .period .days → leb 2 (stretches false (operatedLegs (d .fields) s k)) ≡ false
+  pub whole : (k : ℕ) → k < d .period .n → leb 2 (stretches false (operatedLegs (d .fields) s k)) ≡ false
 
 once-at : {X : Type 0} (legs : X → Legs) (n : ℕ) (rs : List X) (k : ℕ) → eachOnce legs n rs ≡ true → k < n → covering legs rs k ≡ 1
 once-at legs n rs k e h = eqb-true (covering legs rs k) 1 (every-below (λ (k : ℕ). eqb (covering legs rs k) 1) n k e h)
@@ -81,7 +81,7 @@ right d ls h =
       times = timely (length (callsOf ls)) 0 0 (calledOn ls) (h .times);
       categories = λ k l. once-at (λ (r : CategoryRange). r .legs) (legCount (serviceOf ls)) (serviceOf ls .categories) k (h .categories) l;
       days = λ k l. once-at (λ (r : DayRange). r .legs) (legCount (serviceOf ls)) (serviceOf ls .days) k (h .days) l;
-      whole = λ k l. none-below (λ (k : ℕ). leb 2 (stretches false (operatedLegs (d .fields) (serviceOf ls) k))) (d .period .days) k (h .whole) l;
+      whole = λ k l. none-below (λ (k : ℕ). leb 2 (stretches false (operatedLegs (d .fields) (serviceOf ls) k))) (d .period .n) k (h .whole) l;
     }
 
 all-right : (d : Delivery) {bs : List (List Line)} → All (Fair d) bs → All (Right d) (map serviceOf bs)

@@ -15,7 +15,7 @@ use Rattle.forms.specs.declared.Form.the-variants.{Fits, Broken}
 use Rattle.lines.specs.Lines.{Line, linesOf, skipped}
 use Rattle.timetable.specs.Delivery.{Files, BitField}
 use Rattle.timetable.specs.Offences.{given, first}
-use Rattle.timetable.specs.Files.{Held, skip, broken, listed, held-in, heldBy, holding, heldOffence, bitFieldsFirst, stopsFirst, interchangesFirst, classesFirst}
+use Rattle.timetable.specs.Files.{Held, skip, broken, listed, held-in, heldBy, heldLine, heldOffence, bitFieldsFirst, stopsFirst, interchangesFirst, classesFirst}
 use Rattle.timetable.specs.Plan.{opens}
 use Rattle.timetable.specs.Service.{headLines, blocks, serviceOf}
 use Rattle.timetable.specs.Legs.{fieldRuns}
@@ -35,17 +35,17 @@ whole-line : {X : Type 0} (own : X → Option Offence) (line : ℕ) (h : Held X)
 whole-line own line h e c q = let z = form-none (Broken c) line (sym (ap (heldOffence own line) q) ∙ e) in apart (cc)
 
 module _ {X : Type 0} (rows : List Row) (read : Line → X) where
-  one-line : (l : Line) → ((c : ℕ) → holding rows read l ≡ broken c → ⊥) → {ls : List Line} {xs : List X} → Records (holding rows read) ls xs
-      → Records (holding rows read) (l ∷ ls) (listed (holding rows read l) ++ xs)
+  one-line : (l : Line) → ((c : ℕ) → heldLine rows read l ≡ broken c → ⊥) → {ls : List Line} {xs : List X} → Records (heldLine rows read) ls xs
+      → Records (heldLine rows read) (l ∷ ls) (listed (heldLine rows read l) ++ xs)
   one-line l unbroken {ls} {xs} rest = go (skipped (l .text)) refl (formOf rows (l .text)) refl
     where
-      go : (t : Bool) → skipped (l .text) ≡ t → (f : Form) → formOf rows (l .text) ≡ f → Records (holding rows read) (l ∷ ls) (listed (cond t skip (heldBy f (read l))) ++ xs)
+      go : (t : Bool) → skipped (l .text) ≡ t → (f : Form) → formOf rows (l .text) ≡ f → Records (heldLine rows read) (l ∷ ls) (listed (cond t skip (heldBy f (read l))) ++ xs)
       go true q f p = skips {l = l} q rest
       go false q Fits p = gives {l = l} {x = read l} q (rw (q, p)) rest
       go false q (Broken c) p = absurd (unbroken c (rw (q, p)))
 
-  records : (off : List Line → Line → Option Offence) → ((before : List Line) (l : Line) → off before l ≡ none → (c : ℕ) → holding rows read l ≡ broken c → ⊥)
-      → (before ls : List Line) → first off before ls ≡ none → Records (holding rows read) ls (held-in (holding rows read) ls)
+  records : (off : List Line → Line → Option Offence) → ((before : List Line) (l : Line) → off before l ≡ none → (c : ℕ) → heldLine rows read l ≡ broken c → ⊥)
+      → (before ls : List Line) → first off before ls ≡ none → Records (heldLine rows read) ls (held-in (heldLine rows read) ls)
   unfolding held-in
   records off one before [] e = no-line
   records off one before (l ∷ ls) e =

@@ -50,7 +50,7 @@ unfoldable pub oldTableWords : Delivery → List ℕ
 oldTableWords d =
     (headerSize + length (oldSections d))
     ∷ d .period .start
-    ∷ d .period .days
+    ∷ d .period .n
     ∷ length (d .fields)
     ∷ length (d .stops)
     ∷ length (d .interchanges)
@@ -63,7 +63,7 @@ oldTableWords d =
 
 unfoldable pub oldTableOf : List ℕ → Delivery
 oldTableOf w = record {
-  period = record { start = firstDay w; days = periodDays w };
+  period = record { start = firstDay w; n = periodDays w };
   fields = rowsIn bitFieldAt bitFieldSize (bitFields# w) (drop headerSize (used w));
   stops = rowsIn stopAt stopSize (stops# w) (drop (headerSize + bitFieldSize * bitFields# w) (used w));
   interchanges = rowsIn interchangeAt interchangeSize (interchanges# w) (drop (headerSize + bitFieldSize * bitFields# w + stopSize * stops# w) (used w));

@@ -35,7 +35,7 @@ pub record Asked (f : Files) (i r d m y : ℕ) (s : Service) (day : ℕ) : Type 
   pub repeat : hasRun (s .opening) r ≡ true
   pub date : dayOf d m y ≡ Day day
   pub from : delivered f .period .start ≤ day
-  pub until : day < delivered f .period .start + delivered f .period .days
+  pub until : day < delivered f .period .start + delivered f .period .n
 
 -- "any repeat the service has", and how late it is, by the paper's words for each kind: of a *Z "repeat number over repeats" is refused, and a row's times
 -- are "plus repeat times offset"; No. 8, of a *T: "The runs are j = 0, 1, 2.. while j times density is at most sixty times the running time, and run j is

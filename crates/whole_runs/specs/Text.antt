@@ -35,7 +35,7 @@ pub record ThreeLines (ls : List Line) (p : Period) : Type 0 where
   pub forms : (fits dateColumns (first .text) ≡ true) × (fits dateColumns (second .text) ≡ true)
   -- the first day of the period, and the last
   pub start : dateIn (first .text) ≡ Day (p .start)
-  pub end : dateIn (second .text) ≡ Day (p .start + p .days - 1)
+  pub end : dateIn (second .text) ≡ Day (p .start + p .n - 1)
 
 -- BITFELD, BAHNHOF, UMSTEIGB, ZUGART: each line is skipped, or gives the next record
 pub data Records {X : Type 0} (of : Line → Held X) : List Line → List X → Type 0 where
@@ -54,7 +54,7 @@ pub record FromText (bs : List (List Line)) (i : ℕ) (s : Service) : Type 0 whe
   pub lines-read : All (λ (t : Told). (t ≡ Other → ⊥) × ((c : ℕ) → t ≡ Broken c → ⊥)) (tolds lines)
 
 -- ---- document 02, No. 5: "Conductors announce the number that holds from a call on." "A blank field repeats the call before; the first call's
--- blanks take the *Z values." Said here by the lines themselves, without the definition that the table's calls are made with (`holding`).
+-- blanks take the *Z values." (No. 8: these "may be a *T's".) Said here by the lines themselves, without the definition that the table's calls are made with (`holding`).
 
 -- what a schedule line says in columns 44-48 and in columns 50-55, if they are not blank
 abbrev pub numberSaid : CallLine → Option ℕ
@@ -63,8 +63,8 @@ numberSaid l = cond (l .numbered) (some (l .number)) none
 abbrev pub administrationSaid : CallLine → Option (ℕ × ℕ)
 administrationSaid l = cond (l .administered) (some (l .high, l .low)) none
 
--- what holds at call p of a service, whose schedule lines are ls and whose *Z line says z: what the line of some call up to p says, no line after it
--- up to p saying anything; or what the *Z line says, no line up to p saying anything
+-- what holds at call p of a service, whose schedule lines are ls and whose opening line says z: what the line of some call up to p says, no line after it
+-- up to p saying anything; or what the opening line says, no line up to p saying anything
 pub data HoldsAt {X : Type 0} (say : CallLine → Option X) (ls : List CallLine) (z : X) (p : ℕ) : X → Type 0 where
   since : (i : ℕ) {l : CallLine} {x : X} → i ≤ p → getElem? ls i ≡ some l → say l ≡ some x
       → ((j : ℕ) (m : CallLine) → i < j → j ≤ p → getElem? ls j ≡ some m → say m ≡ none) → HoldsAt say ls z p x
@@ -82,7 +82,7 @@ pub record EveryLine (f : Files) : Type 0 where
   pub bahnhof : Records stopOf (linesOf (f .bahnhof)) (delivered f .stops)
   pub umsteigb : Records interchangeOf (linesOf (f .umsteigb)) (delivered f .interchanges)
   pub zugart : Records classOf (linesOf (f .zugart)) (delivered f .classes)
-  -- a line of FPLAN stands before the first *Z line, and then it is skipped, or in one block; each block is a service
+  -- a line of FPLAN stands before the first *Z or *T line, and then it is skipped, or in one block; each block is a service
   pub fplan : headLines (linesOf (f .fplan)) ++ gathered (λ (b : List Line). b) (blocks (linesOf (f .fplan))) ≡ linesOf (f .fplan)
   pub before : All (λ (l : Line). skipped (l .text) ≡ true) (headLines (linesOf (f .fplan)))
   pub blocks-read : length (delivered f .services) ≡ length (blocks (linesOf (f .fplan)))

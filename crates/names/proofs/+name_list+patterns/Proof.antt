@@ -13,7 +13,7 @@ use Rattle.columns.proofs.byte_at.Reads as byte-at-reads
 use Rattle.names.proofs.first_of.Reads as first-of-reads
 use Rattle.names.proofs.next_name.Reads as next-name-reads
 use Rattle.names.proofs.pattern_at.Reads as pattern-at-reads
-use Rattle.names.proofs.run_end.Reads as run-end-reads
+use Rattle.names.proofs.span_end.Reads as span-end-reads
 use Rattle.names.proofs.+name_list+patterns.{statement}
 use Rattle.names.proofs.+name_list+patterns.Tie.{close}
 
@@ -37,9 +37,9 @@ abbrev patterns-below : ℕ → In 1 patterns-kinds.ps
 patterns-below t =
     and 1 patterns-kinds.ps (falls 1 patterns-kinds.ps _<_ μ-patterns t) patterns.Pre
 
-name-list-run-end-requires : (t : ℕ) → name-list-lts.Need-run-end-requires (
-  run-end-reads.Asked,
-  run-end-reads.Learnt,
+name-list-span-end-requires : (t : ℕ) → name-list-lts.Need-span-end-requires (
+  span-end-reads.Asked,
+  span-end-reads.Learnt,
   byte-at-reads.Asked,
   byte-at-reads.Learnt,
   patterns-below t,
@@ -47,11 +47,11 @@ name-list-run-end-requires : (t : ℕ) → name-list-lts.Need-run-end-requires (
   name-list-below t,
   name-list.Post,
 ) (name-list-at t) name-list.Post
-name-list-run-end-requires t c κs = search turning-names
+name-list-span-end-requires t c κs = search turning-names
 
 name-list-returns : (t : ℕ) → name-list-lts.Need-returns (
-  run-end-reads.Asked,
-  run-end-reads.Learnt,
+  span-end-reads.Asked,
+  span-end-reads.Learnt,
   byte-at-reads.Asked,
   byte-at-reads.Learnt,
   patterns-below t,
@@ -62,8 +62,8 @@ name-list-returns : (t : ℕ) → name-list-lts.Need-returns (
 name-list-returns t c = search turning-names
 
 name-list-returns-2 : (t : ℕ) → name-list-lts.Need-returns-2 (
-  run-end-reads.Asked,
-  run-end-reads.Learnt,
+  span-end-reads.Asked,
+  span-end-reads.Learnt,
   byte-at-reads.Asked,
   byte-at-reads.Learnt,
   patterns-below t,
@@ -74,8 +74,8 @@ name-list-returns-2 : (t : ℕ) → name-list-lts.Need-returns-2 (
 name-list-returns-2 t c = search turning-names
 
 name-list-shared-slice-read-if3 : (t : ℕ) → name-list-lts.Need-shared-slice-read-if3 (
-  run-end-reads.Asked,
-  run-end-reads.Learnt,
+  span-end-reads.Asked,
+  span-end-reads.Learnt,
   byte-at-reads.Asked,
   byte-at-reads.Learnt,
   patterns-below t,
@@ -86,8 +86,8 @@ name-list-shared-slice-read-if3 : (t : ℕ) → name-list-lts.Need-shared-slice-
 name-list-shared-slice-read-if3 t c = search turning-names
 
 name-list-returns-3 : (t : ℕ) → name-list-lts.Need-returns-3 (
-  run-end-reads.Asked,
-  run-end-reads.Learnt,
+  span-end-reads.Asked,
+  span-end-reads.Learnt,
   byte-at-reads.Asked,
   byte-at-reads.Learnt,
   patterns-below t,
@@ -98,8 +98,8 @@ name-list-returns-3 : (t : ℕ) → name-list-lts.Need-returns-3 (
 name-list-returns-3 t c = search turning-names
 
 name-list-add-byte-at : (t : ℕ) → name-list-lts.Need-add-byte-at (
-  run-end-reads.Asked,
-  run-end-reads.Learnt,
+  span-end-reads.Asked,
+  span-end-reads.Learnt,
   byte-at-reads.Asked,
   byte-at-reads.Learnt,
   patterns-below t,
@@ -110,8 +110,8 @@ name-list-add-byte-at : (t : ℕ) → name-list-lts.Need-add-byte-at (
 name-list-add-byte-at t c = search turning-names
 
 name-list-byte-at-requires : (t : ℕ) → name-list-lts.Need-byte-at-requires (
-  run-end-reads.Asked,
-  run-end-reads.Learnt,
+  span-end-reads.Asked,
+  span-end-reads.Learnt,
   byte-at-reads.Asked,
   byte-at-reads.Learnt,
   patterns-below t,
@@ -122,8 +122,8 @@ name-list-byte-at-requires : (t : ℕ) → name-list-lts.Need-byte-at-requires (
 name-list-byte-at-requires t c κs = search turning-names
 
 name-list-add-patterns : (t : ℕ) → name-list-lts.Need-add-patterns (
-  run-end-reads.Asked,
-  run-end-reads.Learnt,
+  span-end-reads.Asked,
+  span-end-reads.Learnt,
   byte-at-reads.Asked,
   byte-at-reads.Learnt,
   patterns-below t,
@@ -134,8 +134,8 @@ name-list-add-patterns : (t : ℕ) → name-list-lts.Need-add-patterns (
 name-list-add-patterns t c = search turning-names
 
 name-list-sub-t11 : (t : ℕ) → name-list-lts.Need-sub-t11 (
-  run-end-reads.Asked,
-  run-end-reads.Learnt,
+  span-end-reads.Asked,
+  span-end-reads.Learnt,
   byte-at-reads.Asked,
   byte-at-reads.Learnt,
   patterns-below t,
@@ -146,8 +146,8 @@ name-list-sub-t11 : (t : ℕ) → name-list-lts.Need-sub-t11 (
 name-list-sub-t11 t c = search turning-names
 
 name-list-patterns-requires : (t : ℕ) → name-list-lts.Need-patterns-requires (
-  run-end-reads.Asked,
-  run-end-reads.Learnt,
+  span-end-reads.Asked,
+  span-end-reads.Learnt,
   byte-at-reads.Asked,
   byte-at-reads.Learnt,
   patterns-below t,
@@ -158,8 +158,8 @@ name-list-patterns-requires : (t : ℕ) → name-list-lts.Need-patterns-requires
 name-list-patterns-requires t c κs = search turning-names
 
 name-list-returns-4 : (t : ℕ) → name-list-lts.Need-returns-4 (
-  run-end-reads.Asked,
-  run-end-reads.Learnt,
+  span-end-reads.Asked,
+  span-end-reads.Learnt,
   byte-at-reads.Asked,
   byte-at-reads.Learnt,
   patterns-below t,
@@ -170,8 +170,8 @@ name-list-returns-4 : (t : ℕ) → name-list-lts.Need-returns-4 (
 name-list-returns-4 t c = search turning-names
 
 name-list-add-name-list : (t : ℕ) → name-list-lts.Need-add-name-list (
-  run-end-reads.Asked,
-  run-end-reads.Learnt,
+  span-end-reads.Asked,
+  span-end-reads.Learnt,
   byte-at-reads.Asked,
   byte-at-reads.Learnt,
   patterns-below t,
@@ -182,8 +182,8 @@ name-list-add-name-list : (t : ℕ) → name-list-lts.Need-add-name-list (
 name-list-add-name-list t c = search turning-names
 
 name-list-name-list-requires : (t : ℕ) → name-list-lts.Need-name-list-requires (
-  run-end-reads.Asked,
-  run-end-reads.Learnt,
+  span-end-reads.Asked,
+  span-end-reads.Learnt,
   byte-at-reads.Asked,
   byte-at-reads.Learnt,
   patterns-below t,
@@ -194,8 +194,8 @@ name-list-name-list-requires : (t : ℕ) → name-list-lts.Need-name-list-requir
 name-list-name-list-requires t c κs = search turning-names
 
 name-list-returns-5 : (t : ℕ) → name-list-lts.Need-returns-5 (
-  run-end-reads.Asked,
-  run-end-reads.Learnt,
+  span-end-reads.Asked,
+  span-end-reads.Learnt,
   byte-at-reads.Asked,
   byte-at-reads.Learnt,
   patterns-below t,
@@ -403,8 +403,8 @@ patterns-returns-4 t c = search turning-patterns
 
 pub +name-list+patterns-spec : {M : Type 1} → statement M
 +name-list+patterns-spec = close μ-name-list μ-patterns (λ t. name-list-lts.spec (
-  run-end-reads.Asked,
-  run-end-reads.Learnt,
+  span-end-reads.Asked,
+  span-end-reads.Learnt,
   byte-at-reads.Asked,
   byte-at-reads.Learnt,
   patterns-below t,
@@ -414,7 +414,7 @@ pub +name-list+patterns-spec : {M : Type 1} → statement M
 )
     (name-list-at t)
     name-list.Post
-    (name-list-run-end-requires t)
+    (name-list-span-end-requires t)
     (name-list-returns t)
     (name-list-returns-2 t)
     (name-list-shared-slice-read-if3 t)

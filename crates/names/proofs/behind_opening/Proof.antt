@@ -2,11 +2,11 @@ use Rattle.names.proofs.PatternAt.{behind}
 use Rattle.names.proofs.behind_opening.Statement.{statement}
 use Rattle.names.proofs.behind_opening.Tie as tie
 
-run-end-requires : tie.Need-run-end-requires
-run-end-requires c κs = search behind
+span-end-requires : tie.Need-span-end-requires
+span-end-requires c κs = search behind
 
-run-end-requires-2 : tie.Need-run-end-requires-2
-run-end-requires-2 c κs = search behind
+span-end-requires-2 : tie.Need-span-end-requires-2
+span-end-requires-2 c κs = search behind
 
 returns : tie.Need-returns
 returns c = search behind
@@ -48,8 +48,8 @@ pub behind-opening-spec : {M : Type 1} → statement M
 behind-opening-spec =
     tie.close
     (tie.spec
-    run-end-requires
-    run-end-requires-2
+    span-end-requires
+    span-end-requires-2
     returns
     byte-at-requires
     returns-2
