@@ -13,7 +13,7 @@ use Rattle.base.proofs.Loops.{and-true}
 use Rattle.timetable.specs.Layout.{headerSize, bitFieldSize, stopSize, interchangeSize, classSize}
 use Rattle.timetable.specs.Table.{rowsIn, bitFieldAt, stopAt, interchangeAt, classAt, servicesIn, usedWords, firstDay, periodDays, bitFields#, stops#, interchanges#, services#, servicesPlace, classes#, used, resolved, stopsAt, tableOf, recordsSound, headSound, isTable}
 use Rattle.table.specs.JustTable.{JustTable, headerSound, stopsPlace, interchangesPlace, classesPlace}
-use Rattle.table.proofs.Says.{HeadOf, table-parts, table-says, table-records}
+use Rattle.table.proofs.Says.{HeadOf, table-parts, table-says, table-word, table-records}
 
 -- ---- the words used
 
@@ -64,6 +64,10 @@ module _ (w : List ℕ) (h : JustTable w) where
 
   pub just-says : HeadOf w
   just-says = table-says w (h .table)
+
+  -- the header's words are there
+  pub just-word : (i : ℕ) → i < headerSize → i < length w
+  just-word = table-word w (h .table)
 
   pub just-used : used w ≡ w
   just-used = take-all (usedWords w) w (omega (arith, h .ends))

@@ -17,7 +17,7 @@ use Rattle.timetable.specs.Table.{rowsIn, openingAt, callAt, legsAt, recordWord
 use Rattle.timetable.specs.declared.Opening.{Opening}
 use Rattle.timetable.proofs.Rows.{rows-again, rows-out, rows-done}
 use Rattle.table.specs.JustTable.{recordEnd, headerSound, classesPlace}
-use Rattle.table.proofs.Says.{Sizes, sizes-say, record-says, service-parts, HeadOf, header-says, table-says}
+use Rattle.table.proofs.Says.{Sizes, sizes-say, record-says, service-parts, HeadOf, header-says, header-word, table-says, table-word}
 
 -- ---- the length of a record: said is its first word, y what its counts make it
 
@@ -190,31 +190,18 @@ pub ruleset whole = (tests, table-short, table-head, table-header, table-classes
 
 -- ---- the words used
 
-module _ (w : List ℕ) (e : isTable w ≡ true) where
-  pub used-first : 0 < length w
-  used-first = omega (arith, table-says w e .used-low, table-says w e .used-high)
-
-  pub used-room : (s : ℕ) → s ≡ usedWords w → s ≤ length w
-  used-room s q = omega (arith, table-says w e .used-high)
+pub used-room : (w : List ℕ) → isTable w ≡ true → (s : ℕ) → s ≡ usedWords w → s ≤ length w
+used-room w e s q = omega (arith, table-says w e .used-high)
 
 pub used-are : (w : List ℕ) (s : ℕ) → s ≡ usedWords w → take (s - 0) w ≡ used w
 used-are w s q = rw (sub-zero, q)
 
-pub ruleset front = (tests, used-first, used-room, used-are)
+pub ruleset front = (tests, table-word, used-room, used-are)
 
 -- ---- the classes, for `search classes`: of a sound header, where they begin; at is where the services begin, k how many classes there are, end how
 -- many words are used
 
 module _ (w : List ℕ) (e : headerSound w ≡ true) where
-  pub classes-used : 0 < length w
-  classes-used = omega (arith, header-says w e .used-low, header-says w e .used-high)
-
-  pub classes-services : 7 < length w
-  classes-services = omega (arith, header-says w e .used-low, header-says w e .used-high)
-
-  pub classes-count : 8 < length w
-  classes-count = omega (arith, header-says w e .used-low, header-says w e .used-high)
-
   module _ (at k : ℕ) (p : at ≡ servicesPlace w) (q : k ≡ classes# w) where
     pub classes-before : classSize * k ≤ at
     classes-before = omega (arith, header-says w e .place)
@@ -249,4 +236,4 @@ module _ (w : List ℕ) (p k : ℕ) (r : Bool) (h : 0 < k) (v : every classSound
 pub classes-done : (w : List ℕ) (k : ℕ) (r : Bool) → k ≤ 0 → every classSound (rowsIn classAt classSize k w) ≡ r → true ≡ r
 classes-done w k r = rows-done classSound classAt classSize w k r
 
-pub ruleset classes = (tests, classes-used, classes-services, classes-count, classes-before, classes-begin, classes-end, classes-room, classes-of, classes-again, classes-out, classes-done)
+pub ruleset classes = (tests, header-word, classes-before, classes-begin, classes-end, classes-room, classes-of, classes-again, classes-out, classes-done)

@@ -1,5 +1,6 @@
 -- What the table's tests say, as facts: `table-says` of the header, `record-says` of a record at the front of the words (its counts, where it ends,
--- its opening line, its calls), `call-sound` of the i-th of its calls, `call-says` of one. Assumes nothing.
+-- its opening line, its calls), `call-sound` of the i-th of its calls, `call-says` of one; the words of a header and of a record's head are there
+-- (`header-word`, `table-word`, `head-word`). Assumes nothing.
 use mathlib.Core.Path.{_≡_, _∙_, sym}
 use mathlib.Core.List.{List}
 use mathlib.Core.Bool.{true, false, _&&_}
@@ -47,6 +48,10 @@ sizes-say w e =
       said = eqb-true (recordWords w) (recordEnd w) said;
       inside = omega (arith, eqb-true (recordWords w) (recordEnd w) said, leb-true (recordWords w) (length w) room);
     }
+
+-- the words of its head are there
+pub head-word : (w : List ℕ) → sizesSound w ≡ true → (i : ℕ) → i < serviceHead → i < length w
+head-word w e i h = omega (arith, sizes-say w e .head)
 
 -- what it holds, read by its sections, in a table with so many stops
 pub service-parts : (stops : ℕ) (w : List ℕ) → serviceSound stops (serviceAt w) ≡ (openingSound (openingAt w) && (every (callSound stops) (rowsIn callAt callSize (calls# w) (drop serviceHead w)) && (every (legsSound false (calls# w)) (rowsIn (legsAt 1) categorySize (categories# w) (drop (categoryPlace w) w)) && (every (legsSound false (calls# w)) (rowsIn (legsAt 1) daySize (days# w) (drop (dayPlace w) w)) && every (legsSound true (calls# w)) (rowsIn (legsAt 2) extraSize (extras# w) (drop (extraPlace w) w))))))
@@ -124,6 +129,9 @@ HeadOf w = Head (length w) (usedWords w) (firstDay w) (periodDays w) (bitFields#
 pub header-says : (w : List ℕ) → headerSound w ≡ true → HeadOf w
 header-says w = head-says (length w) (usedWords w) (firstDay w) (periodDays w) (bitFields# w) (stops# w) (interchanges# w) (servicesPlace w) (classes# w)
 
+pub header-word : (w : List ℕ) → headerSound w ≡ true → (i : ℕ) → i < headerSize → i < length w
+header-word w e i h = omega (arith, header-says w e .used-low, header-says w e .used-high)
+
 -- its parts
 pub record Parts (w : List ℕ) : Type 0 where
   pub header : headerSound w ≡ true
@@ -139,6 +147,9 @@ table-parts w e =
 
 pub table-says : (w : List ℕ) → isTable w ≡ true → HeadOf w
 table-says w e = header-says w (table-parts w e .header)
+
+pub table-word : (w : List ℕ) → isTable w ≡ true → (i : ℕ) → i < headerSize → i < length w
+table-word w e = header-word w (table-parts w e .header)
 
 pub table-records : (w : List ℕ) → isTable w ≡ true → recordsSound (stops# w) (services# w) (drop (servicesPlace w) (used w)) ≡ true
 table-records w e = table-parts w e .records
