@@ -2,9 +2,9 @@
 use mathlib.Core.Path.{_≡_, refl, sym, ap, _∙_}
 use mathlib.Core.List.{List, [], _∷_, map}
 use mathlib.Core.Bool.{Bool, true, false, not}
-use Prim.Native.Nat.{ℕ, zero, suc, _+_, _-_, _*_, _^_, _≤_, _<_}
+use Prim.Native.Nat.{ℕ, zero, suc, _+_, _-_, _*_, _≤_, _<_}
 use native.Mathlib.Omega.{arith}
-use lib.ListN.{length, getD, take, drop, length-map}
+use lib.ListN.{length, take, drop, length-map}
 use lib.Seq.{drop-drop}
 use borrow.Author.Tests.{ne-eqb, le-leb, not-true, not-false}
 use Rattle.base.specs.Lists.{upto, below}
@@ -14,12 +14,12 @@ use Rattle.timetable.specs.Delivery.{Delivery, Service, StopRecord}
 use Rattle.timetable.specs.Legs.{operated, stretches, legCount, operatedLegs}
 use Rattle.timetable.specs.Runs.{hasRun}
 use Rattle.timetable.specs.declared.Opening.{Opening}
-use Rattle.timetable.specs.Table.{calls#, rowsIn, callAt, openingAt, serviceAt, stopNumberAt, withStop, resolved, tableOf, sizesSound}
+use Rattle.timetable.specs.Table.{rowsIn, callAt, openingAt, calls#, serviceAt, periodDays, stops#, services#, stopNumberAt, withStop, resolved, tableOf, sizesSound}
 use Rattle.timetable.specs.Questions.{legRefusal, firstRefusal, stretchOf}
 use Rattle.timetable.proofs.Rows.{length-rows, rows-take, rows-drop}
 use Rattle.table.specs.JustTable.{JustTable}
-use Rattle.table.proofs.Says.{sizes-say, record-sized}
-use Rattle.table.proofs.JustTable.{whole-says}
+use Rattle.table.proofs.Says.{sizes-say, head-word, record-sized}
+use Rattle.table.proofs.JustTable.{just-says, just-word}
 use Rattle.lookups.specs.Lookups.{servicePlace}
 use Rattle.lookups.proofs.Services.{service-none, service-is, service-sound}
 use Rattle.legs.specs.Run.{noted, gap}
@@ -32,14 +32,14 @@ use Rattle.course.proofs.Stretch.{start-is, none-on, legs-are, end-afte
 
 -- ---- along a stretch; `number` is what its calls are refused for
 
-pub stretch-calls : (s : List ℕ) (a n : ℕ) → a + n < getD s 6 0 → take (n + 1) (drop a (serviceAt s .calls)) ≡ callsFrom s a (n + 1)
+pub stretch-calls : (s : List ℕ) (a n : ℕ) → a + n < calls# s → take (n + 1) (drop a (serviceAt s .calls)) ≡ callsFrom s a (n + 1)
 unfolding serviceAt callsFrom
 stretch-calls s a n b =
-    ap (take (n + 1)) (rows-drop callAt callSize (getD s 6 0) a (drop serviceHead s))
-    ∙ rows-take callAt callSize (n + 1) (getD s 6 0 - a) (drop (callSize * a) (drop serviceHead s)) (omega arith)
+    ap (take (n + 1)) (rows-drop callAt callSize (calls# s) a (drop serviceHead s))
+    ∙ rows-take callAt callSize (n + 1) (calls# s - a) (drop (callSize * a) (drop serviceHead s)) (omega arith)
     ∙ ap (rowsIn callAt callSize (n + 1)) (drop-drop (callSize * a) serviceHead s)
 
-module _ (s : List ℕ) (a n number : ℕ) (b : a + n < getD s 6 0) (e : noted number ≡ callsFault (serviceAt s) a n 0 0 (callsFrom s a (n + 1))) where
+module _ (s : List ℕ) (a n number : ℕ) (b : a + n < calls# s) (e : noted number ≡ callsFault (serviceAt s) a n 0 0 (callsFrom s a (n + 1))) where
   stretch-by : stretchCourse (serviceAt s) a n ≡ courseBy (noted number) (Along a n)
   unfolding stretchCourse
   stretch-by = rw (stretch-calls s a n b, sym e)
@@ -56,44 +56,41 @@ module _ (s : List ℕ) (e : sizesSound s ≡ true) where
   pub head-words : serviceHead ≤ length s
   head-words = omega (arith, sizes-say s e .head)
 
-  pub calls-word : 6 < length s
-  calls-word = omega (arith, sizes-say s e .head)
-
-  pub legs-fit : 1 ≤ getD s 6 0
+  pub legs-fit : 1 ≤ calls# s
   legs-fit = omega (arith, sizes-say s e .calls-low)
 
-pub legs-count : (s : List ℕ) → legCount (serviceAt s) ≡ getD s 6 0 - 1
+pub legs-count : (s : List ℕ) → legCount (serviceAt s) ≡ calls# s - 1
 unfolding serviceAt
-legs-count s = rw (length-rows callAt callSize (getD s 6 0) (drop serviceHead s))
+legs-count s = rw (length-rows callAt callSize (calls# s) (drop serviceHead s))
 
-module _ (d : Delivery) (s : List ℕ) (k a : ℕ) (p : a ≡ 0 + gap true (map (operated (d .fields) (serviceAt s .days) k) (upto (getD s 6 0 - 1 - 0) 0))) where
+module _ (d : Delivery) (s : List ℕ) (k a : ℕ) (p : a ≡ 0 + gap true (map (operated (d .fields) (serviceAt s .days) k) (upto (calls# s - 1 - 0) 0))) where
   abbrev runs : ℕ → Bool
   runs = operated (d .fields) (serviceAt s .days) k
 
-  legs : operatedLegs (d .fields) (serviceAt s) k ≡ map (operated (d .fields) (serviceAt s .days) k) (below (getD s 6 0 - 1))
+  legs : operatedLegs (d .fields) (serviceAt s) k ≡ map (operated (d .fields) (serviceAt s .days) k) (below (calls# s - 1))
   legs = rw (legs-count s)
 
-  pub day-idle : getD s 6 0 - 1 ≤ a → NotRunning ≡ dayCourse d (serviceAt s) k
+  pub day-idle : calls# s - 1 ≤ a → NotRunning ≡ dayCourse d (serviceAt s) k
   unfolding dayCourse
-  day-idle h = rw (legs, none-on runs (getD s 6 0 - 1) a p h)
+  day-idle h = rw (legs, none-on runs (calls# s - 1) a p h)
 
-  module _ (h : a < getD s 6 0 - 1) (b : ℕ) (q : b ≡ a + gap false (map (operated (d .fields) (serviceAt s .days) k) (upto (getD s 6 0 - 1 - a) a))) where
+  module _ (h : a < calls# s - 1) (b : ℕ) (q : b ≡ a + gap false (map (operated (d .fields) (serviceAt s .days) k) (upto (calls# s - 1 - a) a))) where
     pub day-order : a ≤ b
-    day-order = end-after runs (getD s 6 0 - 1) a p h b q
+    day-order = end-after runs (calls# s - 1) a p h b q
 
-    pub day-within : a + (b - a) < getD s 6 0
-    day-within = omega (arith, day-order, end-within runs (getD s 6 0 - 1) a p h b q)
+    pub day-within : a + (b - a) < calls# s
+    day-within = omega (arith, day-order, end-within runs (calls# s - 1) a p h b q)
 
-    module _ (c : ℕ) (r : c ≡ b + gap true (map (operated (d .fields) (serviceAt s .days) k) (upto (getD s 6 0 - 1 - b) b))) where
-      pub day-two : c < getD s 6 0 - 1 → Refused 35 ≡ dayCourse d (serviceAt s) k
+    module _ (c : ℕ) (r : c ≡ b + gap true (map (operated (d .fields) (serviceAt s .days) k) (upto (calls# s - 1 - b) b))) where
+      pub day-two : c < calls# s - 1 → Refused 35 ≡ dayCourse d (serviceAt s) k
       unfolding dayCourse
       day-two g =
-          let two : 2 ≤ stretches false (map (operated (d .fields) (serviceAt s .days) k) (below (getD s 6 0 - 1))) = two-run runs (getD s 6 0 - 1) a p h b q c r g in
-          rw (legs, ne-eqb (stretches false (map (operated (d .fields) (serviceAt s .days) k) (below (getD s 6 0 - 1)))) 0 (λ z. absurd (omega arith)), le-leb 2 (stretches false (map (operated (d .fields) (serviceAt s .days) k) (below (getD s 6 0 - 1)))) two)
+          let two : 2 ≤ stretches false (map (operated (d .fields) (serviceAt s .days) k) (below (calls# s - 1))) = two-run runs (calls# s - 1) a p h b q c r g in
+          rw (legs, ne-eqb (stretches false (map (operated (d .fields) (serviceAt s .days) k) (below (calls# s - 1)))) 0 (λ z. absurd (omega arith)), le-leb 2 (stretches false (map (operated (d .fields) (serviceAt s .days) k) (below (calls# s - 1)))) two)
 
-      pub day-one : getD s 6 0 - 1 ≤ c → (x : Course) → x ≡ stretchCourse (serviceAt s) a (b - a) → x ≡ dayCourse d (serviceAt s) k
+      pub day-one : calls# s - 1 ≤ c → (x : Course) → x ≡ stretchCourse (serviceAt s) a (b - a) → x ≡ dayCourse d (serviceAt s) k
       unfolding dayCourse
-      day-one g x f = f ∙ sym (rw (legs, one-runs runs (getD s 6 0 - 1) a p h b q c r g, legs-are runs (getD s 6 0 - 1) a p h b q, start-is runs (getD s 6 0 - 1) a p))
+      day-one g x f = f ∙ sym (rw (legs, one-runs runs (calls# s - 1) a p h b q c r g, legs-are runs (calls# s - 1) a p h b q, start-is runs (calls# s - 1) a p))
 
 -- ---- of a service with opening line o; t says whether it has the run, `number` is what its legs are refused for
 
@@ -106,7 +103,7 @@ module _ (d : Delivery) (s : List ℕ) (r k : ℕ) (o : Opening) (a : o ≡ open
   unfolding serviceCourse
   no-run h = rw (sym has-run ∙ not-true t h)
 
-  module _ (h : not t ≡ false) (number : ℕ) (f : noted number ≡ firstRefusal (legRefusal d (serviceAt s)) (below (getD s 6 0 - 1))) where
+  module _ (h : not t ≡ false) (number : ℕ) (f : noted number ≡ firstRefusal (legRefusal d (serviceAt s)) (below (calls# s - 1))) where
     service-by : serviceCourse d (serviceAt s) r k ≡ courseBy (noted number) (dayCourse d (serviceAt s) k)
     unfolding serviceCourse
     service-by = rw (sym has-run ∙ not-false t h, legs-count s, sym f)
@@ -149,24 +146,21 @@ module _ (stops : List StopRecord) (s : Service) where
 -- ---- of an index
 
 module _ (w : List ℕ) (h : JustTable w) where
-  pub count-word : 6 < length w
-  count-word = omega (arith, whole-says w h .used-low, whole-says w h .used-high)
-
-  pub day-low : (k : ℕ) → k < getD w 2 0 → k < mostPeriodDays
-  day-low k l = omega (arith, whole-says w h .days-high)
+  pub day-low : (k : ℕ) → k < periodDays w → k < mostPeriodDays
+  day-low k l = omega (arith, just-says w h .days-high)
 
   module _ (i r k : ℕ) where
-    pub index-no : getD w 6 0 ≤ i → Refused 24 ≡ courseOf (tableOf w) i r k
+    pub index-no : services# w ≤ i → Refused 24 ≡ courseOf (tableOf w) i r k
     unfolding courseOf
     index-no b = rw (service-none w h i b)
 
-    pub index-yes : i < getD w 6 0 → (s : List ℕ) → s ≡ drop (servicePlace w i) w → (x : Course) → x ≡ serviceCourse (tableOf w) (serviceAt s) r k → x ≡ courseOf (tableOf w) i r k
+    pub index-yes : i < services# w → (s : List ℕ) → s ≡ drop (servicePlace w i) w → (x : Course) → x ≡ serviceCourse (tableOf w) (serviceAt s) r k → x ≡ courseOf (tableOf w) i r k
     unfolding courseOf
     index-yes b s q x g = g ∙ sym (rw (service-is w h i b, q) (course-resolved (tableOf w .stops) (serviceAt (drop (servicePlace w i) w)) (tableOf w) r k))
 
-pub index-sound : (w : List ℕ) → JustTable w → (i : ℕ) → i < getD w 6 0 → (s : List ℕ) → s ≡ drop (servicePlace w i) w → sizesSound s ≡ true
-index-sound w h i b s q = record-sized (getD w 4 0) s (rw q (service-sound w h i b))
+pub index-sound : (w : List ℕ) → JustTable w → (i : ℕ) → i < services# w → (s : List ℕ) → s ≡ drop (servicePlace w i) w → sizesSound s ≡ true
+index-sound w h i b s q = record-sized (stops# w) s (rw q (service-sound w h i b))
 
-pub ruleset course = (tests, stretch-no, stretch-yes, head-words, calls-word, legs-fit, day-idle, day-order, day-within, day-two, day-one, no-run, legs-no, legs-yes)
+pub ruleset course = (tests, stretch-no, stretch-yes, head-words, head-word, legs-fit, day-idle, day-order, day-within, day-two, day-one, no-run, legs-no, legs-yes)
 
-pub ruleset index = (tests, count-word, day-low, index-no, index-yes, index-sound)
+pub ruleset index = (tests, just-word, day-low, index-no, index-yes, index-sound)

@@ -1,11 +1,11 @@
 -- What a course says of its service, and that a walk is the rows along it. Assumes nothing.
-use mathlib.Core.Path.{_≡_, refl, sym, ap, _∙_}
+use mathlib.Core.Path.{_≡_, refl, ap, _∙_}
 use mathlib.Core.List.{List, [], _∷_}
 use mathlib.Core.Bool.{Bool, true, false, cond, not}
 use mathlib.Core.Option.{Option, none, some}
 use Prim.Native.Nat.{ℕ, _+_, _≤_}
 use native.Mathlib.Omega.{arith}
-use lib.ListN.{length, drop, getElem?, length-drop}
+use lib.ListN.{length, drop, length-drop}
 use lib.Dec.{leb, eqb}
 use Rattle.base.specs.Lists.{below}
 use Rattle.base.proofs.Laws.{apart}
@@ -13,10 +13,10 @@ use Rattle.base.proofs.Lists.{length-map-upto}
 use Rattle.timetable.specs.Delivery.{Service, Delivery}
 use Rattle.timetable.specs.Legs.{operated, stretches, legCount, operatedLegs}
 use Rattle.timetable.specs.Runs.{hasRun, lateness}
-use Rattle.timetable.specs.Questions.{legRefusal, firstRefusal, idleLegs, leadingLegs, stretchOf, stretchCalls, stretchJourney, onDay, serviceJourney, journeyBy}
+use Rattle.timetable.specs.Questions.{legRefusal, firstRefusal, idleLegs, leadingLegs, stretchOf, stretchCalls, onDay, serviceJourney, journeyBy}
 use Rattle.rows.specs.Rows.{callsFault}
 use Rattle.rows.proofs.Calls.{faults-are}
-use Rattle.course.specs.Course.{courseBy, stretchFrom, stretchCourse, legsCourse, dayCourse, serviceCourse, courseOf, indexedCourse, rowsAlong}
+use Rattle.course.specs.Course.{courseBy, stretchFrom, stretchCourse, legsCourse, dayCourse, serviceCourse, rowsAlong}
 use Rattle.course.specs.declared.Course.{Course}
 use Rattle.course.specs.declared.Course.the-variants.{Along, NotRunning, Refused}
 

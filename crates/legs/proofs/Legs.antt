@@ -6,19 +6,20 @@ use mathlib.Core.Option.{Option}
 use Prim.Native.Nat.{ℕ, _+_, _-_, _*_, _^_, _≤_, _<_}
 use native.Mathlib.Nat.{sub-zero, add-zero}
 use native.Mathlib.Omega.{arith}
-use lib.ListN.{length, getD, drop, length-drop}
+use lib.ListN.{length, drop, length-drop}
 use lib.Dec.{eqb}
 use borrow.Author.Tests.{not-true, not-false, ne-eqb}
 use Rattle.base.specs.Lists.{every, some-of, upto, below}
 use Rattle.base.proofs.Laws.{tests}
 use Rattle.base.proofs.Loops.{upto-next, upto-none}
+use Rattle.timetable.specs.Layout.{daySize}
 use Rattle.timetable.specs.Delivery.{DayRange, Delivery}
 use Rattle.timetable.specs.Offences.{_<|>_}
 use Rattle.timetable.specs.Legs.{covering, operated}
-use Rattle.timetable.specs.Table.{rowsIn, dayAt, dayPlace, serviceAt, sizesSound}
+use Rattle.timetable.specs.Table.{rowsIn, dayAt, days#, dayPlace, serviceAt, sizesSound}
 use Rattle.timetable.specs.Questions.{legRefusal, firstRefusal}
 use Rattle.table.specs.JustTable.{recordEnd}
-use Rattle.table.proofs.Says.{sizes-say}
+use Rattle.table.proofs.Says.{sizes-say, head-word}
 use Rattle.table.proofs.Records.{rest-from}
 use Rattle.cover.specs.Cover.{onceIn}
 use Rattle.cover.proofs.Rows.{covering-rows}
@@ -30,9 +31,6 @@ module _ (s : List ℕ) (e : sizesSound s ≡ true) where
   pub record-ends : recordEnd s ≤ length s
   record-ends = sizes-say s e .inside
 
-  pub days-word : 8 < length s
-  days-word = omega (arith, sizes-say s e .head)
-
   module _ (p : ℕ) (q : p ≡ dayPlace s) where
     pub days-within : p ≤ length s
     days-within = omega (arith, record-ends)
@@ -40,22 +38,22 @@ module _ (s : List ℕ) (e : sizesSound s ≡ true) where
     pub days-scaled : length s * 4 < 2 ^ 63 → p * 4 < 2 ^ 64
     days-scaled l = omega (arith, days-within)
 
-  pub days-room : (v : List ℕ) → v ≡ drop (dayPlace s) s → getD s 8 0 * 3 ≤ length v
+  pub days-room : (v : List ℕ) → v ≡ drop (dayPlace s) s → days# s * daySize ≤ length v
   days-room v q = rw (q, length-drop (dayPlace s) s) (omega (arith, record-ends))
 
 -- ---- one leg; x says whether it is covered once, y whether its bit field is known
 
 module _ (d : Delivery) (s v : List ℕ) (leg : ℕ) (q : v ≡ drop (dayPlace s) s) where
-  module _ (x : Bool) (e : x ≡ onceIn 3 (getD s 8 0) v leg) where
+  module _ (x : Bool) (e : x ≡ onceIn daySize (days# s) v leg) where
     once-is : eqb (covering (λ (r : DayRange). r .legs) (serviceAt s .days) leg) 1 ≡ x
     unfolding serviceAt
-    once-is = sym (e ∙ ap (λ (m : ℕ). eqb m 1) (covering-rows dayAt (λ (r : DayRange). r .legs) 3 (λ u. refl) leg (getD s 8 0) v) ∙ rw q)
+    once-is = sym (e ∙ ap (λ (m : ℕ). eqb m 1) (covering-rows dayAt (λ (r : DayRange). r .legs) daySize (λ u. refl) leg (days# s) v) ∙ rw q)
 
     pub leg-34 : not x ≡ true → noted 34 ≡ legRefusal d (serviceAt s) leg
     unfolding _<|>_
     leg-34 n = rw (once-is, not-true x n)
 
-    module _ (n : not x ≡ false) (y : Bool) (f : y ≡ every (rangeKnown (d .fields) leg) (rowsIn dayAt 3 (getD s 8 0) v)) where
+    module _ (n : not x ≡ false) (y : Bool) (f : y ≡ every (rangeKnown (d .fields) leg) (rowsIn dayAt daySize (days# s) v)) where
       known-is : every (rangeKnown (d .fields) leg) (serviceAt s .days) ≡ y
       unfolding serviceAt
       known-is = sym (f ∙ rw q)
@@ -68,11 +66,11 @@ module _ (d : Delivery) (s v : List ℕ) (leg : ℕ) (q : v ≡ drop (dayPlace s
       unfolding _<|>_ rangeKnown
       leg-fine m = rw (once-is, not-false x n, known-is, not-false y m)
 
-  pub leg-operated : (k : ℕ) (x : Bool) → x ≡ some-of (rangeRuns (d .fields) k leg) (rowsIn dayAt 3 (getD s 8 0) v) → x ≡ operated (d .fields) (serviceAt s .days) k leg
+  pub leg-operated : (k : ℕ) (x : Bool) → x ≡ some-of (rangeRuns (d .fields) k leg) (rowsIn dayAt daySize (days# s) v) → x ≡ operated (d .fields) (serviceAt s .days) k leg
   unfolding rangeRuns serviceAt
   leg-operated k x e = e ∙ rw q
 
-pub ruleset leg = (tests, record-ends, days-word, days-within, days-scaled, days-room, rest-from, leg-34, leg-31, leg-fine, leg-operated)
+pub ruleset leg = (tests, record-ends, head-word, days-within, days-scaled, days-room, rest-from, leg-34, leg-31, leg-fine, leg-operated)
 
 -- ---- all legs: the number of the leg at i
 

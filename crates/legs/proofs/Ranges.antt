@@ -11,6 +11,7 @@ use borrow.Author.Tests.{lt-leb, le-leb, le-ltb, lt-ltb}
 use Rattle.base.specs.Lists.{every, some-of}
 use Rattle.base.proofs.Laws.{tests}
 use Rattle.bitfield.specs.BitField.{runsOn}
+use Rattle.timetable.specs.Layout.{daySize, mostPeriodDays}
 use Rattle.timetable.specs.Delivery.{BitField, DayRange}
 use Rattle.timetable.specs.Legs.{fieldKnown, fieldRuns}
 use Rattle.timetable.specs.Table.{rowsIn, dayAt}
@@ -45,7 +46,7 @@ module _ (fields : List BitField) (field from to leg : ℕ) where
     runs-after h g = rw (le-leb from leg h, le-ltb leg to g)
 
     -- ws are the words that the look-up gave
-    pub runs-on : from ≤ leg → leg < to → k < 380 → (ws : List ℕ) → ((d : ℕ) → d < 380 → runsOn ws d ≡ fieldRuns fields field d) → (x : Bool) → x ≡ runsOn ws k → x ≡ rangeRuns fields k leg range
+    pub runs-on : from ≤ leg → leg < to → k < mostPeriodDays → (ws : List ℕ) → ((d : ℕ) → d < mostPeriodDays → runsOn ws d ≡ fieldRuns fields field d) → (x : Bool) → x ≡ runsOn ws k → x ≡ rangeRuns fields k leg range
     unfolding rangeRuns
     runs-on h g l ws f x e = rw (le-leb from leg h, lt-ltb leg to g) (e ∙ f k l)
 
@@ -67,36 +68,36 @@ pub ruleset ranges = (tests, known-before, known-after, known-on, runs-before, r
 -- ---- n ranges: `left` of them stand at p and after it
 
 module _ (fields : List BitField) (leg : ℕ) (v : List ℕ) (p left : ℕ) (x r : Bool) (h : 0 < left) where
-  module _ (e : x ≡ rangeKnown fields leg (dayAt (drop p v))) (i : every (rangeKnown fields leg) (rowsIn dayAt 3 left (drop p v)) ≡ r) where
-    pub known-again : not x ≡ false → every (rangeKnown fields leg) (rowsIn dayAt 3 (left - 1) (drop (p + 3) v)) ≡ r
-    known-again n = rows-again (rangeKnown fields leg) dayAt 3 v p left r x h e i n
+  module _ (e : x ≡ rangeKnown fields leg (dayAt (drop p v))) (i : every (rangeKnown fields leg) (rowsIn dayAt daySize left (drop p v)) ≡ r) where
+    pub known-again : not x ≡ false → every (rangeKnown fields leg) (rowsIn dayAt daySize (left - 1) (drop (p + daySize) v)) ≡ r
+    known-again n = rows-again (rangeKnown fields leg) dayAt daySize v p left r x h e i n
 
     pub known-out : not x ≡ true → false ≡ r
-    known-out n = rows-out (rangeKnown fields leg) dayAt 3 v p left r x h e i n
+    known-out n = rows-out (rangeKnown fields leg) dayAt daySize v p left r x h e i n
 
-  module _ (k : ℕ) (e : x ≡ rangeRuns fields k leg (dayAt (drop p v))) (i : some-of (rangeRuns fields k leg) (rowsIn dayAt 3 left (drop p v)) ≡ r) where
-    runs-here : (x || some-of (rangeRuns fields k leg) (rowsIn dayAt 3 (left - 1) (drop (p + 3) v))) ≡ r
+  module _ (k : ℕ) (e : x ≡ rangeRuns fields k leg (dayAt (drop p v))) (i : some-of (rangeRuns fields k leg) (rowsIn dayAt daySize left (drop p v)) ≡ r) where
+    runs-here : (x || some-of (rangeRuns fields k leg) (rowsIn dayAt daySize (left - 1) (drop (p + daySize) v))) ≡ r
     unfolding some-of
     runs-here =
-        ap (λ (b : Bool). b || some-of (rangeRuns fields k leg) (rowsIn dayAt 3 (left - 1) (drop (p + 3) v))) e
-        ∙ (rw (rows-left dayAt 3 left p v h) at i)
+        ap (λ (b : Bool). b || some-of (rangeRuns fields k leg) (rowsIn dayAt daySize (left - 1) (drop (p + daySize) v))) e
+        ∙ (rw (rows-left dayAt daySize left p v h) at i)
 
-    pub runs-again : x ≡ false → some-of (rangeRuns fields k leg) (rowsIn dayAt 3 (left - 1) (drop (p + 3) v)) ≡ r
+    pub runs-again : x ≡ false → some-of (rangeRuns fields k leg) (rowsIn dayAt daySize (left - 1) (drop (p + daySize) v)) ≡ r
     runs-again n = rw n at runs-here
 
     pub runs-out : x ≡ true → true ≡ r
     runs-out n = rw n at runs-here
 
-pub known-start : (fields : List BitField) (leg n : ℕ) (v : List ℕ) → every (rangeKnown fields leg) (rowsIn dayAt 3 n (drop 0 v)) ≡ every (rangeKnown fields leg) (rowsIn dayAt 3 n v)
+pub known-start : (fields : List BitField) (leg n : ℕ) (v : List ℕ) → every (rangeKnown fields leg) (rowsIn dayAt daySize n (drop 0 v)) ≡ every (rangeKnown fields leg) (rowsIn dayAt daySize n v)
 known-start fields leg n v = refl
 
-pub known-done : (fields : List BitField) (leg left p : ℕ) (v : List ℕ) (r : Bool) → left ≤ 0 → every (rangeKnown fields leg) (rowsIn dayAt 3 left (drop p v)) ≡ r → true ≡ r
-known-done fields leg left p v r h i = rows-done (rangeKnown fields leg) dayAt 3 (drop p v) left r h i
+pub known-done : (fields : List BitField) (leg left p : ℕ) (v : List ℕ) (r : Bool) → left ≤ 0 → every (rangeKnown fields leg) (rowsIn dayAt daySize left (drop p v)) ≡ r → true ≡ r
+known-done fields leg left p v r h i = rows-done (rangeKnown fields leg) dayAt daySize (drop p v) left r h i
 
-pub runs-start : (fields : List BitField) (k leg n : ℕ) (v : List ℕ) → some-of (rangeRuns fields k leg) (rowsIn dayAt 3 n (drop 0 v)) ≡ some-of (rangeRuns fields k leg) (rowsIn dayAt 3 n v)
+pub runs-start : (fields : List BitField) (k leg n : ℕ) (v : List ℕ) → some-of (rangeRuns fields k leg) (rowsIn dayAt daySize n (drop 0 v)) ≡ some-of (rangeRuns fields k leg) (rowsIn dayAt daySize n v)
 runs-start fields k leg n v = refl
 
-pub runs-done : (fields : List BitField) (k leg left p : ℕ) (v : List ℕ) (r : Bool) → left ≤ 0 → some-of (rangeRuns fields k leg) (rowsIn dayAt 3 left (drop p v)) ≡ r → false ≡ r
+pub runs-done : (fields : List BitField) (k leg left p : ℕ) (v : List ℕ) (r : Bool) → left ≤ 0 → some-of (rangeRuns fields k leg) (rowsIn dayAt daySize left (drop p v)) ≡ r → false ≡ r
 unfolding some-of rowsIn
 runs-done fields k leg zero p v r h i = i
 runs-done fields k leg (suc left) p v r h i = absurd (omega arith)

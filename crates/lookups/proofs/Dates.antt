@@ -4,18 +4,19 @@ use mathlib.Core.List.{List}
 use mathlib.Core.Bool.{Bool, true, false, cond, not, _&&_}
 use Prim.Native.Nat.{ℕ, _+_, _-_, _≤_, _<_}
 use native.Mathlib.Omega.{arith}
-use lib.ListN.{length, getD}
+use lib.ListN.{length}
 use lib.Dec.{ltb, leb}
 use borrow.Author.Tests.{le-leb, lt-leb, lt-ltb, le-ltb, leb-true, ltb-true, not-true, not-false}
 use Rattle.base.proofs.Laws.{tests}
 use Rattle.calendar.specs.Calendar.{dayOf}
 use Rattle.calendar.specs.declared.Date.{Date}
 use Rattle.calendar.specs.declared.Date.the-variants.{Day, NoSuchDate}
-use Rattle.timetable.specs.Table.{used, tableOf, isTable}
+use Rattle.timetable.specs.Layout.{headerSize}
+use Rattle.timetable.specs.Table.{firstDay, periodDays, used, tableOf, isTable}
 use Rattle.timetable.specs.Questions.{Dated, undated, dated, datedBy, dateOf}
 use Rattle.table.specs.JustTable.{JustTable}
-use Rattle.table.proofs.Says.{table-says}
-use Rattle.table.proofs.JustTable.{used-whole, used-word}
+use Rattle.table.proofs.Says.{table-word}
+use Rattle.table.proofs.JustTable.{used-just, used-word}
 use Rattle.lookups.specs.Lookups.{periodDay, datedAsked}
 use Rattle.lookups.specs.declared.PeriodDay.{PeriodDay}
 use Rattle.lookups.specs.declared.PeriodDay.the-variants.{On, Refused}
@@ -44,18 +45,15 @@ module _ (w : List ℕ) (day month year : ℕ) (x : Bool) (e : x ≡ isTable w) 
   dated-no-table n = rw (sym e ∙ not-true x n)
 
   module _ (n : not x ≡ false) where
-    pub dated-is : (date : Date) → date ≡ dayOf day month year → (r : PeriodDay) → r ≡ periodDay (datedBy (record { start = getD w 1 0; n = getD w 2 0 }) date) → r ≡ datedAsked w day month year
+    pub dated-is : (date : Date) → date ≡ dayOf day month year → (r : PeriodDay) → r ≡ periodDay (datedBy (record { start = firstDay w; n = periodDays w }) date) → r ≡ datedAsked w day month year
     unfolding datedAsked tableOf
     dated-is date d r f = f ∙ rw (sym e ∙ not-false x n, d)
 
 module _ (w : List ℕ) (x : Bool) (e : x ≡ isTable w) (n : not x ≡ false) where
-  pub dated-word-1 : 1 < length w
-  dated-word-1 = let h = table-says w (sym e ∙ not-false x n) in omega (arith, h .used-low, h .used-high)
+  pub dated-word : (i : ℕ) → i < headerSize → i < length w
+  dated-word = table-word w (sym e ∙ not-false x n)
 
-  pub dated-word-2 : 2 < length w
-  dated-word-2 = let h = table-says w (sym e ∙ not-false x n) in omega (arith, h .used-low, h .used-high)
-
-pub ruleset dates = (tests, no-date, too-early, too-late, in-period, dated-no-table, dated-is, dated-word-1, dated-word-2)
+pub ruleset dates = (tests, no-date, too-early, too-late, in-period, dated-no-table, dated-is, dated-word)
 
 -- ---- what an answer says
 
@@ -96,20 +94,20 @@ kept true start n (Day k) = go (leb start k) (ltb k (start + n)) refl refl
         (refl, omega arith)
 
 module _ (w : List ℕ) (day month year k : ℕ) (x : PeriodDay) (e : x ≡ datedAsked w day month year) (g : x ≡ On k) where
-  said : (isTable w ≡ true) × (k < getD w 2 0)
+  said : (isTable w ≡ true) × (k < periodDays w)
   unfolding datedAsked tableOf
-  said = rw (sym e ∙ g) at (kept (isTable w) (getD w 1 0) (getD w 2 0) (dayOf day month year))
+  said = rw (sym e ∙ g) at (kept (isTable w) (firstDay w) (periodDays w) (dayOf day month year))
 
   pub dated-table : isTable w ≡ true
   dated-table = said .0
 
   -- u is the part of the words that is used
   module _ (u : List ℕ) (p : u ≡ used w) where
-    pub dated-whole : JustTable u
-    dated-whole = rw p (used-whole w dated-table)
+    pub dated-just : JustTable u
+    dated-just = rw p (used-just w dated-table)
 
-    pub dated-within : k < getD u 2 0
+    pub dated-within : k < periodDays u
     dated-within = rw (p, used-word w dated-table 2 (omega arith)) (said .1)
 
 -- for the `search` of a question that goes by a date
-pub ruleset on-a-day = (dated-table, dated-whole, dated-within)
+pub ruleset on-a-day = (dated-table, dated-just, dated-within)

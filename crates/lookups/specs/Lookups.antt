@@ -5,7 +5,7 @@ use mathlib.Core.Bool.{cond}
 use mathlib.Core.Option.{Option, none, some}
 use lib.Dec.{eqb}
 use Rattle.timetable.specs.Delivery.{StopRecord, Interchange}
-use Rattle.timetable.specs.Table.{word, tableOf, isTable}
+use Rattle.timetable.specs.Table.{word, servicesPlace, tableOf, isTable}
 use Rattle.timetable.specs.Questions.{Dated, undated, dated, dateOf}
 use Rattle.lookups.specs.declared.Found.{Found}
 use Rattle.lookups.specs.declared.Found.the-variants.{At, Nothing}
@@ -26,7 +26,7 @@ recordPlace w p zero = p
 recordPlace w p (suc i) = recordPlace w (p + word w p) i
 
 abbrev pub servicePlace : List ℕ → ℕ → ℕ
-servicePlace w i = recordPlace w (word w 7) i
+servicePlace w i = recordPlace w (servicesPlace w) i
 
 abbrev pub namePlace : StopRecord → StopName
 namePlace s = Place (s .offset) (s .size)

@@ -20,11 +20,11 @@ ghost use lib.ListN.{length, drop};
 ghost use Rattle.bitfield.specs.BitField.{runsOn};
 ghost use Rattle.timetable.specs.Files.{hasStop, hasClass};
 ghost use Rattle.timetable.specs.Legs.{fieldKnown, fieldRuns};
-ghost use Rattle.timetable.specs.Layout.{headerSize, bitFieldSize, stopSize, interchangeSize, mostPeriodDays};
-ghost use Rattle.timetable.specs.Table.{bitFields#, stops#, services#, stopAt, interchangeAt, stopNumberAt, tableOf};
+ghost use Rattle.timetable.specs.Layout.{stopSize, interchangeSize, mostPeriodDays};
+ghost use Rattle.timetable.specs.Table.{stops#, services#, stopAt, interchangeAt, stopNumberAt, tableOf};
 ghost use Rattle.timetable.specs.Questions.{datedBy, interchangeAtStop, classFor};
 ghost use Rattle.timetable.specs.StopNames.{stopNumbered};
-ghost use Rattle.table.specs.JustTable.{JustTable};
+ghost use Rattle.table.specs.JustTable.{JustTable, stopsPlace, interchangesPlace};
 ghost use Rattle.lookups.specs.Lookups.{placeOf, servicePlace, namePlace, nameIn, timesOf, periodDay, datedAsked};
 
 // A day of the period, counted from 0, or the number of a refusal.
@@ -193,7 +193,7 @@ fn times_at(w: &[u32], p: usize) -> Times
 // Where the stops begin.
 fn stops_place(w: &[u32]) -> usize
     requires { ⌜ JustTable (now w) ⌝ }
-    ensures { λ r. ⌜ r ≡ headerSize + bitFieldSize * bitFields# (now (w .entry)) ⌝ }
+    ensures { λ r. ⌜ r ≡ stopsPlace (now (w .entry)) ⌝ }
 {
     HEADER_WORDS + BIT_FIELD_WORDS * table::size(w[BIT_FIELDS_AT])
 }
@@ -201,7 +201,7 @@ fn stops_place(w: &[u32]) -> usize
 // Where the interchange records begin.
 fn interchanges_place(w: &[u32]) -> usize
     requires { ⌜ JustTable (now w) ⌝ }
-    ensures { λ r. ⌜ r ≡ headerSize + bitFieldSize * bitFields# (now (w .entry)) + stopSize * stops# (now (w .entry)) ⌝ }
+    ensures { λ r. ⌜ r ≡ interchangesPlace (now (w .entry)) ⌝ }
 {
     stops_place(w) + STOP_WORDS * table::size(w[STOPS_AT])
 }

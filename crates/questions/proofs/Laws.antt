@@ -4,36 +4,36 @@ use mathlib.Core.List.{List}
 use mathlib.Core.Bool.{Bool, true, false, cond, not, _&&_}
 use Prim.Native.Nat.{ℕ, _≤_, _<_}
 use native.Mathlib.Omega.{arith}
-use lib.ListN.{getD}
 use lib.Dec.{leb}
 use borrow.Author.Tests.{not-true, not-false, le-leb, lt-leb}
 use Rattle.base.proofs.Laws.{tests}
 use Rattle.bitfield.specs.BitField.{runsOn}
 use Rattle.timetable.specs.Files.{hasStop, hasClass}
 use Rattle.timetable.specs.Legs.{fieldKnown, fieldRuns}
-use Rattle.timetable.specs.Table.{used, tableOf, isTable}
+use Rattle.timetable.specs.Layout.{mostPeriodDays, mostClass}
+use Rattle.timetable.specs.Table.{periodDays, used, tableOf, isTable}
 use Rattle.timetable.specs.Questions.{dated, dayBy, dayAsked, interchangeAtStop, interchangeAsked, firstTimeClass, minutesFor, classFor, betweenAsked}
 use Rattle.timetable.specs.declared.DayAnswer.{DayAnswer}
 use Rattle.timetable.specs.declared.DayAnswer.the-variants.{Runs, Idle, Refused as DayRefused}
 use Rattle.timetable.specs.declared.InterchangeAnswer.the-variants.{Minutes, Refused as InterchangeRefused}
 use Rattle.table.specs.JustTable.{JustTable}
-use Rattle.table.proofs.JustTable.{used-whole, used-same, whole-says}
+use Rattle.table.proofs.JustTable.{used-just, used-same, just-says}
 use Rattle.lookups.specs.Lookups.{timesOf, datedAsked}
 use Rattle.lookups.specs.declared.PeriodDay.{PeriodDay}
 use Rattle.lookups.specs.declared.PeriodDay.the-variants.{On, Refused}
 use Rattle.lookups.specs.declared.Times.{Times}
 use Rattle.lookups.proofs.Dates.{asDated, by-dated, dated-table, on-a-day}
 
--- ---- day k of a whole table; known and ws are what the look-up of bit field b gave
+-- ---- day k of just a table; known and ws are what the look-up of bit field b gave
 
-pub day-below : (w : List ℕ) (k : ℕ) → JustTable w → k < getD w 2 0 → k < 380
-day-below w k h l = omega (arith, whole-says w h .days-high)
+pub day-below : (w : List ℕ) (k : ℕ) → JustTable w → k < periodDays w → k < mostPeriodDays
+day-below w k h l = omega (arith, just-says w h .days-high)
 
 module _ (w : List ℕ) (b k : ℕ) (known : Bool) (e : known ≡ fieldKnown b (tableOf w .fields)) where
   pub day-unknown : not known ≡ true → DayRefused 28 ≡ dayBy (tableOf w) b (dated k)
   day-unknown n = rw (sym e ∙ not-true known n)
 
-  module _ (n : not known ≡ false) (h : JustTable w) (l : k < getD w 2 0) (ws : List ℕ) (f : (d : ℕ) → d < 380 → runsOn ws d ≡ fieldRuns (tableOf w .fields) b d) (x : Bool) (g : x ≡ runsOn ws k) where
+  module _ (n : not known ≡ false) (h : JustTable w) (l : k < periodDays w) (ws : List ℕ) (f : (d : ℕ) → d < mostPeriodDays → runsOn ws d ≡ fieldRuns (tableOf w .fields) b d) (x : Bool) (g : x ≡ runsOn ws k) where
     runs-is : fieldRuns (tableOf w .fields) b k ≡ x
     runs-is = sym (g ∙ f k (day-below w k h l))
 
@@ -75,7 +75,7 @@ module _ (w : List ℕ) (stop a b : ℕ) (x : Bool) (e : x ≡ isTable w) where
   unfolding interchangeAsked
   interchange-no-table n = rw (sym e ∙ not-true x n)
 
-  module _ (n : not x ≡ false) (y : Bool) (f : y ≡ (leb a 13 && leb b 13)) where
+  module _ (n : not x ≡ false) (y : Bool) (f : y ≡ (leb a mostClass && leb b mostClass)) where
     pub interchange-class : not y ≡ true → InterchangeRefused 26 ≡ interchangeAsked w stop a b
     unfolding interchangeAsked
     interchange-class m = rw (sym e ∙ not-false x n, sym f ∙ not-true y m)
@@ -96,10 +96,10 @@ module _ (w : List ℕ) (x : Bool) (e : x ≡ isTable w) (n : not x ≡ false) w
   pub interchange-table : isTable w ≡ true
   interchange-table = sym e ∙ not-false x n
 
-  pub interchange-whole : (u : List ℕ) → u ≡ used w → JustTable u
-  interchange-whole u p = rw p (used-whole w interchange-table)
+  pub interchange-just : (u : List ℕ) → u ≡ used w → JustTable u
+  interchange-just u p = rw p (used-just w interchange-table)
 
-pub ruleset interchanges = (tests, second-first, second-second, both-first, interchange-no-table, interchange-class, interchange-unknown, interchange-minutes, interchange-table, interchange-whole)
+pub ruleset interchanges = (tests, second-first, second-second, both-first, interchange-no-table, interchange-class, interchange-unknown, interchange-minutes, interchange-table, interchange-just)
 
 -- ---- between two categories; x says whether the first is listed
 
@@ -139,4 +139,4 @@ module _ (w : List ℕ) (stop a b : ℕ) (x : Bool) (e : x ≡ isTable w) where
       unfolding betweenAsked
       between-minutes q r i = rw (sym e ∙ not-false x n, ← same-table, sym f ∙ o, sym g ∙ q, i)
 
-pub ruleset categories = (tests, first-unlisted, second-listed, minutes-are, between-no-table, between-unknown, between-unlisted, between-minutes, interchange-table, interchange-whole)
+pub ruleset categories = (tests, first-unlisted, second-listed, minutes-are, between-no-table, between-unknown, between-unlisted, between-minutes, interchange-table, interchange-just)

@@ -8,7 +8,7 @@ use native.Mathlib.Omega.{arith}
 use lib.ListN.{length, drop}
 use lib.Dec.{eqb}
 use Rattle.base.proofs.Laws.{tests}
-use Rattle.timetable.specs.Layout.{serviceHead, callSize, rowSize}
+use Rattle.timetable.specs.Layout.{serviceHead, callSize, rowSize, allFlags}
 use Rattle.timetable.specs.Delivery.{Delivery, Service}
 use Rattle.timetable.specs.Table.{rowsIn, callAt, stopNumberAt, withStop, resolved}
 use Rattle.timetable.specs.Questions.{interchangeAtStop, categoryOn, rowFlags, rowsOf}
@@ -25,15 +25,15 @@ use Rattle.rows.proofs.Calls.{calls-next}
 
 -- ---- the flags
 
-low : (f : ℕ) (t : Bool) → f ≤ 15 → cond t 0 (f % 2 + f / 4 % 2 * 4) ≤ 5
+low : (f : ℕ) (t : Bool) → f ≤ allFlags → cond t 0 (f % 2 + f / 4 % 2 * 4) ≤ 5
 low f true h = omega arith
 low f false h = omega arith
 
-high : (f : ℕ) (t : Bool) → f ≤ 15 → cond t 0 (f / 2 % 2 * 2 + f / 8 * 8) ≤ 10
+high : (f : ℕ) (t : Bool) → f ≤ allFlags → cond t 0 (f / 2 % 2 * 2 + f / 8 * 8) ≤ 10
 high f true h = omega arith
 high f false h = omega arith
 
-pub flags-fit : (n i f x y : ℕ) → f ≤ 15 → x ≡ cond (eqb i 0) 0 (f % 2 + f / 4 % 2 * 4) → y ≡ cond (eqb i n) 0 (f / 2 % 2 * 2 + f / 8 * 8) → x + y < 2 ^ 32
+pub flags-fit : (n i f x y : ℕ) → f ≤ allFlags → x ≡ cond (eqb i 0) 0 (f % 2 + f / 4 % 2 * 4) → y ≡ cond (eqb i n) 0 (f / 2 % 2 * 2 + f / 8 * 8) → x + y < 2 ^ 32
 flags-fit n i f x y h p q = omega (arith, p, q, low f (eqb i 0) h, high f (eqb i n) h)
 
 -- ---- a row

@@ -25,7 +25,7 @@ use Rattle.timetable.specs.StopNames.{stopNumbered, partFrom, nameWithin, stopN
 use Rattle.timetable.specs.declared.NameAnswer.{NameAnswer}
 use Rattle.timetable.specs.declared.NameAnswer.the-variants.{Part, Refused}
 use Rattle.table.specs.JustTable.{JustTable}
-use Rattle.table.proofs.JustTable.{used-whole, used-same}
+use Rattle.table.proofs.JustTable.{used-just, used-same}
 use Rattle.lookups.specs.Lookups.{nameIn}
 use Rattle.lookups.specs.declared.StopName.{StopName}
 use Rattle.lookups.specs.declared.StopName.the-variants.{Place, Unknown}
@@ -131,7 +131,7 @@ module _ (w : List ℕ) (x : Bool) (e : x ≡ isTable w) (n : not x ≡ false) w
   pub name-table : isTable w ≡ true
   name-table = sym e ∙ not-false x n
 
-  pub name-whole : (u : List ℕ) → u ≡ used w → JustTable u
-  name-whole u p = rw p (used-whole w name-table)
+  pub name-just : (u : List ℕ) → u ≡ used w → JustTable u
+  name-just u p = rw p (used-just w name-table)
 
-pub ruleset questions = (tests, no-table, not-asked, name-asked, name-table, name-whole)
+pub ruleset questions = (tests, no-table, not-asked, name-asked, name-table, name-just)

@@ -11,29 +11,29 @@ use lib.Dec.{leb, eqb}
 use borrow.Author.Tests.{le-leb, lt-leb, eq-eqb, ne-eqb, not-true, not-false}
 use Rattle.base.specs.Lists.{every}
 use Rattle.base.proofs.Laws.{tests, by-eqb}
-use Rattle.timetable.specs.Layout.{headerSize, classSize, serviceHead, callSize}
+use Rattle.timetable.specs.Layout.{headerSize, classSize, serviceHead, callSize, categorySize, daySize, extraSize, mostClass}
 use Rattle.timetable.specs.Runs.{openingSound}
-use Rattle.timetable.specs.Table.{word, rowsIn, openingAt, callAt, legsAt, categoryPlace, dayPlace, extraPlace, serviceAt, classAt, used, tableOf, classSound, callSound, legsSound, serviceSound, countsSound, sizesSound, recordSound, recordsSound, isTable}
+use Rattle.timetable.specs.Table.{rowsIn, openingAt, callAt, legsAt, recordWords, calls#, categories#, days#, extras#, categoryPlace, dayPlace, extraPlace, serviceAt, classAt, usedWords, stops#, services#, servicesPlace, classes#, used, tableOf, classSound, callSound, legsSound, serviceSound, countsSound, sizesSound, recordSound, recordsSound, isTable}
 use Rattle.timetable.specs.declared.Opening.{Opening}
 use Rattle.timetable.proofs.Rows.{rows-again, rows-out, rows-done}
 use Rattle.table.specs.JustTable.{recordEnd, headerSound, classesPlace}
-use Rattle.table.proofs.Says.{Sizes, sizes-say, record-says, service-parts, HeadOf, header-says, table-says}
+use Rattle.table.proofs.Says.{Sizes, sizes-say, record-says, service-parts, HeadOf, header-says, header-word, table-says, table-word}
 
 -- ---- the length of a record: said is its first word, y what its counts make it
 
-module _ (w : List ℕ) (said y : ℕ) (a : said ≡ getD w 0 0) (b : y ≡ recordEnd w) where
-  pub length-differs : (said ≡ y → ⊥) → false ≡ (eqb (word w 0) (recordEnd w) && leb (word w 0) (length w))
+module _ (w : List ℕ) (said y : ℕ) (a : said ≡ recordWords w) (b : y ≡ recordEnd w) where
+  pub length-differs : (said ≡ y → ⊥) → false ≡ (eqb (recordWords w) (recordEnd w) && leb (recordWords w) (length w))
   length-differs d = rw (← a, ← b, ne-eqb said y d)
 
-  pub length-end : said ≡ y → leb said (length w) ≡ (eqb (word w 0) (recordEnd w) && leb (word w 0) (length w))
+  pub length-end : said ≡ y → leb said (length w) ≡ (eqb (recordWords w) (recordEnd w) && leb (recordWords w) (length w))
   length-end d = rw (← a, ← b, eq-eqb said y d)
 
 -- its sizes; x says whether its counts are in their bounds, y whether its length is right
-module _ (w : List ℕ) (h : serviceHead ≤ length w) (x : Bool) (e : x ≡ countsSound (getD w 6 0) (getD w 7 0) (getD w 8 0) (getD w 9 0)) where
+module _ (w : List ℕ) (h : serviceHead ≤ length w) (x : Bool) (e : x ≡ countsSound (calls# w) (categories# w) (days# w) (extras# w)) where
   pub sizes-counts : not x ≡ true → false ≡ sizesSound w
   sizes-counts n = rw (le-leb serviceHead (length w) h, sym e ∙ not-true x n)
 
-  pub sizes-length : not x ≡ false → (y : Bool) → y ≡ (eqb (word w 0) (recordEnd w) && leb (word w 0) (length w)) → y ≡ sizesSound w
+  pub sizes-length : not x ≡ false → (y : Bool) → y ≡ (eqb (recordWords w) (recordEnd w) && leb (recordWords w) (length w)) → y ≡ sizesSound w
   sizes-length n y f = f ∙ rw (le-leb serviceHead (length w) h, sym e ∙ not-false x n)
 
 pub ruleset sizes = (tests, length-differs, length-end, sizes-counts, sizes-length)
@@ -47,25 +47,25 @@ module _ (stops : ℕ) (w : List ℕ) (o : Opening) (a : o ≡ openingAt w) (t :
   pub parts-opening : not t ≡ true → false ≡ serviceSound stops (serviceAt w)
   parts-opening h = sym (service-parts stops w ∙ rw (sym opening-is ∙ not-true t h))
 
-  module _ (h : not t ≡ false) (x : Bool) (e : x ≡ every (callSound stops) (rowsIn callAt callSize (getD w 6 0) (drop serviceHead w))) where
+  module _ (h : not t ≡ false) (x : Bool) (e : x ≡ every (callSound stops) (rowsIn callAt callSize (calls# w) (drop serviceHead w))) where
     pub parts-calls : not x ≡ true → false ≡ serviceSound stops (serviceAt w)
     parts-calls n = sym (service-parts stops w ∙ rw (sym opening-is ∙ not-false t h, sym e ∙ not-true x n))
 
-    module _ (n : not x ≡ false) (g : ℕ) (i : g ≡ categoryPlace w) (y : Bool) (f : y ≡ every (legsSound false (getD w 6 0)) (rowsIn (legsAt 1) 3 (getD w 7 0) (drop g w))) where
-      after-calls : serviceSound stops (serviceAt w) ≡ (y && (every (legsSound false (getD w 6 0)) (rowsIn (legsAt 1) 3 (getD w 8 0) (drop (dayPlace w) w)) && every (legsSound true (getD w 6 0)) (rowsIn (legsAt 2) 4 (getD w 9 0) (drop (extraPlace w) w))))
+    module _ (n : not x ≡ false) (g : ℕ) (i : g ≡ categoryPlace w) (y : Bool) (f : y ≡ every (legsSound false (calls# w)) (rowsIn (legsAt 1) categorySize (categories# w) (drop g w))) where
+      after-calls : serviceSound stops (serviceAt w) ≡ (y && (every (legsSound false (calls# w)) (rowsIn (legsAt 1) daySize (days# w) (drop (dayPlace w) w)) && every (legsSound true (calls# w)) (rowsIn (legsAt 2) extraSize (extras# w) (drop (extraPlace w) w))))
       after-calls = service-parts stops w ∙ rw (sym opening-is ∙ not-false t h, sym e ∙ not-false x n, f, i)
 
       pub parts-categories : not y ≡ true → false ≡ serviceSound stops (serviceAt w)
       parts-categories m = sym (after-calls ∙ rw (not-true y m))
 
-      module _ (m : not y ≡ false) (v : ℕ) (j : v ≡ dayPlace w) (z : Bool) (k : z ≡ every (legsSound false (getD w 6 0)) (rowsIn (legsAt 1) 3 (getD w 8 0) (drop v w))) where
-        after-categories : serviceSound stops (serviceAt w) ≡ (z && every (legsSound true (getD w 6 0)) (rowsIn (legsAt 2) 4 (getD w 9 0) (drop (extraPlace w) w)))
+      module _ (m : not y ≡ false) (v : ℕ) (j : v ≡ dayPlace w) (z : Bool) (k : z ≡ every (legsSound false (calls# w)) (rowsIn (legsAt 1) daySize (days# w) (drop v w))) where
+        after-categories : serviceSound stops (serviceAt w) ≡ (z && every (legsSound true (calls# w)) (rowsIn (legsAt 2) extraSize (extras# w) (drop (extraPlace w) w)))
         after-categories = after-calls ∙ rw (not-false y m, k, j)
 
         pub parts-days : not z ≡ true → false ≡ serviceSound stops (serviceAt w)
         parts-days o = sym (after-categories ∙ rw (not-true z o))
 
-        pub parts-extras : not z ≡ false → (p : ℕ) → p ≡ extraPlace w → (r : Bool) → r ≡ every (legsSound true (getD w 6 0)) (rowsIn (legsAt 2) 4 (getD w 9 0) (drop p w)) → r ≡ serviceSound stops (serviceAt w)
+        pub parts-extras : not z ≡ false → (p : ℕ) → p ≡ extraPlace w → (r : Bool) → r ≡ every (legsSound true (calls# w)) (rowsIn (legsAt 2) extraSize (extras# w) (drop p w)) → r ≡ serviceSound stops (serviceAt w)
         parts-extras o p l r q = sym (after-categories ∙ rw (not-false z o, q, l))
 
 pub ruleset parts = (tests, parts-opening, parts-calls, parts-categories, parts-days, parts-extras)
@@ -108,7 +108,7 @@ part-is (suc a) (suc b) (x ∷ l) =
 
 -- ---- records one after the other; x says whether the record at `at` is sound
 
-pub one-record : (stops k : ℕ) (u : List ℕ) → 0 < k → recordsSound stops k u ≡ (recordSound stops u && recordsSound stops (k - 1) (drop (word u 0) u))
+pub one-record : (stops k : ℕ) (u : List ℕ) → 0 < k → recordsSound stops k u ≡ (recordSound stops u && recordsSound stops (k - 1) (drop (recordWords u) u))
 unfolding recordsSound
 one-record stops zero u h = absurd (omega arith)
 one-record stops (suc k) u h =
@@ -166,13 +166,13 @@ module _ (w : List ℕ) (h : headerSize ≤ length w) (x : Bool) (e : x ≡ head
     pub table-header : headerSound w ≡ true
     table-header = sym e ∙ not-false x n
 
-    pub table-room : (end : ℕ) → end ≡ getD w 0 0 → end ≤ length w
+    pub table-room : (end : ℕ) → end ≡ usedWords w → end ≤ length w
     table-room end p = omega (arith, head-here .used-high)
 
-    pub table-scaled : (at : ℕ) → at ≡ getD w 7 0 → length w * 4 < 2 ^ 63 → at * 4 < 2 ^ 64
+    pub table-scaled : (at : ℕ) → at ≡ servicesPlace w → length w * 4 < 2 ^ 63 → at * 4 < 2 ^ 64
     table-scaled at q l = omega (arith, head-here .inside, head-here .used-high)
 
-    module _ (at end : ℕ) (q : at ≡ getD w 7 0) (p : end ≡ getD w 0 0) where
+    module _ (at end : ℕ) (q : at ≡ servicesPlace w) (p : end ≡ usedWords w) where
       pub table-order : at ≤ end
       table-order = omega (arith, head-here .inside)
 
@@ -181,8 +181,8 @@ module _ (w : List ℕ) (h : headerSize ≤ length w) (x : Bool) (e : x ≡ head
       unfolding isTable
       table-classes m = rw (le-leb headerSize (length w) h, sym e ∙ not-false x n, sym g ∙ not-true y m)
 
-      module _ (m : not y ≡ false) (at end : ℕ) (q : at ≡ getD w 7 0) (p : end ≡ getD w 0 0) where
-        pub table-rest : (r : Bool) → r ≡ recordsSound (getD w 4 0) (getD w 6 0) (take (end - at) (drop at w)) → r ≡ isTable w
+      module _ (m : not y ≡ false) (at end : ℕ) (q : at ≡ servicesPlace w) (p : end ≡ usedWords w) where
+        pub table-rest : (r : Bool) → r ≡ recordsSound (stops# w) (services# w) (take (end - at) (drop at w)) → r ≡ isTable w
         unfolding isTable
         table-rest r f = f ∙ rw (le-leb headerSize (length w) h, sym e ∙ not-false x n, sym g ∙ not-false y m, ← p, ← q, part-is at end w)
 
@@ -190,62 +190,50 @@ pub ruleset whole = (tests, table-short, table-head, table-header, table-classes
 
 -- ---- the words used
 
-module _ (w : List ℕ) (e : isTable w ≡ true) where
-  pub used-first : 0 < length w
-  used-first = omega (arith, table-says w e .used-low, table-says w e .used-high)
+pub used-room : (w : List ℕ) → isTable w ≡ true → (s : ℕ) → s ≡ usedWords w → s ≤ length w
+used-room w e s q = omega (arith, table-says w e .used-high)
 
-  pub used-room : (s : ℕ) → s ≡ getD w 0 0 → s ≤ length w
-  used-room s q = omega (arith, table-says w e .used-high)
-
-pub used-are : (w : List ℕ) (s : ℕ) → s ≡ getD w 0 0 → take (s - 0) w ≡ used w
+pub used-are : (w : List ℕ) (s : ℕ) → s ≡ usedWords w → take (s - 0) w ≡ used w
 used-are w s q = rw (sub-zero, q)
 
-pub ruleset front = (tests, used-first, used-room, used-are)
+pub ruleset front = (tests, table-word, used-room, used-are)
 
--- ---- the classes, for `search classes`: of a sound header, where they begin; at and k are words 7 and 8, end is word 0
+-- ---- the classes, for `search classes`: of a sound header, where they begin; at is where the services begin, k how many classes there are, end how
+-- many words are used
 
 module _ (w : List ℕ) (e : headerSound w ≡ true) where
-  pub classes-used : 0 < length w
-  classes-used = omega (arith, header-says w e .used-low, header-says w e .used-high)
-
-  pub classes-services : 7 < length w
-  classes-services = omega (arith, header-says w e .used-low, header-says w e .used-high)
-
-  pub classes-count : 8 < length w
-  classes-count = omega (arith, header-says w e .used-low, header-says w e .used-high)
-
-  module _ (at k : ℕ) (p : at ≡ getD w 7 0) (q : k ≡ getD w 8 0) where
-    pub classes-before : 2 * k ≤ at
+  module _ (at k : ℕ) (p : at ≡ servicesPlace w) (q : k ≡ classes# w) where
+    pub classes-before : classSize * k ≤ at
     classes-before = omega (arith, header-says w e .place)
 
-    pub classes-begin : at - 2 * k ≡ classesPlace w
+    pub classes-begin : at - classSize * k ≡ classesPlace w
     classes-begin = omega (arith, header-says w e .place)
 
-  module _ (end : ℕ) (p : end ≡ getD w 0 0) where
+  module _ (end : ℕ) (p : end ≡ usedWords w) where
     pub classes-end : end ≤ length w
     classes-end = omega (arith, header-says w e .used-high)
 
     module _ (at : ℕ) (q : at ≡ classesPlace w) where
-      pub classes-room : at + 2 * getD w 8 0 ≤ length (take (end - 0) w)
+      pub classes-room : at + classSize * classes# w ≤ length (take (end - 0) w)
       classes-room = rw length-take (omega (arith, header-says w e .used-high, header-says w e .place, header-says w e .inside))
 
-      pub classes-of : (r : Bool) → r ≡ every classSound (rowsIn classAt classSize (getD w 8 0) (drop at (take (end - 0) w))) → r ≡ every classSound (tableOf w .classes)
+      pub classes-of : (r : Bool) → r ≡ every classSound (rowsIn classAt classSize (classes# w) (drop at (take (end - 0) w))) → r ≡ every classSound (tableOf w .classes)
       unfolding tableOf
       classes-of r f = f ∙ rw (q, used-are w end p)
 
 -- ---- k of them are left from p on
 
 module _ (w : List ℕ) (p k : ℕ) (r : Bool) (h : 0 < k) (v : every classSound (rowsIn classAt classSize k (drop p w)) ≡ r) where
-  class-here : classSound (classAt (drop p w)) ≡ leb (getD w (p + 1) 0) 13
+  class-here : classSound (classAt (drop p w)) ≡ leb (getD w (p + 1) 0) mostClass
   class-here = rw (getD-drop p w 1 0)
 
-  pub classes-again : getD w (p + 1) 0 ≤ 13 → every classSound (rowsIn classAt classSize (k - 1) (drop (p + 2) w)) ≡ r
-  classes-again l = rows-again classSound classAt classSize w p k r true h (sym (class-here ∙ le-leb (getD w (p + 1) 0) 13 l)) v refl
+  pub classes-again : getD w (p + 1) 0 ≤ mostClass → every classSound (rowsIn classAt classSize (k - 1) (drop (p + classSize) w)) ≡ r
+  classes-again l = rows-again classSound classAt classSize w p k r true h (sym (class-here ∙ le-leb (getD w (p + 1) 0) mostClass l)) v refl
 
-  pub classes-out : 13 < getD w (p + 1) 0 → false ≡ r
-  classes-out l = rows-out classSound classAt classSize w p k r false h (sym (class-here ∙ lt-leb (getD w (p + 1) 0) 13 l)) v refl
+  pub classes-out : mostClass < getD w (p + 1) 0 → false ≡ r
+  classes-out l = rows-out classSound classAt classSize w p k r false h (sym (class-here ∙ lt-leb (getD w (p + 1) 0) mostClass l)) v refl
 
 pub classes-done : (w : List ℕ) (k : ℕ) (r : Bool) → k ≤ 0 → every classSound (rowsIn classAt classSize k w) ≡ r → true ≡ r
 classes-done w k r = rows-done classSound classAt classSize w k r
 
-pub ruleset classes = (tests, classes-used, classes-services, classes-count, classes-before, classes-begin, classes-end, classes-room, classes-of, classes-again, classes-out, classes-done)
+pub ruleset classes = (tests, header-word, classes-before, classes-begin, classes-end, classes-room, classes-of, classes-again, classes-out, classes-done)

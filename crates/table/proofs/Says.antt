@@ -1,5 +1,6 @@
 -- What the table's tests say, as facts: `table-says` of the header, `record-says` of a record at the front of the words (its counts, where it ends,
--- its opening line, its calls), `call-sound` of the i-th of its calls, `call-says` of one. Assumes nothing.
+-- its opening line, its calls), `call-sound` of the i-th of its calls, `call-says` of one; the words of a header and of a record's head are there
+-- (`header-word`, `table-word`, `head-word`). Assumes nothing.
 use mathlib.Core.Path.{_≡_, _∙_, sym}
 use mathlib.Core.List.{List}
 use mathlib.Core.Bool.{true, false, _&&_}
@@ -12,10 +13,10 @@ use borrow.Author.Tests.{ltb-true, leb-true, eqb-true}
 use Rattle.base.specs.Lists.{every}
 use Rattle.base.proofs.Loops.{and-true}
 use Rattle.calendar.specs.Calendar.{lastDay}
-use Rattle.timetable.specs.Layout.{headerSize, serviceHead, callSize, firstService}
+use Rattle.timetable.specs.Layout.{headerSize, serviceHead, callSize, categorySize, daySize, extraSize, firstService, mostPeriodDays, mostCalls, mostCategories, mostDays, latestTime, allFlags}
 use Rattle.timetable.specs.Delivery.{CategoryRange, DayRange, ExtraRange}
 use Rattle.timetable.specs.Runs.{openingSound}
-use Rattle.timetable.specs.Table.{word, rowsIn, openingAt, callAt, legsAt, categoryAt, dayAt, extraAt, calls#, categories#, days#, extras#, categoryPlace, dayPlace, extraPlace, serviceAt, used, tableOf, classSound, callSound, legsSound, serviceSound, countsSound, sizesSound, recordSound, recordsSound, headSound, isTable}
+use Rattle.timetable.specs.Table.{rowsIn, openingAt, callAt, legsAt, categoryAt, dayAt, extraAt, recordWords, calls#, categories#, days#, extras#, categoryPlace, dayPlace, extraPlace, serviceAt, usedWords, firstDay, periodDays, bitFields#, stops#, interchanges#, services#, servicesPlace, classes#, used, tableOf, classSound, callSound, legsSound, serviceSound, countsSound, sizesSound, recordSound, recordsSound, headSound, isTable}
 use Rattle.timetable.specs.declared.Call.{Call}
 use Rattle.timetable.proofs.Rows.{length-rows, rows-as, every-row}
 use Rattle.table.specs.JustTable.{recordEnd, headerSound}
@@ -25,35 +26,39 @@ use Rattle.table.specs.JustTable.{recordEnd, headerSound}
 pub record Sizes (w : List ℕ) : Type 0 where
   pub head : serviceHead ≤ length w
   pub calls-low : 2 ≤ calls# w
-  pub calls-high : calls# w ≤ 200
-  pub days-high : days# w ≤ 50
-  pub said : word w 0 ≡ recordEnd w
+  pub calls-high : calls# w ≤ mostCalls
+  pub days-high : days# w ≤ mostDays
+  pub said : recordWords w ≡ recordEnd w
   pub inside : recordEnd w ≤ length w
 
 pub sizes-say : (w : List ℕ) → sizesSound w ≡ true → Sizes w
 sizes-say w e =
     let (h, e1) = and-true (leb serviceHead (length w)) _ e in
     let (counts, e2) = and-true (countsSound (calls# w) (categories# w) (days# w) (extras# w)) _ e1 in
-    let (said, room) = and-true (eqb (word w 0) (recordEnd w)) _ e2 in
-    let (c2, r1) = and-true (leb 2 (calls# w)) _ counts in
-    let (c200, r2) = and-true (leb (calls# w) 200) _ r1 in
-    let r3 = and-true (leb (categories# w) 50) _ r2 .1 in
-    let v = and-true (leb (days# w) 50) _ r3 .0 in
+    let (said, room) = and-true (eqb (recordWords w) (recordEnd w)) _ e2 in
+    let (low, r1) = and-true (leb 2 (calls# w)) _ counts in
+    let (high, r2) = and-true (leb (calls# w) mostCalls) _ r1 in
+    let r3 = and-true (leb (categories# w) mostCategories) _ r2 .1 in
+    let v = and-true (leb (days# w) mostDays) _ r3 .0 in
     record {
       head = leb-true serviceHead (length w) h;
-      calls-low = leb-true 2 (calls# w) c2;
-      calls-high = leb-true (calls# w) 200 c200;
-      days-high = leb-true (days# w) 50 v;
-      said = eqb-true (word w 0) (recordEnd w) said;
-      inside = omega (arith, eqb-true (word w 0) (recordEnd w) said, leb-true (word w 0) (length w) room);
+      calls-low = leb-true 2 (calls# w) low;
+      calls-high = leb-true (calls# w) mostCalls high;
+      days-high = leb-true (days# w) mostDays v;
+      said = eqb-true (recordWords w) (recordEnd w) said;
+      inside = omega (arith, eqb-true (recordWords w) (recordEnd w) said, leb-true (recordWords w) (length w) room);
     }
 
+-- the words of its head are there
+pub head-word : (w : List ℕ) → sizesSound w ≡ true → (i : ℕ) → i < serviceHead → i < length w
+head-word w e i h = omega (arith, sizes-say w e .head)
+
 -- what it holds, read by its sections, in a table with so many stops
-pub service-parts : (stops : ℕ) (w : List ℕ) → serviceSound stops (serviceAt w) ≡ (openingSound (openingAt w) && (every (callSound stops) (rowsIn callAt callSize (calls# w) (drop serviceHead w)) && (every (legsSound false (calls# w)) (rowsIn (legsAt 1) 3 (categories# w) (drop (categoryPlace w) w)) && (every (legsSound false (calls# w)) (rowsIn (legsAt 1) 3 (days# w) (drop (dayPlace w) w)) && every (legsSound true (calls# w)) (rowsIn (legsAt 2) 4 (extras# w) (drop (extraPlace w) w))))))
+pub service-parts : (stops : ℕ) (w : List ℕ) → serviceSound stops (serviceAt w) ≡ (openingSound (openingAt w) && (every (callSound stops) (rowsIn callAt callSize (calls# w) (drop serviceHead w)) && (every (legsSound false (calls# w)) (rowsIn (legsAt 1) categorySize (categories# w) (drop (categoryPlace w) w)) && (every (legsSound false (calls# w)) (rowsIn (legsAt 1) daySize (days# w) (drop (dayPlace w) w)) && every (legsSound true (calls# w)) (rowsIn (legsAt 2) extraSize (extras# w) (drop (extraPlace w) w))))))
 unfolding serviceAt
 service-parts stops w =
     let c = calls# w in
-    rw (length-rows callAt callSize c (drop serviceHead w), rows-as (legsSound false c) (λ (r : CategoryRange). r .legs) categoryAt 3 (categories# w) (drop (categoryPlace w) w), rows-as (legsSound false c) (λ (r : DayRange). r .legs) dayAt 3 (days# w) (drop (dayPlace w) w), rows-as (legsSound true c) (λ (r : ExtraRange). r .legs) extraAt 4 (extras# w) (drop (extraPlace w) w))
+    rw (length-rows callAt callSize c (drop serviceHead w), rows-as (legsSound false c) (λ (r : CategoryRange). r .legs) categoryAt categorySize (categories# w) (drop (categoryPlace w) w), rows-as (legsSound false c) (λ (r : DayRange). r .legs) dayAt daySize (days# w) (drop (dayPlace w) w), rows-as (legsSound true c) (λ (r : ExtraRange). r .legs) extraAt extraSize (extras# w) (drop (extraPlace w) w))
 
 pub record Bounds (stops : ℕ) (w : List ℕ) : Type 0 where
   pub opening : openingSound (openingAt w) ≡ true
@@ -81,12 +86,12 @@ module _ (stops : ℕ) (w : List ℕ) (e : recordSound stops w ≡ true) where
   call-sound i h = rw (drop-drop (callSize * i) serviceHead w) at (every-row (callSound stops) callAt callSize (calls# w) i (drop serviceHead w) (record-says stops w e .1 .calls) h)
 
 -- what a sound call says
-pub call-says : (stops : ℕ) (c : Call) → callSound stops c ≡ true → (c .stop < stops) × (c .arrival ≤ 59999) × (c .departure ≤ 59999) × (c .flags ≤ 15)
+pub call-says : (stops : ℕ) (c : Call) → callSound stops c ≡ true → (c .stop < stops) × (c .arrival ≤ latestTime) × (c .departure ≤ latestTime) × (c .flags ≤ allFlags)
 call-says stops c e =
     let (s, e0) = and-true (ltb (c .stop) stops) _ e in
-    let (a, e1) = and-true (leb (c .arrival) 59999) _ e0 in
-    let (d, f) = and-true (leb (c .departure) 59999) _ e1 in
-    (ltb-true (c .stop) stops s, leb-true (c .arrival) 59999 a, leb-true (c .departure) 59999 d, leb-true (c .flags) 15 f)
+    let (a, e1) = and-true (leb (c .arrival) latestTime) _ e0 in
+    let (d, f) = and-true (leb (c .departure) latestTime) _ e1 in
+    (ltb-true (c .stop) stops s, leb-true (c .arrival) latestTime a, leb-true (c .departure) latestTime d, leb-true (c .flags) allFlags f)
 
 -- ---- the header
 
@@ -94,7 +99,7 @@ module _ (lent used first n b s u at k : ℕ) where
   pub record Head : Type 0 where
     pub used-low : headerSize ≤ used
     pub used-high : used ≤ lent
-    pub days-high : n ≤ 380
+    pub days-high : n ≤ mostPeriodDays
     pub interchanges : 1 ≤ u
     pub place : at ≡ firstService b s u k
     pub inside : at ≤ used
@@ -105,30 +110,33 @@ module _ (lent used first n b s u at k : ℕ) where
       let (a, e1) = and-true (leb headerSize used) _ e in
       let (b', e2) = and-true (leb used lent) _ e1 in
       let e3 = and-true (leb 1 n) _ e2 .1 in
-      let (d, e4) = and-true (leb n 380) _ e3 in
+      let (d, e4) = and-true (leb n mostPeriodDays) _ e3 in
       let e5 = and-true (leb (first + n) (lastDay + 1)) _ e4 .1 in
       let (g, e6) = and-true (leb 1 u) _ e5 in
       let (h, i) = and-true (eqb at (firstService b s u k)) _ e6 in
       record {
         used-low = leb-true headerSize used a;
         used-high = leb-true used lent b';
-        days-high = leb-true n 380 d;
+        days-high = leb-true n mostPeriodDays d;
         interchanges = leb-true 1 u g;
         place = eqb-true at (firstService b s u k) h;
         inside = leb-true at used i;
       }
 
 abbrev pub HeadOf : List ℕ → Type 0
-HeadOf w = Head (length w) (word w 0) (word w 1) (word w 2) (word w 3) (word w 4) (word w 5) (word w 7) (word w 8)
+HeadOf w = Head (length w) (usedWords w) (firstDay w) (periodDays w) (bitFields# w) (stops# w) (interchanges# w) (servicesPlace w) (classes# w)
 
 pub header-says : (w : List ℕ) → headerSound w ≡ true → HeadOf w
-header-says w = head-says (length w) (word w 0) (word w 1) (word w 2) (word w 3) (word w 4) (word w 5) (word w 7) (word w 8)
+header-says w = head-says (length w) (usedWords w) (firstDay w) (periodDays w) (bitFields# w) (stops# w) (interchanges# w) (servicesPlace w) (classes# w)
+
+pub header-word : (w : List ℕ) → headerSound w ≡ true → (i : ℕ) → i < headerSize → i < length w
+header-word w e i h = omega (arith, header-says w e .used-low, header-says w e .used-high)
 
 -- its parts
 pub record Parts (w : List ℕ) : Type 0 where
   pub header : headerSound w ≡ true
   pub classes : every classSound (tableOf w .classes) ≡ true
-  pub records : recordsSound (word w 4) (word w 6) (drop (word w 7) (used w)) ≡ true
+  pub records : recordsSound (stops# w) (services# w) (drop (servicesPlace w) (used w)) ≡ true
 
 pub table-parts : (w : List ℕ) → isTable w ≡ true → Parts w
 unfolding isTable
@@ -140,5 +148,8 @@ table-parts w e =
 pub table-says : (w : List ℕ) → isTable w ≡ true → HeadOf w
 table-says w e = header-says w (table-parts w e .header)
 
-pub table-records : (w : List ℕ) → isTable w ≡ true → recordsSound (word w 4) (word w 6) (drop (word w 7) (used w)) ≡ true
+pub table-word : (w : List ℕ) → isTable w ≡ true → (i : ℕ) → i < headerSize → i < length w
+table-word w e = header-word w (table-parts w e .header)
+
+pub table-records : (w : List ℕ) → isTable w ≡ true → recordsSound (stops# w) (services# w) (drop (servicesPlace w) (used w)) ≡ true
 table-records w e = table-parts w e .records

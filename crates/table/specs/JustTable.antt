@@ -5,20 +5,26 @@ use mathlib.Core.List.{List}
 use mathlib.Core.Bool.{Bool, true}
 use lib.ListN.{length}
 use Rattle.timetable.specs.Layout.{headerSize, bitFieldSize, stopSize, interchangeSize, recordSize}
-use Rattle.timetable.specs.Table.{word, bitFields#, stops#, interchanges#, calls#, categories#, days#, extras#, headSound, isTable}
+use Rattle.timetable.specs.Table.{usedWords, firstDay, periodDays, bitFields#, stops#, interchanges#, servicesPlace, classes#, calls#, categories#, days#, extras#, headSound, isTable}
 
 -- the words of a table, and no later ones
 pub record JustTable (w : List ℕ) : Type 0 where
   pub table : isTable w ≡ true
-  pub ends : word w 0 ≡ length w
+  pub ends : usedWords w ≡ length w
 
 -- the header at the front of the words
 abbrev pub headerSound : List ℕ → Bool
-headerSound w = headSound (length w) (word w 0) (word w 1) (word w 2) (word w 3) (word w 4) (word w 5) (word w 7) (word w 8)
+headerSound w = headSound (length w) (usedWords w) (firstDay w) (periodDays w) (bitFields# w) (stops# w) (interchanges# w) (servicesPlace w) (classes# w)
 
--- where the categories and their classes begin
+-- where the stops, the interchange records, and the categories with their classes begin
+abbrev pub stopsPlace : List ℕ → ℕ
+stopsPlace w = headerSize + bitFieldSize * bitFields# w
+
+abbrev pub interchangesPlace : List ℕ → ℕ
+interchangesPlace w = stopsPlace w + stopSize * stops# w
+
 abbrev pub classesPlace : List ℕ → ℕ
-classesPlace w = headerSize + bitFieldSize * bitFields# w + stopSize * stops# w + interchangeSize * interchanges# w
+classesPlace w = interchangesPlace w + interchangeSize * interchanges# w
 
 -- where the record at the front of the words ends, by its counts
 abbrev pub recordEnd : List ℕ → ℕ

@@ -1,21 +1,20 @@
 -- The rows along a stretch, for `search stretch`. Assumes nothing.
-use mathlib.Core.Path.{_≡_, refl, sym, ap, _∙_}
+use mathlib.Core.Path.{_≡_, refl, ap, _∙_}
 use mathlib.Core.List.{List, [], _∷_}
 use mathlib.Core.Bool.{true}
 use Prim.Native.Nat.{ℕ, _+_, _*_, _/_, _^_, _≤_, _<_}
 use native.Mathlib.Omega.{arith}
-use lib.ListN.{length, getD, take, drop, length-map}
+use lib.ListN.{length, take, drop, length-map}
 use borrow.Author.Tests.{le-ltb, lt-ltb}
 use Rattle.base.proofs.Laws.{tests}
 use Rattle.timetable.specs.Layout.{serviceHead, callSize, rowSize}
 use Rattle.timetable.specs.Delivery.{Delivery}
 use Rattle.timetable.specs.Load.{onto}
 use Rattle.timetable.specs.Runs.{hasRun, lateness, openingSound}
-use Rattle.timetable.specs.Table.{callAt, openingAt, serviceAt, stopNumberAt, withStop, resolved, recordSound}
+use Rattle.timetable.specs.Table.{callAt, openingAt, calls#, serviceAt, stopNumberAt, withStop, resolved, recordSound}
 use Rattle.timetable.specs.declared.Opening.{Opening}
-use Rattle.timetable.specs.Questions.{Journey, rows, rowsOf, walkedBy, rowsBy}
+use Rattle.timetable.specs.Questions.{rows, rowsOf, walkedBy, rowsBy}
 use Rattle.timetable.specs.declared.Call.{Call}
-use Rattle.timetable.specs.declared.Walked.{Walked}
 use Rattle.timetable.specs.declared.Walked.the-variants.{Listed, Refused}
 use Rattle.timetable.proofs.Rows.{length-rows}
 use Rattle.words.specs.Words.{write}
@@ -43,14 +42,14 @@ module _ (s : List ℕ) where
 
   module _ (stops : ℕ) (e : recordSound stops s ≡ true) where
     -- no sum wraps
-    module _ (a n : ℕ) (b : a + n < getD s 6 0) where
+    module _ (a n : ℕ) (b : a + n < calls# s) where
       pub rows-fit : n + 1 < 2 ^ 32
       rows-fit = omega (arith, record-says stops s e .0 .calls-high)
 
       pub needed-fits : rowSize * (n + 1) < 2 ^ 32
       needed-fits = omega (arith, record-says stops s e .0 .calls-high)
 
-  module _ (d : Delivery) (r a n : ℕ) (b : a + n < getD s 6 0) where
+  module _ (d : Delivery) (r a n : ℕ) (b : a + n < calls# s) where
     opening-is : serviceShown d s .opening ≡ openingAt s
     unfolding serviceAt resolved
     opening-is = refl

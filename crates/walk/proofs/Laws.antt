@@ -3,13 +3,13 @@ use mathlib.Core.Path.{_≡_, refl, sym, ap, _∙_}
 use mathlib.Core.List.{List}
 use mathlib.Core.Bool.{true}
 use mathlib.Core.Option.{Option, none, some}
-use Prim.Native.Nat.{ℕ, _+_, _*_, _≤_, _<_}
+use Prim.Native.Nat.{ℕ, _+_, _≤_, _<_}
 use native.Mathlib.Omega.{arith}
-use lib.ListN.{getD, drop, getElem?}
+use lib.ListN.{drop, getElem?}
 use Rattle.base.proofs.Laws.{tests, apart, by-leb}
 use Rattle.timetable.specs.Delivery.{Service, Delivery}
 use Rattle.timetable.specs.Runs.{hasRun, lateness}
-use Rattle.timetable.specs.Table.{used, openingAt, serviceAt, resolved, tableOf, recordSound}
+use Rattle.timetable.specs.Table.{openingAt, calls#, serviceAt, stops#, services#, used, resolved, tableOf, recordSound}
 use Rattle.timetable.specs.Questions.{Journey, refused, idle, datedJourney, journey, walkOf, walkedBy, rowsBy}
 use Rattle.timetable.specs.declared.Walked.{Walked}
 use Rattle.timetable.specs.declared.Walked.the-variants.{Refused, NotRunning}
@@ -81,11 +81,11 @@ module _ (d : Delivery) (i r k : ℕ) where
 
 module _ (w : List ℕ) (h : JustTable w) (i r k a n : ℕ) (c : Course) (e : c ≡ courseOf (tableOf w) i r k) (g : c ≡ Along a n) where
   -- it is the index of a service
-  pub along-index : i < getD w 6 0
+  pub along-index : i < services# w
   unfolding courseOf
-  along-index = by-leb (λ t. i < getD w 6 0) (getD w 6 0) i (λ l. none-there l) (λ l. l)
+  along-index = by-leb (λ t. i < services# w) (services# w) i (λ l. none-there l) (λ l. l)
     where
-      none-there : getD w 6 0 ≤ i → i < getD w 6 0
+      none-there : services# w ≤ i → i < services# w
       none-there l = apart (let z : Barred 24 ≡ Along a n = sym (ap (λ (o : Option Service). indexedCourse (tableOf w) o r k) (service-none w h i l)) ∙ (sym e ∙ g) in (cc))
 
   module _ (s : List ℕ) (q : s ≡ drop (servicePlace w i) w) where
@@ -96,15 +96,15 @@ module _ (w : List ℕ) (h : JustTable w) (i r k a n : ℕ) (c : Course) (e : c 
     unfolding courseOf
     course-is = sym (ap (λ (o : Option Service). indexedCourse (tableOf w) o r k) there) ∙ (sym e ∙ g)
 
-    pub along-sound : recordSound (getD w 4 0) s ≡ true
+    pub along-sound : recordSound (stops# w) s ≡ true
     along-sound = rw q (service-sound w h i along-index)
 
     pub along-run : hasRun (openingAt s) r ≡ true
     unfolding serviceAt resolved
     along-run = along-within a n (tableOf w) (serviceShown (tableOf w) s) r k course-is .0
 
-    pub along-calls : a + n < getD s 6 0
-    along-calls = omega (arith, along-within a n (tableOf w) (serviceShown (tableOf w) s) r k course-is .1, count-resolved (tableOf w .stops) (serviceAt s), legs-count s, record-says (getD w 4 0) s along-sound .0 .calls-low)
+    pub along-calls : a + n < calls# s
+    along-calls = omega (arith, along-within a n (tableOf w) (serviceShown (tableOf w) s) r k course-is .1, count-resolved (tableOf w .stops) (serviceAt s), legs-count s, record-says (stops# w) s along-sound .0 .calls-low)
 
     along-is : stretchWalk (tableOf w) (serviceShown (tableOf w) s) r a n ≡ indexWalk (tableOf w) i r k
     unfolding indexWalk stretchWalk

@@ -2,15 +2,15 @@ use mathlib.Core.Path.{_≡_}
 use mathlib.Core.Bool.{true}
 use Prim.Native.Nat.{_-_, _≤_}
 use native.Mathlib.Omega.{arith}
-use lib.ListN.{length, getD, drop}
-use Rattle.timetable.specs.Table.{recordsSound}
+use lib.ListN.{length, drop}
+use Rattle.timetable.specs.Table.{stops#, services#, recordsSound}
 use Rattle.lookups.specs.Lookups.{recordPlace, servicePlace}
 use Rattle.lookups.proofs.Services.{services}
 use Rattle.lookups.proofs.service_place.Statement.{statement}
 use Rattle.lookups.proofs.service_place.Tie as tie
 
 abbrev Inv-loop : tie.InvT-loop
-Inv-loop w i p₀ k₀ p k = (p ≤ length w) × (k ≤ i) × (recordsSound (getD w 4 0) (getD w 6 0 - (i - k)) (drop p w) ≡ true) × (recordPlace w p k ≡ servicePlace w i)
+Inv-loop w i p₀ k₀ p k = (p ≤ length w) × (k ≤ i) × (recordsSound (stops# w) (services# w - (i - k)) (drop p w) ≡ true) × (recordPlace w p k ≡ servicePlace w i)
 
 abbrev μ-loop : tie.MeasureT-loop
 μ-loop w i p₀ k₀ p k = k
