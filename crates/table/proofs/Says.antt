@@ -12,7 +12,7 @@ use borrow.Author.Tests.{ltb-true, leb-true, eqb-true}
 use Rattle.base.specs.Lists.{every}
 use Rattle.base.proofs.Loops.{and-true}
 use Rattle.calendar.specs.Calendar.{lastDay}
-use Rattle.timetable.specs.Layout.{headerSize, serviceHead, callSize, firstService}
+use Rattle.timetable.specs.Layout.{mostPeriodDays, headerSize, serviceHead, callSize, firstService}
 use Rattle.timetable.specs.Delivery.{CategoryRange, DayRange, ExtraRange}
 use Rattle.timetable.specs.Runs.{openingSound}
 use Rattle.timetable.specs.Table.{word, rowsIn, openingAt, callAt, legsAt, categoryAt, dayAt, extraAt, calls#, categories#, days#, extras#, categoryPlace, dayPlace, extraPlace, serviceAt, used, tableOf, classSound, callSound, legsSound, serviceSound, countsSound, sizesSound, recordSound, recordsSound, headSound, isTable}
@@ -94,7 +94,7 @@ module _ (lent used first n b s u at k : ℕ) where
   pub record Head : Type 0 where
     pub used-low : headerSize ≤ used
     pub used-high : used ≤ lent
-    pub days-high : n ≤ 380
+    pub days-high : n ≤ mostPeriodDays
     pub interchanges : 1 ≤ u
     pub place : at ≡ firstService b s u k
     pub inside : at ≤ used
@@ -105,14 +105,14 @@ module _ (lent used first n b s u at k : ℕ) where
       let (a, e1) = and-true (leb headerSize used) _ e in
       let (b', e2) = and-true (leb used lent) _ e1 in
       let e3 = and-true (leb 1 n) _ e2 .1 in
-      let (d, e4) = and-true (leb n 380) _ e3 in
+      let (d, e4) = and-true (leb n mostPeriodDays) _ e3 in
       let e5 = and-true (leb (first + n) (lastDay + 1)) _ e4 .1 in
       let (g, e6) = and-true (leb 1 u) _ e5 in
       let (h, i) = and-true (eqb at (firstService b s u k)) _ e6 in
       record {
         used-low = leb-true headerSize used a;
         used-high = leb-true used lent b';
-        days-high = leb-true n 380 d;
+        days-high = leb-true n mostPeriodDays d;
         interchanges = leb-true 1 u g;
         place = eqb-true at (firstService b s u k) h;
         inside = leb-true at used i;
