@@ -79,14 +79,15 @@ held() {
 
 mkdir -p "$said/include" "$said/planner/src" "$said/crates" "$said/docs"
 timetable=crates/timetable
+bitfield=crates/bitfield
 boundary=crates/estelunya
 planner=planner/src/layout.rs
 ordinary=docs/ordinary-loader
 constants_c "$header" >"$said/$header"
 constants_rust "$planner" "$raw" >"$said/$planner"
 constants_rust "$rattle" | grep '^VERSION ' >"$said/$boundary"
-# The loader names both words of an administration, the header only where they begin.
-constants_rust "$timetable/src/lib.rt" | grep '_WORDS \|_AT \|^KIND_' | grep -v '^MOST_' |
+# The loader takes the words of a bit field's bits from the ground. It names both words of an administration, the header only where they begin.
+constants_rust "$timetable/src/lib.rt" "$bitfield/src/lib.rt" | grep '_WORDS \|_AT \|^KIND_' | grep -v '^MOST_' |
     awk '$1 == "HIGH_AT" || $1 == "LOW_AT" { $2 -= $1 == "LOW_AT"; $1 = "ADMINISTRATION_AT" } { print }' >"$said/$timetable"
 constants_rust "$ordinary"/src/*.rs >"$said/all"
 awk 'FNR == NR { named[$1] = 1; next } $1 in named' "$said/$header" "$said/all" >"$said/$ordinary"

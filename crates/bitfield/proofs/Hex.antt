@@ -12,7 +12,7 @@ use lib.Dec.{leb, lit<}
 use Rattle.base.proofs.Laws.{by-leb, tests}
 use Rattle.columns.specs.Columns.{padTo, columns, hexValue}
 use Rattle.columns.proofs.Laws.{next-column, no-column, pad-take}
-use Rattle.bitfield.specs.BitField.{hexFrom, hexWords, bitsIn}
+use Rattle.bitfield.specs.BitField.{bitWords, hexFrom, hexWords, bitsIn}
 use Rattle.bitfield.proofs.Fill.{Filled, filled-none, filled-next}
 
 -- a hex digit is four bits
@@ -75,9 +75,9 @@ length-words zero p = refl
 length-words (suc n) p = ap suc (length-words n (drop 8 p))
 
 -- a bit field has twelve words
-pub length-bits : (line : List ℕ) → length (bitsIn line) ≡ 12
+pub length-bits : (line : List ℕ) → length (bitsIn line) ≡ bitWords
 unfolding bitsIn
-length-bits line = length-words 12 (columns 8 103 line)
+length-bits line = length-words bitWords (columns 8 103 line)
 
 -- word j is that of the eight digits from 8 j on
 pub word-at : (n j : ℕ) (p : List ℕ) → j < n → getD (hexWords n p) j 0 ≡ hexFrom 0 (take 8 (drop (8 * j) p))
@@ -92,22 +92,22 @@ word-at (suc n) (suc j) p h =
 abbrev pub wordIn : List ℕ → ℕ → ℕ
 wordIn line j = getD (bitsIn line) j 0
 
-pub word-in : (line : List ℕ) (j : ℕ) → j < 12 → wordIn line j ≡ hexFrom 0 (padTo 8 (drop (8 * j + 7) line))
+pub word-in : (line : List ℕ) (j : ℕ) → j < bitWords → wordIn line j ≡ hexFrom 0 (padTo 8 (drop (8 * j + 7) line))
 unfolding bitsIn columns
 word-in line j h =
     let e : 7 + 8 * j ≡ 8 * j + 7 = omega arith in
-    word-at 12 j (padTo 96 (drop 7 line)) h ∙ ap (hexFrom 0) (pad-part 8 (8 * j) 96 (drop 7 line) (omega arith) ∙ ap (padTo 8) (drop-drop (8 * j) 7 line ∙ ap (λ (k : ℕ). drop k line) e))
+    word-at bitWords j (padTo 96 (drop 7 line)) h ∙ ap (hexFrom 0) (pad-part 8 (8 * j) 96 (drop 7 line) (omega arith) ∙ ap (padTo 8) (drop-drop (8 * j) 7 line ∙ ap (λ (k : ℕ). drop k line) e))
 
 -- p is the part of the line that has word i, x its value
-pub word-next : (line p r : List ℕ) (i x : ℕ) → i < 12 → p ≡ take (8 * i + 15 - (8 * i + 8 - 1)) (drop (8 * i + 8 - 1) line) → x ≡ hexFrom 0 (padTo 8 p) → Filled (wordIn line) r i → Filled (wordIn line) (set r i x) (i + 1)
+pub word-next : (line p r : List ℕ) (i x : ℕ) → i < bitWords → p ≡ take (8 * i + 15 - (8 * i + 8 - 1)) (drop (8 * i + 8 - 1) line) → x ≡ hexFrom 0 (padTo 8 p) → Filled (wordIn line) r i → Filled (wordIn line) (set r i x) (i + 1)
 word-next line p r i x h e k v =
     let a : 8 * i + 8 - 1 ≡ 8 * i + 7 = omega arith in
     let b : 8 * i + 15 - (8 * i + 7) ≡ 8 = omega arith in
     let q : padTo 8 p ≡ padTo 8 (drop (8 * i + 7) line) = rw (e, a, b) (pad-take 8 (drop (8 * i + 7) line)) in
     filled-next (wordIn line) r i x h (k ∙ ap (hexFrom 0) q ∙ sym (word-in line i h)) v
 
-pub words-done : (line r : List ℕ) (i : ℕ) → 12 ≤ i → Filled (wordIn line) r i → r ≡ bitsIn line
+pub words-done : (line r : List ℕ) (i : ℕ) → bitWords ≤ i → Filled (wordIn line) r i → r ≡ bitsIn line
 unfolding bitsIn
-words-done line r i h v = ext-getD 0 r (bitsIn line) (v .twelve ∙ sym (length-words 12 (columns 8 103 line))) (λ k lt. v .each k (omega arith))
+words-done line r i h v = ext-getD 0 r (bitsIn line) (v .twelve ∙ sym (length-words bitWords (columns 8 103 line))) (λ k lt. v .each k (omega arith))
 
 pub ruleset words = (tests, filled-none, word-next, words-done)

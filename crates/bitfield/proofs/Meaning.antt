@@ -14,7 +14,7 @@ use borrow.Author.Tests.{eqb-true}
 use Rattle.base.proofs.Loops.{every-at, every-one}
 use Rattle.columns.specs.Columns.{padTo, columns, column, hexValue}
 use Rattle.columns.proofs.Laws.{length-pad, getD-pad}
-use Rattle.bitfield.specs.BitField.{hexFrom, hexWords, bitsIn, bit, frameBit, framed}
+use Rattle.bitfield.specs.BitField.{bitWords, bitCount, hexFrom, hexWords, bitsIn, bit, frameBit, framed}
 use Rattle.bitfield.proofs.Sets.{digit, digit-two}
 use Rattle.bitfield.proofs.Hex.{hex-le, word-at}
 
@@ -62,7 +62,7 @@ digit-in x m t h = rw (pow-add 2 (4 * m) t, sixteens m, ← (div-div-eq-div-mul 
     go y (suc (suc (suc (suc t)))) h = absurd (omega arith)
 
 -- bit k is bit 3 - k % 4 of the value of hex digit k / 4
-pub bit-of-digit : (p : List ℕ) (k : ℕ) → length p ≡ 96 → k < 384 → bit (hexWords 12 p) k ≡ eqb (hexValue (getD p (k / 4) 0) / 2 ^ (3 - k % 4) % 2) 1
+pub bit-of-digit : (p : List ℕ) (k : ℕ) → length p ≡ 96 → k < bitCount → bit (hexWords bitWords p) k ≡ eqb (hexValue (getD p (k / 4) 0) / 2 ^ (3 - k % 4) % 2) 1
 unfolding bit
 bit-of-digit p k e h =
     let j : ℕ = k / 32 in
@@ -73,11 +73,11 @@ bit-of-digit p k e h =
     let g : getD q i 0 ≡ getD p (k / 4) 0 = getD-take 8 (drop (8 * j) p) i 0 (omega arith) ∙ getD-drop (8 * j) p i 0 ∙ ap (λ (x : ℕ). getD p x 0) (omega arith) in
     let d : hexFrom 0 q / 16 ^ (8 - 1 - i) % 16 ≡ hexValue (getD q i 0) = rw n at (hex-digit 0 q i (omega arith)) in
     ap (λ (x : ℕ). eqb x 1)
-    (ap (λ (x : ℕ). digit x (31 - k % 32)) (word-at 12 j p (omega arith)) ∙ ap (digit (hexFrom 0 q)) s ∙ digit-in (hexFrom 0 q) (8 - 1 - i) (3 - k % 4) (omega arith)
+    (ap (λ (x : ℕ). digit x (31 - k % 32)) (word-at bitWords j p (omega arith)) ∙ ap (digit (hexFrom 0 q)) s ∙ digit-in (hexFrom 0 q) (8 - 1 - i) (3 - k % 4) (omega arith)
     ∙ ap (λ (x : ℕ). digit x (3 - k % 4)) (d ∙ ap hexValue g))
 
 -- and so, of a line, of the hex digit in column 8 + k / 4
-pub bit-of-column : (line : List ℕ) (k : ℕ) → k < 384 → bit (bitsIn line) k ≡ eqb (hexValue (column (8 + k / 4) line) / 2 ^ (3 - k % 4) % 2) 1
+pub bit-of-column : (line : List ℕ) (k : ℕ) → k < bitCount → bit (bitsIn line) k ≡ eqb (hexValue (column (8 + k / 4) line) / 2 ^ (3 - k % 4) % 2) 1
 unfolding bitsIn columns
 bit-of-column line k h =
     let e : 7 + k / 4 ≡ 8 + k / 4 - 1 = omega arith in
@@ -99,11 +99,11 @@ digits-determine (suc n) x y a b e =
     next z j = rw (pow-succ' 2 j, ← (div-div-eq-div-mul z 2 (2 ^ j)))
 
 -- two fields of twelve words with the same bits are the same
-pub bits-determine : (a b : List ℕ) → length a ≡ 12 → length b ≡ 12 → ((i : ℕ) → i < 12 → getD a i 0 < 2 ^ 32) → ((i : ℕ) → i < 12 → getD b i 0 < 2 ^ 32) → ((k : ℕ) → k < 384 → bit a k ≡ bit b k) → a ≡ b
+pub bits-determine : (a b : List ℕ) → length a ≡ bitWords → length b ≡ bitWords → ((i : ℕ) → i < bitWords → getD a i 0 < 2 ^ 32) → ((i : ℕ) → i < bitWords → getD b i 0 < 2 ^ 32) → ((k : ℕ) → k < bitCount → bit a k ≡ bit b k) → a ≡ b
 unfolding bit
 bits-determine a b la lb wa wb e =
     ext-getD 0 a b (la ∙ sym lb) (λ i h.
-    let k : i < 12 = omega arith in
+    let k : i < bitWords = omega arith in
     digits-determine 32 (getD a i 0) (getD b i 0) (wa i k) (wb i k) (λ j g. same i j k g))
   where
     truth : (x y : ℕ) → x < 2 → y < 2 → eqb x 1 ≡ eqb y 1 → x ≡ y
@@ -113,7 +113,7 @@ bits-determine a b la lb wa wb e =
     truth (suc zero) y a b e = sym (eqb-true y 1 (sym e))
     truth (suc (suc x)) y a b e = absurd (omega arith)
 
-    same : (i j : ℕ) → i < 12 → j < 32 → digit (getD a i 0) j ≡ digit (getD b i 0) j
+    same : (i j : ℕ) → i < bitWords → j < 32 → digit (getD a i 0) j ≡ digit (getD b i 0) j
     same i j h g =
         let k : ℕ = 32 * i + (31 - j) in
         let p : k / 32 ≡ i = omega arith in
@@ -122,10 +122,10 @@ bits-determine a b la lb wa wb e =
 
 -- ---- "bits 0 and 1 are 1, bit d+2 is day d, bits n+2 and n+3 are 1, the rest 0"
 
-pub frame-each : (n : ℕ) (ws : List ℕ) (k : ℕ) → framed n ws ≡ true → k < 384 → frameBit n k (bit ws k) ≡ true
+pub frame-each : (n : ℕ) (ws : List ℕ) (k : ℕ) → framed n ws ≡ true → k < bitCount → frameBit n k (bit ws k) ≡ true
 unfolding framed
-frame-each n ws k e h = every-at (λ (k : ℕ). frameBit n k (bit ws k)) 384 0 k e (omega arith) (omega arith)
+frame-each n ws k e h = every-at (λ (k : ℕ). frameBit n k (bit ws k)) bitCount 0 k e (omega arith) (omega arith)
 
-pub frame-all : (n : ℕ) (ws : List ℕ) → ((k : ℕ) → k < 384 → frameBit n k (bit ws k) ≡ true) → framed n ws ≡ true
+pub frame-all : (n : ℕ) (ws : List ℕ) → ((k : ℕ) → k < bitCount → frameBit n k (bit ws k) ≡ true) → framed n ws ≡ true
 unfolding framed
-frame-all n ws e = every-one (λ (k : ℕ). frameBit n k (bit ws k)) 384 0 (λ k a h. e k (omega arith))
+frame-all n ws e = every-one (λ (k : ℕ). frameBit n k (bit ws k)) bitCount 0 (λ k a h. e k (omega arith))

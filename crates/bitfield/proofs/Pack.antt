@@ -9,7 +9,7 @@ use lib.Seq.{getD-drop, getD-set-same, getD-set-other}
 use borrow.Author.Count.{below-more}
 use Rattle.base.proofs.Laws.{tests}
 use Rattle.columns.specs.Columns.{padTo, hexValue}
-use Rattle.bitfield.specs.BitField.{hexFrom, bitsIn}
+use Rattle.bitfield.specs.BitField.{bitWords, hexFrom, bitsIn}
 use Rattle.bitfield.specs.Digits.{Digits, fourDigits}
 use Rattle.bitfield.proofs.Fill.{Filled, filled-none, filled-next}
 use Rattle.bitfield.proofs.Hex.{hex-le, wordIn, word-in, words-done}
@@ -42,10 +42,10 @@ module _ (line v : List ℕ) (w : Digits line v 96) where
   pub four-inside : (at : ℕ) → at + 4 ≤ 96 → at + 4 ≤ length v
   four-inside at h = omega (arith, w .size)
 
-  pub high-fits : (i x : ℕ) → i < 12 → x ≡ fourDigits v (8 * i) → x * 65536 < 2 ^ 32
+  pub high-fits : (i x : ℕ) → i < bitWords → x ≡ fourDigits v (8 * i) → x * 65536 < 2 ^ 32
   high-fits i x h e = omega (arith, e, four-le (8 * i) (omega arith))
 
-  pub word-fits : (i x y : ℕ) → i < 12 → x ≡ fourDigits v (8 * i) → y ≡ fourDigits v (8 * i + 4) → x * 65536 + y < 2 ^ 32
+  pub word-fits : (i x y : ℕ) → i < bitWords → x ≡ fourDigits v (8 * i) → y ≡ fourDigits v (8 * i + 4) → x * 65536 + y < 2 ^ 32
   word-fits i x y h e d = omega (arith, e, d, four-le (8 * i) (omega arith), four-le (8 * i + 4) (omega arith))
 
 -- ---- eight of them
@@ -70,7 +70,7 @@ eight-value (a ∷ b ∷ c ∷ d ∷ e ∷ f ∷ g ∷ i ∷ s) h =
     go : (a b c d e f g i : ℕ) → (((((((0 * 16 + a) * 16 + b) * 16 + c) * 16 + d) * 16 + e) * 16 + f) * 16 + g) * 16 + i ≡ (a * 4096 + b * 256 + c * 16 + d) * 65536 + (e * 4096 + f * 256 + g * 16 + i)
     go a b c d e f g i = omega arith
 
-module _ (line v : List ℕ) (w : Digits line v 96) (i : ℕ) (h : i < 12) where
+module _ (line v : List ℕ) (w : Digits line v 96) (i : ℕ) (h : i < bitWords) where
   value-here : (j n : ℕ) → j < 8 → n ≡ 8 * i + j → getD v n 0 ≡ hx (drop (8 * i + 7) line) j
   value-here j n l e =
       let p : n + 7 ≡ 8 * i + 7 + j = omega arith in
@@ -93,7 +93,7 @@ module _ (line v : List ℕ) (w : Digits line v 96) (i : ℕ) (h : i < 12) where
         value-here 7 (8 * i + 4 + 3) (omega arith) (omega arith),
       ) (sym (word-in line i h ∙ eight-value (drop (8 * i + 7) line) (simp length-drop (omega arith))))
 
-pub pack-next : (line r : List ℕ) (i x : ℕ) → i < 12 → x ≡ getD (bitsIn line) i 0 → Filled (wordIn line) r i → Filled (wordIn line) (set r i x) (i + 1)
+pub pack-next : (line r : List ℕ) (i x : ℕ) → i < bitWords → x ≡ getD (bitsIn line) i 0 → Filled (wordIn line) r i → Filled (wordIn line) (set r i x) (i + 1)
 pack-next line r i x h e v = filled-next (wordIn line) r i x h e v
 
 pub ruleset packing = (tests, digits-none, digits-next, digits-done, four-inside, high-fits, word-fits, word-packed, filled-none, pack-next, words-done)

@@ -12,7 +12,7 @@ use borrow.Author.Needs.{needs}
 use borrow.Author.Tests.{not-true}
 use Rattle.base.specs.Lists.{every, upto}
 use Rattle.base.proofs.Loops.{every-at}
-use Rattle.bitfield.specs.BitField.{bit}
+use Rattle.bitfield.specs.BitField.{bitWords, bitCount, bit}
 use Rattle.bitfield.proofs.Fill.{Filled, filled-none, filled-next}
 
 -- ---- one binary digit of an operation on words
@@ -63,13 +63,13 @@ less-single a b j = xor-single a (bitAnd a b) j ∙ ap (bitXor (digit a j)) (and
 
 -- ---- the 384 bits tried one by one
 
-pub no-bit : (k : ℕ) → k < 384 → bit (replicate 12 0) k ≡ false
+pub no-bit : (k : ℕ) → k < bitCount → bit (replicate bitWords 0) k ≡ false
 unfolding bit every upto
-no-bit k h = not-true (bit (replicate 12 0) k) (every-at (λ (k : ℕ). not (bit (replicate 12 0) k)) 384 0 k refl (omega arith) (omega arith))
+no-bit k h = not-true (bit (replicate bitWords 0) k) (every-at (λ (k : ℕ). not (bit (replicate bitWords 0) k)) bitCount 0 k refl (omega arith) (omega arith))
 
-pub each-bit : (k : ℕ) → k < 384 → bit (replicate 12 4294967295) k ≡ true
+pub each-bit : (k : ℕ) → k < bitCount → bit (replicate bitWords 4294967295) k ≡ true
 unfolding bit every upto
-each-bit k h = every-at (bit (replicate 12 4294967295)) 384 0 k refl (omega arith) (omega arith)
+each-bit k h = every-at (bit (replicate bitWords 4294967295)) bitCount 0 k refl (omega arith) (omega arith)
 
 -- ---- the loops over twelve words, for `search sets`
 
@@ -78,20 +78,20 @@ abbrev pub wordwise : (ℕ → ℕ → ℕ) → List ℕ → List ℕ → ℕ �
 wordwise f a b k = f (getD a k 0) (getD b k 0)
 
 -- what holds of each word holds of each bit
-filled-bits : (f : ℕ → ℕ → ℕ) (g : Bool → Bool → Bool) → Digitwise f g → (a b r : List ℕ) (i : ℕ) → Filled (wordwise f a b) r i → 12 ≤ i → (k : ℕ) → k < 384 → bit r k ≡ g (bit a k) (bit b k)
+filled-bits : (f : ℕ → ℕ → ℕ) (g : Bool → Bool → Bool) → Digitwise f g → (a b r : List ℕ) (i : ℕ) → Filled (wordwise f a b) r i → bitWords ≤ i → (k : ℕ) → k < bitCount → bit r k ≡ g (bit a k) (bit b k)
 unfolding bit
 filled-bits f g d a b r i v e k h =
     ap (λ (x : ℕ). eqb (digit x (31 - k % 32)) 1) (v .each (k / 32) (omega arith))
     ∙ d (getD a (k / 32) 0) (getD b (k / 32) 0) (31 - k % 32)
 
 module _ (a b r : List ℕ) (i : ℕ) where
-  pub or-bits : Filled (wordwise bitOr a b) r i → 12 ≤ i → (k : ℕ) → k < 384 → bit r k ≡ (bit a k || bit b k)
+  pub or-bits : Filled (wordwise bitOr a b) r i → bitWords ≤ i → (k : ℕ) → k < bitCount → bit r k ≡ (bit a k || bit b k)
   or-bits = filled-bits bitOr _||_ (digitwise bitOr _||_ or-single refl refl refl refl) a b r i
 
-  pub and-bits : Filled (wordwise bitAnd a b) r i → 12 ≤ i → (k : ℕ) → k < 384 → bit r k ≡ (bit a k && bit b k)
+  pub and-bits : Filled (wordwise bitAnd a b) r i → bitWords ≤ i → (k : ℕ) → k < bitCount → bit r k ≡ (bit a k && bit b k)
   and-bits = filled-bits bitAnd _&&_ (digitwise bitAnd _&&_ and-single refl refl refl refl) a b r i
 
-  pub less-bits : Filled (wordwise less a b) r i → 12 ≤ i → (k : ℕ) → k < 384 → bit r k ≡ (bit a k && not (bit b k))
+  pub less-bits : Filled (wordwise less a b) r i → bitWords ≤ i → (k : ℕ) → k < bitCount → bit r k ≡ (bit a k && not (bit b k))
   less-bits = filled-bits less (λ (x y : Bool). x && not y) (digitwise less (λ (x y : Bool). x && not y) less-single refl refl refl refl) a b r i
 
 pub ruleset sets = (needs, filled-none, filled-next, or-bits, and-bits, less-bits)

@@ -9,6 +9,18 @@ use lib.Dec.{eqb, ltb}
 use Rattle.base.specs.Lists.{every, some-of, below}
 use Rattle.columns.specs.Columns.{columns, hexValue}
 
+-- "A bit field is twelve words held together as one value"
+abbrev pub bitWords : ℕ
+bitWords = 12
+
+-- "Of the 384 bits"
+abbrev pub bitCount : ℕ
+bitCount = 384
+
+-- the most days that a frame can hold: all bits but the frame's own four, "bits 0 and 1 are 1, .., bits n+2 and n+3 are 1"
+abbrev pub mostFramed : ℕ
+mostFramed = bitCount - 4
+
 -- the number whose hex digits follow n
 unfoldable pub hexFrom : ℕ → List ℕ → ℕ
 hexFrom n [] = n
@@ -21,7 +33,7 @@ hexWords (suc n) p = hexFrom 0 (take 8 p) ∷ hexWords n (drop 8 p)
 
 -- the twelve words of the 96 hex digits in columns 8 to 103
 unfoldable pub bitsIn : List ℕ → List ℕ
-bitsIn line = hexWords 12 (columns 8 103 line)
+bitsIn line = hexWords bitWords (columns 8 103 line)
 
 -- bit k: bit 0 the highest of the first word
 unfoldable pub bit : List ℕ → ℕ → Bool
@@ -37,7 +49,7 @@ frameBit n k b = cond (ltb k 2) b (cond (ltb k (n + 2)) true (cond (ltb k (n + 4
 
 -- "bits 0 and 1 are 1, .., bits n+2 and n+3 are 1, the rest 0"
 unfoldable pub framed : ℕ → List ℕ → Bool
-framed n ws = every (λ (k : ℕ). frameBit n k (bit ws k)) (below 384)
+framed n ws = every (λ (k : ℕ). frameBit n k (bit ws k)) (below bitCount)
 
 -- some day of n days is in the set (for the contract of `some_day` only)
 abbrev pub someDay : ℕ → List ℕ → Bool
@@ -55,4 +67,4 @@ zeroAt ws i = eqb (getD ws i 0) 0
 
 -- no bit is set
 abbrev pub noBit : List ℕ → Bool
-noBit ws = every (zeroAt ws) (below 12)
+noBit ws = every (zeroAt ws) (below bitWords)

@@ -4,11 +4,19 @@ ghost use mathlib.Core.Bool.{not, true, false, _&&_, _||_};
 ghost use Prim.Native.Nat.{ℕ, _+_, _*_, _≤_, _<_};
 ghost use lib.ListN.{length, take, drop, getD};
 ghost use Rattle.columns.specs.Columns.{padTo, hexValue};
-ghost use Rattle.bitfield.specs.BitField.{hexFrom, bitsIn, bit, runsOn, frameBit, nextBound, framed, someDay, noBit};
+ghost use Rattle.bitfield.specs.BitField.{bitWords, bitCount, mostFramed, hexFrom, bitsIn, bit, runsOn, frameBit, nextBound, framed, someDay, noBit};
 ghost use Rattle.bitfield.specs.Digits.{Digits, fourDigits};
 
+// The words of a bit field, and its bits (specs/BitField).
+pub const BIT_WORDS: usize = 12;
+
+pub const BIT_COUNT: u32 = 384;
+
+// The most days that a frame can hold: all bits but the frame's own four.
+pub const MOST_FRAMED: u32 = BIT_COUNT - 4;
+
 // The bit field whose 96 hex digits stand in columns 8 to 103 of a line.
-pub fn bits_in(line: &[u8]) -> [u32; 12]
+pub fn bits_in(line: &[u8]) -> [u32; BIT_WORDS]
     ensures { λ r. ⌜ r ≡ bitsIn (now (line .entry)) ⌝ }
 {
     if line.len() < 103 {
@@ -19,13 +27,13 @@ pub fn bits_in(line: &[u8]) -> [u32; 12]
 }
 
 // Twelve words of a slice as one value.
-pub fn words_at(words: &[u32], at: usize) -> [u32; 12]
-    requires { ⌜ at + 12 ≤ length (now words) ⌝ }
-    ensures { λ r. ⌜ r ≡ take 12 (drop at (now (words .entry))) ⌝ }
+pub fn words_at(words: &[u32], at: usize) -> [u32; BIT_WORDS]
+    requires { ⌜ at + bitWords ≤ length (now words) ⌝ }
+    ensures { λ r. ⌜ r ≡ take bitWords (drop at (now (words .entry))) ⌝ }
 {
-    let mut r = [0u32; 12];
+    let mut r = [0u32; BIT_WORDS];
     let mut i: usize = 0;
-    while i < 12 {
+    while i < BIT_WORDS {
         r[i] = words[at + i];
         i += 1;
     }
@@ -33,8 +41,8 @@ pub fn words_at(words: &[u32], at: usize) -> [u32; 12]
 }
 
 // Bit k.
-pub fn bit_of(b: [u32; 12], k: u32) -> bool
-    requires { ⌜ k < 384 ⌝ }
+pub fn bit_of(b: [u32; BIT_WORDS], k: u32) -> bool
+    requires { ⌜ k < bitCount ⌝ }
     ensures { λ r. ⌜ r ≡ bit b k ⌝ }
 {
     let word = b[(k / 32) as usize];
@@ -42,20 +50,20 @@ pub fn bit_of(b: [u32; 12], k: u32) -> bool
 }
 
 // Whether day d is in the set.
-pub fn runs_on(b: [u32; 12], d: u32) -> bool
-    requires { ⌜ d < 380 ⌝ }
+pub fn runs_on(b: [u32; BIT_WORDS], d: u32) -> bool
+    requires { ⌜ d < mostFramed ⌝ }
     ensures { λ r. ⌜ r ≡ runsOn b d ⌝ }
 {
     bit_of(b, d + 2)
 }
 
 // Whether the frame bits are right for n days.
-pub fn is_framed(b: [u32; 12], n: u32) -> bool
-    requires { ⌜ n ≤ 380 ⌝ }
+pub fn is_framed(b: [u32; BIT_WORDS], n: u32) -> bool
+    requires { ⌜ n ≤ mostFramed ⌝ }
     ensures { λ r. ⌜ r ≡ framed n b ⌝ }
 {
     let mut k: u32 = 0;
-    while k < 384 {
+    while k < BIT_COUNT {
         if fits_frame(n, k, bit_of(b, k)) {
             k = next_bound(n, k);
         } else {
@@ -66,8 +74,8 @@ pub fn is_framed(b: [u32; 12], n: u32) -> bool
 }
 
 // Whether some of the first n days is in the set. Mostly there is no bit at all, which is sooner seen.
-pub fn some_day(b: [u32; 12], n: u32) -> bool
-    requires { ⌜ n ≤ 380 ⌝ }
+pub fn some_day(b: [u32; BIT_WORDS], n: u32) -> bool
+    requires { ⌜ n ≤ mostFramed ⌝ }
     ensures { λ r. ⌜ r ≡ someDay n b ⌝ }
 {
     if has_no_bit(b) {
@@ -77,11 +85,11 @@ pub fn some_day(b: [u32; 12], n: u32) -> bool
 }
 
 // Whether no bit is set.
-fn has_no_bit(b: [u32; 12]) -> bool
+fn has_no_bit(b: [u32; BIT_WORDS]) -> bool
     ensures { λ r. ⌜ r ≡ noBit b ⌝ }
 {
     let mut i: usize = 0;
-    while i < 12 {
+    while i < BIT_WORDS {
         if b[i] != 0 {
             return false;
         }
@@ -91,8 +99,8 @@ fn has_no_bit(b: [u32; 12]) -> bool
 }
 
 // Whether some of the first n days is in the set, day by day.
-fn day_by_day(b: [u32; 12], n: u32) -> bool
-    requires { ⌜ n ≤ 380 ⌝ }
+fn day_by_day(b: [u32; BIT_WORDS], n: u32) -> bool
+    requires { ⌜ n ≤ mostFramed ⌝ }
     ensures { λ r. ⌜ r ≡ someDay n b ⌝ }
 {
     let mut d: u32 = 0;
@@ -108,26 +116,26 @@ fn day_by_day(b: [u32; 12], n: u32) -> bool
 // ---- sets of days, bit by bit
 
 // No bit.
-pub fn no_bits() -> [u32; 12]
-    ensures { λ r. ⌜ ((k : ℕ) → k < 384 → bit r k ≡ false) ⌝ }
+pub fn no_bits() -> [u32; BIT_WORDS]
+    ensures { λ r. ⌜ ((k : ℕ) → k < bitCount → bit r k ≡ false) ⌝ }
 {
-    [0u32; 12]
+    [0u32; BIT_WORDS]
 }
 
 // Every bit.
-pub fn all_bits() -> [u32; 12]
-    ensures { λ r. ⌜ ((k : ℕ) → k < 384 → bit r k ≡ true) ⌝ }
+pub fn all_bits() -> [u32; BIT_WORDS]
+    ensures { λ r. ⌜ ((k : ℕ) → k < bitCount → bit r k ≡ true) ⌝ }
 {
-    [4294967295u32; 12]
+    [4294967295u32; BIT_WORDS]
 }
 
 // The bits of either.
-pub fn either(a: [u32; 12], b: [u32; 12]) -> [u32; 12]
-    ensures { λ r. ⌜ ((k : ℕ) → k < 384 → bit r k ≡ (bit a k || bit b k)) ⌝ }
+pub fn either(a: [u32; BIT_WORDS], b: [u32; BIT_WORDS]) -> [u32; BIT_WORDS]
+    ensures { λ r. ⌜ ((k : ℕ) → k < bitCount → bit r k ≡ (bit a k || bit b k)) ⌝ }
 {
-    let mut r = [0u32; 12];
+    let mut r = [0u32; BIT_WORDS];
     let mut i: usize = 0;
-    while i < 12 {
+    while i < BIT_WORDS {
         r[i] = a[i] | b[i];
         i += 1;
     }
@@ -135,12 +143,12 @@ pub fn either(a: [u32; 12], b: [u32; 12]) -> [u32; 12]
 }
 
 // The bits of both.
-pub fn both(a: [u32; 12], b: [u32; 12]) -> [u32; 12]
-    ensures { λ r. ⌜ ((k : ℕ) → k < 384 → bit r k ≡ (bit a k && bit b k)) ⌝ }
+pub fn both(a: [u32; BIT_WORDS], b: [u32; BIT_WORDS]) -> [u32; BIT_WORDS]
+    ensures { λ r. ⌜ ((k : ℕ) → k < bitCount → bit r k ≡ (bit a k && bit b k)) ⌝ }
 {
-    let mut r = [0u32; 12];
+    let mut r = [0u32; BIT_WORDS];
     let mut i: usize = 0;
-    while i < 12 {
+    while i < BIT_WORDS {
         r[i] = a[i] & b[i];
         i += 1;
     }
@@ -148,12 +156,12 @@ pub fn both(a: [u32; 12], b: [u32; 12]) -> [u32; 12]
 }
 
 // The bits of the first that the second has not.
-pub fn without(a: [u32; 12], b: [u32; 12]) -> [u32; 12]
-    ensures { λ r. ⌜ ((k : ℕ) → k < 384 → bit r k ≡ (bit a k && not (bit b k))) ⌝ }
+pub fn without(a: [u32; BIT_WORDS], b: [u32; BIT_WORDS]) -> [u32; BIT_WORDS]
+    ensures { λ r. ⌜ ((k : ℕ) → k < bitCount → bit r k ≡ (bit a k && not (bit b k))) ⌝ }
 {
-    let mut r = [0u32; 12];
+    let mut r = [0u32; BIT_WORDS];
     let mut i: usize = 0;
-    while i < 12 {
+    while i < BIT_WORDS {
         r[i] = a[i] ^ (a[i] & b[i]);
         i += 1;
     }
@@ -177,14 +185,14 @@ fn digit_values(line: &[u8]) -> [u8; 96]
 }
 
 // The twelve words of the 96 digits of a line, whose values are v.
-fn packed(line: &[u8], v: &[u8]) -> [u32; 12]
+fn packed(line: &[u8], v: &[u8]) -> [u32; BIT_WORDS]
     requires { ⌜ 103 ≤ length (now line) ⌝ }
     requires { ⌜ Digits (now line) (now v) 96 ⌝ }
     ensures { λ r. ⌜ r ≡ bitsIn (now (line .entry)) ⌝ }
 {
-    let mut r = [0u32; 12];
+    let mut r = [0u32; BIT_WORDS];
     let mut i: usize = 0;
-    while i < 12 {
+    while i < BIT_WORDS {
         r[i] = eight_digits(line, v, i);
         i += 1;
     }
@@ -195,7 +203,7 @@ fn packed(line: &[u8], v: &[u8]) -> [u32; 12]
 fn eight_digits(line: &[u8], v: &[u8], i: usize) -> u32
     requires { ⌜ 103 ≤ length (now line) ⌝ }
     requires { ⌜ Digits (now line) (now v) 96 ⌝ }
-    requires { ⌜ i < 12 ⌝ }
+    requires { ⌜ i < bitWords ⌝ }
     ensures { λ r. ⌜ r ≡ getD (bitsIn (now (line .entry))) i 0 ⌝ }
 {
     four_digits(v, 8 * i) * 65536 + four_digits(v, 8 * i + 4)
@@ -229,12 +237,12 @@ fn digit_of(b: u8) -> u8
 const TEN_BEFORE_A: u8 = b'A' - 10;
 
 // The bit field of a line that may be short, word by word.
-fn bits_by_words(line: &[u8]) -> [u32; 12]
+fn bits_by_words(line: &[u8]) -> [u32; BIT_WORDS]
     ensures { λ r. ⌜ r ≡ bitsIn (now (line .entry)) ⌝ }
 {
-    let mut r = [0u32; 12];
+    let mut r = [0u32; BIT_WORDS];
     let mut i: usize = 0;
-    while i < 12 {
+    while i < BIT_WORDS {
         r[i] = hex_word(columns::part(line, 8 * i + 8, 8 * i + 15));
         i += 1;
     }
@@ -256,7 +264,7 @@ fn hex_word(p: &[u8]) -> u32
 
 // The next bit after bit k that the frame of n days binds: the days may be any.
 fn next_bound(n: u32, k: u32) -> u32
-    requires { ⌜ (n ≤ 380) × (k < 384) ⌝ }
+    requires { ⌜ (n ≤ mostFramed) × (k < bitCount) ⌝ }
     ensures { λ r. ⌜ r ≡ nextBound n k ⌝ }
 {
     if k < 1 {
@@ -270,7 +278,7 @@ fn next_bound(n: u32, k: u32) -> u32
 
 // Whether bit k may be b in a frame of n days.
 fn fits_frame(n: u32, k: u32, b: bool) -> bool
-    requires { ⌜ n ≤ 380 ⌝ }
+    requires { ⌜ n ≤ mostFramed ⌝ }
     ensures { λ r. ⌜ r ≡ frameBit n k b ⌝ }
 {
     if k < 2 {

@@ -8,7 +8,7 @@ use lib.ListN.{getD}
 use lib.Dec.{ltb}
 use borrow.Author.Tests.{ne-eqb, lt-ltb, le-ltb, le-leb, lt-leb}
 use Rattle.base.proofs.Laws.{tests}
-use Rattle.calendar.specs.Calendar.{isLeap, monthDays, yearsBefore, monthsBefore, exists, dayOf, periodOf}
+use Rattle.calendar.specs.Calendar.{mostPeriodDays, isLeap, monthDays, yearsBefore, monthsBefore, exists, dayOf, periodOf}
 use Rattle.calendar.specs.declared.Date.the-variants.{Day, NoSuchDate}
 use Rattle.calendar.specs.declared.Period.the-variants.{Days, NoPeriod}
 use Rattle.calendar.proofs.Bounds.{months-within, years-within}
@@ -84,14 +84,14 @@ pub none-before : (s e : ℕ) → e < s → NoPeriod ≡ periodOf s e
 unfolding periodOf
 none-before s e h = rw (lt-ltb e s h)
 
-pub days-in : (s e : ℕ) → s ≤ e → e - s < 380 → Days (e - s + 1) ≡ periodOf s e
+pub days-in : (s e : ℕ) → s ≤ e → e - s < mostPeriodDays → Days (e - s + 1) ≡ periodOf s e
 unfolding periodOf
 days-in s e a b =
     let q : e + 1 - s ≡ e - s + 1 = omega arith in
-    rw (le-ltb e s a, q, le-leb (e - s + 1) 380 (omega arith))
+    rw (le-ltb e s a, q, le-leb (e - s + 1) mostPeriodDays (omega arith))
 
-pub days-over : (s e : ℕ) → s ≤ e → 380 ≤ e - s → NoPeriod ≡ periodOf s e
+pub days-over : (s e : ℕ) → s ≤ e → mostPeriodDays ≤ e - s → NoPeriod ≡ periodOf s e
 unfolding periodOf
-days-over s e a b = rw (le-ltb e s a, lt-leb (e + 1 - s) 380 (omega arith))
+days-over s e a b = rw (le-ltb e s a, lt-leb (e + 1 - s) mostPeriodDays (omega arith))
 
 pub ruleset periods = (tests, none-before, days-in, days-over)

@@ -46,6 +46,10 @@ lastDay = 109572
 unfoldable pub dateIn : List ℕ → Date
 dateIn line = dayOf (number (columns 1 2 line)) (number (columns 4 5 line)) (number (columns 7 10 line))
 
+-- "A period of n days has 1 to 380."
+abbrev pub mostPeriodDays : ℕ
+mostPeriodDays = 380
+
 -- the period from one day to another: "end before start; over 380 days"
 unfoldable pub periodOf : ℕ → ℕ → Period
-periodOf start end = cond (ltb end start) NoPeriod (cond (leb (end + 1 - start) 380) (Days (end + 1 - start)) NoPeriod)
+periodOf start end = cond (ltb end start) NoPeriod (cond (leb (end + 1 - start) mostPeriodDays) (Days (end + 1 - start)) NoPeriod)

@@ -15,6 +15,12 @@ pub enum Period {
     NoPeriod,
 }
 
+// 31.12.2199
+pub const LAST_DAY: u32 = 109572;
+
+// "A period of n days has 1 to 380."
+pub const MOST_PERIOD_DAYS: u32 = 380;
+
 // The day number of a date.
 pub fn day_of(d: u32, m: u32, y: u32) -> Date
     ensures { λ r. ⌜ r ≡ dayOf d m y ⌝ }
@@ -58,7 +64,7 @@ pub fn period_of(start: u32, end: u32) -> Period
     if end < start {
         return Period::NoPeriod;
     }
-    if end - start < 380 {
+    if end - start < MOST_PERIOD_DAYS {
         return Period::Days(end - start + 1);
     }
     Period::NoPeriod

@@ -10,7 +10,8 @@ use lib.Dec.{eqb, leb}
 use borrow.Author.Tests.{eqb-true, eq-eqb, le-leb}
 use Rattle.base.specs.Lists.{countIf, upto}
 use Rattle.base.proofs.Loops.{and-true}
-use Rattle.bitfield.specs.BitField.{runsOn}
+use Rattle.bitfield.specs.BitField.{bitWords, runsOn}
+use Rattle.timetable.specs.Layout.{mostPeriodDays}
 use Rattle.day_sets.specs.declared.Operation.{Operation}
 use Rattle.day_sets.specs.declared.Operation.the-variants.{Union, Intersection, Difference}
 use Rattle.day_sets.specs.DaySets.{onDay, combined, complement, dayCount, isField}
@@ -60,7 +61,7 @@ day-counts false false = refl
 
 -- ---- each day of a result, by the operands' day
 
-module _ (n : ℕ) (m : n ≤ 380) where
+module _ (n : ℕ) (m : n ≤ mostPeriodDays) where
   pub combined-day : (o : Operation) (a b : List ℕ) (d : ℕ) → d < n → runsOn (combined o n a b) d ≡ onDay o (runsOn a d) (runsOn b d)
   unfolding combined
   combined-day o a b = field-days n (λ (d : ℕ). onDay o (runsOn a d) (runsOn b d)) m
@@ -80,7 +81,7 @@ complement-field n a = field-is n (λ (d : ℕ). not (runsOn a d))
 
 -- ---- "union and intersection commute, associate and distribute over each other"
 
-module _ (n : ℕ) (m : n ≤ 380) {p q : Operation} (t : Two p q) where
+module _ (n : ℕ) (m : n ≤ mostPeriodDays) {p q : Operation} (t : Two p q) where
   pub commutes : (a b : List ℕ) → combined p n a b ≡ combined p n b a
   unfolding combined
   commutes a b = field-same n _ _ (λ d h. day-commutes t (runsOn a d) (runsOn b d))
@@ -110,7 +111,7 @@ module _ (n : ℕ) (m : n ≤ 380) {p q : Operation} (t : Two p q) where
       ∙ day-exchanges t (runsOn a d) (runsOn b d)
       ∙ ap₂ (onDay q) (sym (complement-day n m a d h)) (sym (complement-day n m b d h)))
 
-module _ (n : ℕ) (m : n ≤ 380) where
+module _ (n : ℕ) (m : n ≤ mostPeriodDays) where
   -- "complement twice gives the same field"
   pub complement-twice : (a : List ℕ) → Field n a → complement n (complement n a) ≡ a
   unfolding complement
@@ -135,7 +136,7 @@ unfolding countIf upto
 counts-join f g zero k = refl
 counts-join f g (suc n) k = omega (arith, day-counts (f k) (g k), counts-join f g n (k + 1))
 
-pub counts : (n : ℕ) → n ≤ 380 → (a b : List ℕ) → dayCount n (combined Union n a b) + dayCount n (combined Intersection n a b) ≡ dayCount n a + dayCount n b
+pub counts : (n : ℕ) → n ≤ mostPeriodDays → (a b : List ℕ) → dayCount n (combined Union n a b) + dayCount n (combined Intersection n a b) ≡ dayCount n a + dayCount n b
 unfolding dayCount
 counts n m a b =
     ap₂ _+_ (count-same (runsOn (combined Union n a b)) _ n 0 (λ d l h. combined-day n m Union a b d (omega arith))) (count-same (runsOn (combined Intersection n a b)) _ n 0 (λ d l h. combined-day n m Intersection a b d (omega arith)))
@@ -143,12 +144,12 @@ counts n m a b =
 
 -- ---- what is not refused is a field, and a field of a period is not refused: so a result may be given again
 
-pub taken-field : (n : ℕ) (a : List ℕ) → isField n a ≡ true → ((i : ℕ) → i < 12 → getD a i 0 < 2 ^ 32) → Field n a
+pub taken-field : (n : ℕ) (a : List ℕ) → isField n a ≡ true → ((i : ℕ) → i < bitWords → getD a i 0 < 2 ^ 32) → Field n a
 unfolding isField
 taken-field n a e f =
-    let w = and-true (eqb (length a) 12) _ (and-true (leb n 380) _ (and-true (leb 1 n) _ e .1) .1) in
-    record { twelve = eqb-true (length a) 12 (w .0); fit = f; frame = w .1 }
+    let w = and-true (eqb (length a) bitWords) _ (and-true (leb n mostPeriodDays) _ (and-true (leb 1 n) _ e .1) .1) in
+    record { twelve = eqb-true (length a) bitWords (w .0); fit = f; frame = w .1 }
 
-pub field-taken : (n : ℕ) (a : List ℕ) → 1 ≤ n → n ≤ 380 → Field n a → isField n a ≡ true
+pub field-taken : (n : ℕ) (a : List ℕ) → 1 ≤ n → n ≤ mostPeriodDays → Field n a → isField n a ≡ true
 unfolding isField
-field-taken n a l m f = rw (le-leb 1 n l, le-leb n 380 m, eq-eqb (length a) 12 (f .twelve), f .frame)
+field-taken n a l m f = rw (le-leb 1 n l, le-leb n mostPeriodDays m, eq-eqb (length a) bitWords (f .twelve), f .frame)

@@ -11,9 +11,10 @@ use borrow.Author.Tests.{lt-ltb, le-ltb, not-true}
 use Rattle.base.specs.Lists.{upto}
 use Rattle.base.proofs.Laws.{by-ltb}
 use Rattle.base.proofs.Lists.{length-map-upto}
-use Rattle.bitfield.specs.BitField.{bit, runsOn, frameBit, framed}
+use Rattle.bitfield.specs.BitField.{bitWords, bitCount, bit, runsOn, frameBit, framed}
 use Rattle.bitfield.proofs.Sets.{digit}
 use Rattle.bitfield.proofs.Meaning.{bit-of-word, bits-determine, frame-each, frame-all}
+use Rattle.timetable.specs.Layout.{mostPeriodDays}
 use Rattle.day_sets.specs.DaySets.{framedBit, bitsFrom, wordOf, fieldOf}
 use Rattle.day_sets.specs.Algebra.{Field}
 
@@ -71,19 +72,19 @@ module _ (n : ℕ) (days : ℕ → Bool) where
   abbrev said : ℕ → Bool
   said k = framedBit n k (days (k - 2))
 
-  pub field-length : length (fieldOf n days) ≡ 12
+  pub field-length : length (fieldOf n days) ≡ bitWords
   unfolding fieldOf
-  field-length = length-map-upto (wordOf said) 12 0
+  field-length = length-map-upto (wordOf said) bitWords 0
 
-  field-word : (i : ℕ) → i < 12 → getD (fieldOf n days) i 0 ≡ wordOf said i
+  field-word : (i : ℕ) → i < bitWords → getD (fieldOf n days) i 0 ≡ wordOf said i
   unfolding fieldOf
-  field-word i h = getD-map (wordOf said) 12 0 i h ∙ ap (wordOf said) (zero-add i)
+  field-word i h = getD-map (wordOf said) bitWords 0 i h ∙ ap (wordOf said) (zero-add i)
 
-  pub field-fit : (i : ℕ) → i < 12 → getD (fieldOf n days) i 0 < 2 ^ 32
+  pub field-fit : (i : ℕ) → i < bitWords → getD (fieldOf n days) i 0 < 2 ^ 32
   unfolding wordOf
   field-fit i h = rw (field-word i h) (bits-fit said 32 (i * 32))
 
-  pub field-bit : (k : ℕ) → k < 384 → bit (fieldOf n days) k ≡ said k
+  pub field-bit : (k : ℕ) → k < bitCount → bit (fieldOf n days) k ≡ said k
   unfolding wordOf
   field-bit k h =
       let e : 31 - k % 32 ≡ 32 - 1 - k % 32 = omega arith in
@@ -91,7 +92,7 @@ module _ (n : ℕ) (days : ℕ → Bool) where
       bit-of-word (fieldOf n days) k ∙ rw (field-word (k / 32) (omega arith), e) (bits-digit said 32 (k / 32 * 32) 0 (k % 32) (omega arith) ∙ ap said z)
 
   -- it has the days that are said of it, and a proper frame
-  pub field-days : n ≤ 380 → (d : ℕ) → d < n → runsOn (fieldOf n days) d ≡ days d
+  pub field-days : n ≤ mostPeriodDays → (d : ℕ) → d < n → runsOn (fieldOf n days) d ≡ days d
   field-days m d h =
       let z : d + 2 - 2 ≡ d = omega arith in
       field-bit (d + 2) (omega arith) ∙ rw (le-ltb (d + 2) 2 (omega arith), lt-ltb (d + 2) (n + 2) (omega arith), z)
@@ -135,7 +136,7 @@ module _ (n : ℕ) where
   pub field-same : (f g : ℕ → Bool) → ((d : ℕ) → d < n → f d ≡ g d) → fieldOf n f ≡ fieldOf n g
   unfolding fieldOf wordOf
   field-same f g e =
-      map-same _ _ 12 0 (λ i a b.
+      map-same _ _ bitWords 0 (λ i a b.
       ap (bitsFrom 0) (map-same _ _ 32 (i * 32) (λ k c d.
       bit-same k (f (k - 2)) (g (k - 2)) (λ l h. e (k - 2) (omega arith)))))
 
@@ -147,5 +148,5 @@ module _ (n : ℕ) where
       ∙ sym (frame-bit k (bit b k) (frame-each n b k (q .frame) h)))
 
   -- a field is the field of its own days
-  pub own-days : {a : List ℕ} → n ≤ 380 → Field n a → fieldOf n (runsOn a) ≡ a
+  pub own-days : {a : List ℕ} → n ≤ mostPeriodDays → Field n a → fieldOf n (runsOn a) ≡ a
   own-days {a} m p = determined (field-is n (runsOn a)) p (field-days n (runsOn a) m)

@@ -12,7 +12,7 @@ use Rattle.base.specs.Lists.{countIf, upto, below}
 use Rattle.base.proofs.Laws.{tests}
 use Rattle.base.proofs.Lists.{length-map-upto}
 use Rattle.base.proofs.Loops.{upto-next, upto-none}
-use Rattle.bitfield.specs.BitField.{bit, runsOn}
+use Rattle.bitfield.specs.BitField.{bitWords, bitCount, bit, runsOn}
 use Rattle.bitfield.proofs.Fill.{Filled, filled-none, filled-next}
 use Rattle.day_sets.specs.DaySets.{framedBit, bitsFrom, wordOf, fieldOf, bitIn}
 use Rattle.day_sets.proofs.Fields.{map-same, getD-map, bit-same}
@@ -34,7 +34,7 @@ module _ (ws : List ℕ) (to k count r x : ℕ) (t : Bool) (e : x ≡ cond t 1 0
   pub count-grows : count ≤ k → count + x ≤ k + 1
   count-grows l = omega (arith, one-most t x e)
 
-  pub count-fits : count ≤ k → to ≤ 384 → count + x < 2 ^ 32
+  pub count-fits : count ≤ k → to ≤ bitCount → count + x < 2 ^ 32
   count-fits l m = omega (arith, one-most t x e)
 
 pub count-start : (ws : List ℕ) (from to : ℕ) → 0 + countIf (bit ws) (upto (to - from) from) ≡ countIf (bit ws) (upto (to - from) from)
@@ -87,12 +87,12 @@ pub ruleset bits = (tests, bits-none, bits-twice, bits-next, bits-grow, bits-sta
 
 -- ---- the twelve words, for `search words`
 
-pub field-done : (n : ℕ) (ws r : List ℕ) (i : ℕ) → 12 ≤ i → Filled (wordOf (bitIn n ws)) r i → r ≡ fieldOf n (runsOn ws)
+pub field-done : (n : ℕ) (ws r : List ℕ) (i : ℕ) → bitWords ≤ i → Filled (wordOf (bitIn n ws)) r i → r ≡ fieldOf n (runsOn ws)
 unfolding fieldOf wordOf bitIn
 field-done n ws r i h v =
-    ext-getD 0 r (map word (below 12)) (v .twelve ∙ sym (length-map-upto word 12 0)) (λ j l.
-    let b : j < 12 = omega (arith, v .twelve) in
-    v .each j (omega arith) ∙ sym (getD-map word 12 0 j b ∙ ap word (zero-add j) ∙ same j))
+    ext-getD 0 r (map word (below bitWords)) (v .twelve ∙ sym (length-map-upto word bitWords 0)) (λ j l.
+    let b : j < bitWords = omega (arith, v .twelve) in
+    v .each j (omega arith) ∙ sym (getD-map word bitWords 0 j b ∙ ap word (zero-add j) ∙ same j))
   where
     word : ℕ → ℕ
     word = wordOf (λ (k : ℕ). framedBit n k (runsOn ws (k - 2)))
@@ -105,10 +105,10 @@ field-done n ws r i h v =
 pub ruleset words = (tests, filled-none, filled-next, field-done)
 
 -- twelve lent words are all of them
-pub all-twelve : (w r : List ℕ) → length w ≡ 12 → r ≡ take 12 (drop 0 w) → r ≡ w
-all-twelve w r h e = e ∙ take-all 12 w (omega arith)
+pub all-twelve : (w r : List ℕ) → length w ≡ bitWords → r ≡ take bitWords (drop 0 w) → r ≡ w
+all-twelve w r h e = e ∙ take-all bitWords w (omega arith)
 
-pub twelve-room : (w : List ℕ) → length w ≡ 12 → 0 + 12 ≤ length w
+pub twelve-room : (w : List ℕ) → length w ≡ bitWords → 0 + bitWords ≤ length w
 twelve-room w h = omega arith
 
 pub ruleset lent-words = (tests, all-twelve, twelve-room)

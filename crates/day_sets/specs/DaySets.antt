@@ -6,7 +6,7 @@ use mathlib.Core.Bool.{Bool, true, false, cond, not, _&&_, _||_}
 use lib.ListN.{length}
 use lib.Dec.{eqb, ltb, leb}
 use Rattle.base.specs.Lists.{countIf, upto, below}
-use Rattle.bitfield.specs.BitField.{bit, runsOn, framed}
+use Rattle.bitfield.specs.BitField.{bitWords, bit, runsOn, framed}
 use Rattle.timetable.specs.Layout.{mostPeriodDays}
 use Rattle.day_sets.specs.declared.Operation.{Operation}
 use Rattle.day_sets.specs.declared.Operation.the-variants.{Union, Intersection, Difference}
@@ -32,7 +32,7 @@ wordOf bits i = bitsFrom 0 (map bits (upto 32 (i * 32)))
 
 -- the field of n days that runs on the days that `days` says
 unfoldable pub fieldOf : ℕ → (ℕ → Bool) → List ℕ
-fieldOf n days = map (wordOf (λ (k : ℕ). framedBit n k (days (k - 2)))) (below 12)
+fieldOf n days = map (wordOf (λ (k : ℕ). framedBit n k (days (k - 2)))) (below bitWords)
 
 -- bit k of the field that has the days of some bits (for the contracts of `framed_bit` and `framed_word` only)
 unfoldable pub bitIn : ℕ → List ℕ → ℕ → Bool
@@ -60,14 +60,14 @@ dayCount n field = countIf (runsOn field) (below n)
 -- ---- "42 if n is not 1 to 380 or a lent field or the result is not twelve words, or a field has a wrong frame; the result words then stay"
 
 unfoldable pub isField : ℕ → List ℕ → Bool
-isField n words = leb 1 n && (leb n mostPeriodDays && (eqb (length words) 12 && framed n words))
+isField n words = leb 1 n && (leb n mostPeriodDays && (eqb (length words) bitWords && framed n words))
 
 abbrev pub setAnswer : Bool → SetAnswer
 setAnswer taken = cond taken Given (Refused 42)
 
 -- two fields, and the words lent for the result
 unfoldable pub pairTaken : ℕ → List ℕ → List ℕ → List ℕ → Bool
-pairTaken n first second lent = isField n first && (isField n second && eqb (length lent) 12)
+pairTaken n first second lent = isField n first && (isField n second && eqb (length lent) bitWords)
 
 unfoldable pub combineAsked : ℕ → List ℕ → List ℕ → List ℕ → SetAnswer
 combineAsked n first second lent = setAnswer (pairTaken n first second lent)
@@ -77,7 +77,7 @@ combineWritten op n first second lent = cond (pairTaken n first second lent) (co
 
 -- one field, and the words lent for the result
 unfoldable pub oneTaken : ℕ → List ℕ → List ℕ → Bool
-oneTaken n field lent = isField n field && eqb (length lent) 12
+oneTaken n field lent = isField n field && eqb (length lent) bitWords
 
 unfoldable pub complementAsked : ℕ → List ℕ → List ℕ → SetAnswer
 complementAsked n field lent = setAnswer (oneTaken n field lent)

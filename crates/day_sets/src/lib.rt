@@ -7,7 +7,7 @@ ghost use mathlib.Core.Bool.{cond};
 ghost use Prim.Native.Nat.{_-_, _≤_, _<_};
 ghost use lib.ListN.{length};
 ghost use Rattle.base.specs.Lists.{countIf, upto};
-ghost use Rattle.bitfield.specs.BitField.{bit, runsOn};
+ghost use Rattle.bitfield.specs.BitField.{bitWords, bitCount, bit, runsOn};
 ghost use Rattle.timetable.specs.Layout.{mostPeriodDays};
 ghost use Rattle.day_sets.specs.DaySets.{wordOf, fieldOf, bitIn, combined, complement, dayCount, isField, combineAsked, combineWritten, complementAsked, complementWritten, countAsked};
 
@@ -105,8 +105,8 @@ fn is_field(n: u32, words: &[u32]) -> bool
 }
 
 // Lent words as one value.
-fn field_in(words: &[u32]) -> [u32; 12]
-    requires { ⌜ length (now words) ≡ 12 ⌝ }
+fn field_in(words: &[u32]) -> [u32; BIT_WORDS]
+    requires { ⌜ length (now words) ≡ bitWords ⌝ }
     ensures { λ r. ⌜ r ≡ now (words .entry) ⌝ }
 {
     bitfield::words_at(words, 0)
@@ -115,7 +115,12 @@ fn field_in(words: &[u32]) -> [u32; 12]
 // ---- on fields by value
 
 // The field of n days that two fields make.
-fn combined(op: Operation, n: u32, first: [u32; 12], second: [u32; 12]) -> [u32; 12]
+fn combined(
+    op: Operation,
+    n: u32,
+    first: [u32; BIT_WORDS],
+    second: [u32; BIT_WORDS],
+) -> [u32; BIT_WORDS]
     requires { ⌜ n ≤ mostPeriodDays ⌝ }
     ensures { λ r. ⌜ r ≡ combined op n first second ⌝ }
 {
@@ -127,7 +132,7 @@ fn combined(op: Operation, n: u32, first: [u32; 12], second: [u32; 12]) -> [u32;
 }
 
 // The field of the other days of the period.
-fn other_days(n: u32, field: [u32; 12]) -> [u32; 12]
+fn other_days(n: u32, field: [u32; BIT_WORDS]) -> [u32; BIT_WORDS]
     requires { ⌜ n ≤ mostPeriodDays ⌝ }
     ensures { λ r. ⌜ r ≡ complement n field ⌝ }
 {
@@ -135,7 +140,7 @@ fn other_days(n: u32, field: [u32; 12]) -> [u32; 12]
 }
 
 // The number of its days, which stand at bits 2 to n + 1.
-fn day_count(n: u32, field: [u32; 12]) -> u32
+fn day_count(n: u32, field: [u32; BIT_WORDS]) -> u32
     requires { ⌜ n ≤ mostPeriodDays ⌝ }
     ensures { λ r. ⌜ r ≡ dayCount n field ⌝ }
 {
@@ -143,8 +148,8 @@ fn day_count(n: u32, field: [u32; 12]) -> u32
 }
 
 // How many bits from one place up to another are 1.
-fn count_bits(bits: [u32; 12], from: u32, to: u32) -> u32
-    requires { ⌜ to ≤ 384 ⌝ }
+fn count_bits(bits: [u32; BIT_WORDS], from: u32, to: u32) -> u32
+    requires { ⌜ to ≤ bitCount ⌝ }
     ensures { λ r. ⌜ r ≡ countIf (bit bits) (upto (to - from) from) ⌝ }
 {
     let mut count: u32 = 0;
@@ -157,11 +162,11 @@ fn count_bits(bits: [u32; 12], from: u32, to: u32) -> u32
 }
 
 // The field of n days that has the days of some bits. Their bits that are no days make way for the frame.
-fn in_frame(n: u32, days: [u32; 12]) -> [u32; 12]
+fn in_frame(n: u32, days: [u32; BIT_WORDS]) -> [u32; BIT_WORDS]
     requires { ⌜ n ≤ mostPeriodDays ⌝ }
     ensures { λ r. ⌜ r ≡ fieldOf n (runsOn days) ⌝ }
 {
-    let mut r = [0u32; 12];
+    let mut r = [0u32; BIT_WORDS];
     let mut i: usize = 0;
     while i < BIT_WORDS {
         r[i] = framed_word(n, days, i as u32);
@@ -171,8 +176,8 @@ fn in_frame(n: u32, days: [u32; 12]) -> [u32; 12]
 }
 
 // Word i of it.
-fn framed_word(n: u32, days: [u32; 12], i: u32) -> u32
-    requires { ⌜ (n ≤ mostPeriodDays) × (i < 12) ⌝ }
+fn framed_word(n: u32, days: [u32; BIT_WORDS], i: u32) -> u32
+    requires { ⌜ (n ≤ mostPeriodDays) × (i < bitWords) ⌝ }
     ensures { λ r. ⌜ r ≡ wordOf (bitIn n days) i ⌝ }
 {
     let mut word: u32 = 0;
@@ -185,8 +190,8 @@ fn framed_word(n: u32, days: [u32; 12], i: u32) -> u32
 }
 
 // Bit k of it.
-fn framed_bit(n: u32, days: [u32; 12], k: u32) -> bool
-    requires { ⌜ (n ≤ mostPeriodDays) × (k < 384) ⌝ }
+fn framed_bit(n: u32, days: [u32; BIT_WORDS], k: u32) -> bool
+    requires { ⌜ (n ≤ mostPeriodDays) × (k < bitCount) ⌝ }
     ensures { λ r. ⌜ r ≡ bitIn n days k ⌝ }
 {
     let day = bitfield::bit_of(days, k);

@@ -11,7 +11,7 @@ use Rattle.base.proofs.Laws.{tests, clash}
 use Rattle.base.specs.Lists.{every}
 use Rattle.columns.specs.Columns.{padTo, columns, column, isBlank, isHex, blank, digits, countTo, isOf}
 use Rattle.columns.specs.declared.Class.the-variants.{Byte}
-use Rattle.forms.specs.Form.{Row, fits, formOf, isFit, before, named, strayFrom, unnamed, rowForm, formFrom}
+use Rattle.forms.specs.Form.{mostFileBytes, Row, fits, formOf, isFit, before, named, strayFrom, unnamed, rowForm, formFrom}
 use Rattle.forms.specs.Form as Fm
 use Rattle.forms.specs.Columns.{bitFieldColumns, stopColumns, interchangeColumns, columnsOf}
 use Rattle.forms.specs.Usual.{bitFieldFits, stopFits, interchangeFits}
@@ -129,22 +129,22 @@ bit-field-same l h =
     (step-gap 6 (Fm.columns 8 103 Fm.hexDigits) [] l true refl (end-fit 103 l h)
     ∙ ap (λ (b : Bool). isBlank (column 7 l) && b) (and-one _))
 
-stop-same : (l : List ℕ) → length l ≤ 16777216 → fits stopColumns l ≡ stopFits l
+stop-same : (l : List ℕ) → length l ≤ mostFileBytes → fits stopColumns l ≡ stopFits l
 unfolding stopFits
 stop-same l h =
     step-next 0 (Fm.columns 1 7 Fm.digits) (Fm.columns 9 11 Fm.free ∷ Fm.columns 13 62 Fm.notAllBlank ∷ Fm.fromColumn 63 Fm.free ∷ []) l _ refl
     (step-gap 7 (Fm.columns 9 11 Fm.free) (Fm.columns 13 62 Fm.notAllBlank ∷ Fm.fromColumn 63 Fm.free ∷ []) l _ refl
     (step-gap 11 (Fm.columns 13 62 Fm.notAllBlank) (Fm.fromColumn 63 Fm.free ∷ []) l true refl
-    (step-next 62 (Fm.fromColumn 63 Fm.free) [] l true refl (end-fit 16777216 l h))
+    (step-next 62 (Fm.fromColumn 63 Fm.free) [] l true refl (end-fit mostFileBytes l h))
     ∙ ap (λ (b : Bool). isBlank (column 12 l) && b) (and-one _)))
 
-interchange-same : (l : List ℕ) → length l ≤ 16777216 → fits interchangeColumns l ≡ interchangeFits l
+interchange-same : (l : List ℕ) → length l ≤ mostFileBytes → fits interchangeColumns l ≡ interchangeFits l
 unfolding interchangeFits
 interchange-same l h =
     step-next 0 (Fm.columns 1 7 Fm.digits) (Fm.columns 9 10 (Fm.count 60) ∷ Fm.columns 12 13 (Fm.count 99) ∷ Fm.fromColumn 15 Fm.free ∷ []) l _ refl
     (step-gap 7 (Fm.columns 9 10 (Fm.count 60)) (Fm.columns 12 13 (Fm.count 99) ∷ Fm.fromColumn 15 Fm.free ∷ []) l _ refl
     (step-gap 10 (Fm.columns 12 13 (Fm.count 99)) (Fm.fromColumn 15 Fm.free ∷ []) l _ refl
-    (step-gap 13 (Fm.fromColumn 15 Fm.free) [] l true refl (end-fit 16777216 l h) ∙ and-one _)))
+    (step-gap 13 (Fm.fromColumn 15 Fm.free) [] l true refl (end-fit mostFileBytes l h) ∙ and-one _)))
 
 -- ---- for `search usual`: t is what the columns said, u what is answered
 
@@ -152,10 +152,10 @@ module _ (l : List ℕ) (t : Bool) where
   pub bit-field-usual : length l ≡ 103 → t ≡ bitFieldFits l → t ≡ true → formOf bitFieldColumns l ≡ Fits
   bit-field-usual h e y = fit (formOf bitFieldColumns l) (bit-field-same l (omega arith) ∙ sym e ∙ y)
 
-  pub stop-usual : length l ≤ 16777216 → t ≡ stopFits l → t ≡ true → formOf stopColumns l ≡ Fits
+  pub stop-usual : length l ≤ mostFileBytes → t ≡ stopFits l → t ≡ true → formOf stopColumns l ≡ Fits
   stop-usual h e y = fit (formOf stopColumns l) (stop-same l h ∙ sym e ∙ y)
 
-  pub interchange-usual : length l ≤ 16777216 → t ≡ interchangeFits l → t ≡ true → formOf interchangeColumns l ≡ Fits
+  pub interchange-usual : length l ≤ mostFileBytes → t ≡ interchangeFits l → t ≡ true → formOf interchangeColumns l ≡ Fits
   interchange-usual h e y = fit (formOf interchangeColumns l) (interchange-same l h ∙ sym e ∙ y)
 
 pub not-usual : (f : Form) → false ≡ true → f ≡ Fits

@@ -123,9 +123,13 @@ columns a b r = record { from = a; to = b; rule = r }
 abbrev pub column : ℕ → Rule → Row
 column a r = columns a a r
 
--- "from 63 free": to the line's end, since no file is longer than 16,777,216 bytes
+-- "1 file over 16,777,216 bytes"
+abbrev pub mostFileBytes : ℕ
+mostFileBytes = 16777216
+
+-- "from 63 free": to the line's end, since no file is longer
 abbrev pub fromColumn : ℕ → Rule → Row
-fromColumn a r = columns a 16777216 r
+fromColumn a r = columns a mostFileBytes r
 
 -- the first of two that is broken
 abbrev pub before : Form → Form → Form

@@ -57,10 +57,11 @@ const TO: u64 = 65536;
 
 const WITH: u64 = 256;
 
-// To the line's end: no file is longer.
-const END: u64 = 16777216 * TO;
+// "file over 16,777,216 bytes" (1)
+pub const MOST_FILE_BYTES: usize = 16777216;
 
-const LONGEST: usize = 16777216;
+// To the line's end: no file is longer.
+const END: u64 = MOST_FILE_BYTES as u64 * TO;
 
 // The rules.
 const FREE: u64 = 0;
@@ -298,7 +299,7 @@ fn usual_stop(line: &[u8]) -> bool
     if line.len() < 13 {
         return false;
     }
-    if line.len() <= LONGEST {
+    if line.len() <= MOST_FILE_BYTES {
         return stop_fits(line);
     }
     false
@@ -323,7 +324,7 @@ fn usual_interchange(line: &[u8]) -> bool
     if line.len() < 13 {
         return false;
     }
-    if line.len() <= LONGEST {
+    if line.len() <= MOST_FILE_BYTES {
         return interchange_fits(line);
     }
     false

@@ -1,5 +1,8 @@
 // The ground's public functions over the C boundary, for the comparison with the independent Rust reader only. Answers are flat:
 // numbers, or structs of numbers. Where a called function requires something, that is tested first, and else a fixed value answered.
+use bitfield::BIT_COUNT;
+use bitfield::BIT_WORDS;
+use bitfield::MOST_FRAMED;
 use calendar::Date;
 use calendar::Period;
 use columns::Class;
@@ -20,7 +23,7 @@ ghost use Rattle.columns.specs.Columns.{columns, column, isOf, number, countTo}
 ghost use Rattle.lines.specs.Lines.{cutAt, skipped};
 ghost use Rattle.fields.specs.Fields.{time, rangeEnd, detail};
 ghost use Rattle.calendar.specs.Calendar.{dayOf, dateIn, periodOf};
-ghost use Rattle.bitfield.specs.BitField.{bitsIn, bit, runsOn, framed, someDay};
+ghost use Rattle.bitfield.specs.BitField.{bitCount, mostFramed, bitsIn, bit, runsOn, framed, someDay};
 ghost use Rattle.forms.specs.Kinds.{kindOf};
 ghost use Rattle.forms.specs.Form.{formOf};
 ghost use Rattle.forms.specs.Columns.{columnsOf};
@@ -44,7 +47,7 @@ pub struct Told {
 // A bit field.
 #[repr(C)]
 pub struct Words {
-    pub words: [u32; 12],
+    pub words: [u32; BIT_WORDS],
 }
 
 // ---- lines
@@ -183,40 +186,40 @@ pub extern "C" fn probe_bits(line: &[u8]) -> Words
 }
 
 #[no_mangle]
-pub extern "C" fn probe_bit(b: &[u32; 12], k: u32) -> bool
-    ensures { λ r. ⌜ r ≡ cond (ltb k 384) (bit (now (b .entry)) k) false ⌝ }
+pub extern "C" fn probe_bit(b: &[u32; BIT_WORDS], k: u32) -> bool
+    ensures { λ r. ⌜ r ≡ cond (ltb k bitCount) (bit (now (b .entry)) k) false ⌝ }
 {
-    if k < 384 {
+    if k < BIT_COUNT {
         return bitfield::bit_of(*b, k);
     }
     false
 }
 
 #[no_mangle]
-pub extern "C" fn probe_runs(b: &[u32; 12], d: u32) -> bool
-    ensures { λ r. ⌜ r ≡ cond (ltb d 380) (runsOn (now (b .entry)) d) false ⌝ }
+pub extern "C" fn probe_runs(b: &[u32; BIT_WORDS], d: u32) -> bool
+    ensures { λ r. ⌜ r ≡ cond (ltb d mostFramed) (runsOn (now (b .entry)) d) false ⌝ }
 {
-    if d < 380 {
+    if d < MOST_FRAMED {
         return bitfield::runs_on(*b, d);
     }
     false
 }
 
 #[no_mangle]
-pub extern "C" fn probe_framed(b: &[u32; 12], n: u32) -> bool
-    ensures { λ r. ⌜ r ≡ cond (leb n 380) (framed n (now (b .entry))) false ⌝ }
+pub extern "C" fn probe_framed(b: &[u32; BIT_WORDS], n: u32) -> bool
+    ensures { λ r. ⌜ r ≡ cond (leb n mostFramed) (framed n (now (b .entry))) false ⌝ }
 {
-    if n <= 380 {
+    if n <= MOST_FRAMED {
         return bitfield::is_framed(*b, n);
     }
     false
 }
 
 #[no_mangle]
-pub extern "C" fn probe_some_day(b: &[u32; 12], n: u32) -> bool
-    ensures { λ r. ⌜ r ≡ cond (leb n 380) (someDay n (now (b .entry))) false ⌝ }
+pub extern "C" fn probe_some_day(b: &[u32; BIT_WORDS], n: u32) -> bool
+    ensures { λ r. ⌜ r ≡ cond (leb n mostFramed) (someDay n (now (b .entry))) false ⌝ }
 {
-    if n <= 380 {
+    if n <= MOST_FRAMED {
         return bitfield::some_day(*b, n);
     }
     false
@@ -224,7 +227,7 @@ pub extern "C" fn probe_some_day(b: &[u32; 12], n: u32) -> bool
 
 #[no_mangle]
 pub extern "C" fn probe_no_bits() -> Words
-    ensures { λ r. ⌜ ((k : ℕ) → k < 384 → bit (r .words) k ≡ false) ⌝ }
+    ensures { λ r. ⌜ ((k : ℕ) → k < bitCount → bit (r .words) k ≡ false) ⌝ }
 {
     Words {
         words: bitfield::no_bits(),
@@ -233,7 +236,7 @@ pub extern "C" fn probe_no_bits() -> Words
 
 #[no_mangle]
 pub extern "C" fn probe_all_bits() -> Words
-    ensures { λ r. ⌜ ((k : ℕ) → k < 384 → bit (r .words) k ≡ true) ⌝ }
+    ensures { λ r. ⌜ ((k : ℕ) → k < bitCount → bit (r .words) k ≡ true) ⌝ }
 {
     Words {
         words: bitfield::all_bits(),
@@ -241,8 +244,8 @@ pub extern "C" fn probe_all_bits() -> Words
 }
 
 #[no_mangle]
-pub extern "C" fn probe_either(a: &[u32; 12], b: &[u32; 12]) -> Words
-    ensures { λ r. ⌜ ((k : ℕ) → k < 384 → bit (r .words) k ≡ (bit (now (a .entry)) k || bit (now (b .entry)) k)) ⌝ }
+pub extern "C" fn probe_either(a: &[u32; BIT_WORDS], b: &[u32; BIT_WORDS]) -> Words
+    ensures { λ r. ⌜ ((k : ℕ) → k < bitCount → bit (r .words) k ≡ (bit (now (a .entry)) k || bit (now (b .entry)) k)) ⌝ }
 {
     Words {
         words: bitfield::either(*a, *b),
@@ -250,8 +253,8 @@ pub extern "C" fn probe_either(a: &[u32; 12], b: &[u32; 12]) -> Words
 }
 
 #[no_mangle]
-pub extern "C" fn probe_both(a: &[u32; 12], b: &[u32; 12]) -> Words
-    ensures { λ r. ⌜ ((k : ℕ) → k < 384 → bit (r .words) k ≡ (bit (now (a .entry)) k && bit (now (b .entry)) k)) ⌝ }
+pub extern "C" fn probe_both(a: &[u32; BIT_WORDS], b: &[u32; BIT_WORDS]) -> Words
+    ensures { λ r. ⌜ ((k : ℕ) → k < bitCount → bit (r .words) k ≡ (bit (now (a .entry)) k && bit (now (b .entry)) k)) ⌝ }
 {
     Words {
         words: bitfield::both(*a, *b),
@@ -259,8 +262,8 @@ pub extern "C" fn probe_both(a: &[u32; 12], b: &[u32; 12]) -> Words
 }
 
 #[no_mangle]
-pub extern "C" fn probe_without(a: &[u32; 12], b: &[u32; 12]) -> Words
-    ensures { λ r. ⌜ ((k : ℕ) → k < 384 → bit (r .words) k ≡ (bit (now (a .entry)) k && not (bit (now (b .entry)) k))) ⌝ }
+pub extern "C" fn probe_without(a: &[u32; BIT_WORDS], b: &[u32; BIT_WORDS]) -> Words
+    ensures { λ r. ⌜ ((k : ℕ) → k < bitCount → bit (r .words) k ≡ (bit (now (a .entry)) k && not (bit (now (b .entry)) k))) ⌝ }
 {
     Words {
         words: bitfield::without(*a, *b),

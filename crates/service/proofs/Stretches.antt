@@ -14,7 +14,7 @@ use borrow.Author.Tests.{le-leb, lt-ltb, eq-eqb, ne-eqb, eqb-true, leb-true, ltb
 use Rattle.base.specs.Lists.{some-of, countIf, find, upto, below}
 use Rattle.base.proofs.Laws.{tests, apart, or-false}
 use Rattle.base.proofs.Loops.{upto-none, and-true, every-at}
-use Rattle.bitfield.specs.BitField.{bit, runsOn, someDay}
+use Rattle.bitfield.specs.BitField.{bitCount, bit, runsOn, someDay}
 use Rattle.bitfield.proofs.Sets.{no-bit}
 use Rattle.timetable.specs.Layout.{daySize, mostPeriodDays}
 use Rattle.timetable.specs.Delivery.{BitField, DayRange}
@@ -176,7 +176,7 @@ none-found q (x ∷ xs) f = go (q x) f (none-found q xs)
 -- ---- the days of a range, by its bit field
 
 module _ (fields : List BitField) (b : ℕ) (r : List ℕ) where
-  pub field-daily : b ≡ 0 → ((k : ℕ) → k < 384 → bit r k ≡ true) → (d : ℕ) → d < mostPeriodDays → bit r (d + 2) ≡ fieldRuns fields b d
+  pub field-daily : b ≡ 0 → ((k : ℕ) → k < bitCount → bit r k ≡ true) → (d : ℕ) → d < mostPeriodDays → bit r (d + 2) ≡ fieldRuns fields b d
   unfolding fieldRuns
   field-daily z f d h = rw (eq-eqb b 0 z) (f (d + 2) (omega arith))
 
@@ -248,10 +248,10 @@ module _ (fields : List BitField) (w : List ℕ) (v legs : ℕ) where
   pub record Swept (begun ended broken : List ℕ) (leg : ℕ) : Type 0 where
     pub each : (d : ℕ) → d < mostPeriodDays → brokenBy (runsOn begun d) (runsOn ended d) (runsOn broken d) (map (operated fields rs d) (upto (legs - leg) leg)) ≡ rowsBroken fields legs rs d
 
-  pub swept-none : (begun ended broken : List ℕ) → ((k : ℕ) → k < 384 → bit begun k ≡ false) → ((k : ℕ) → k < 384 → bit ended k ≡ false) → ((k : ℕ) → k < 384 → bit broken k ≡ false) → Swept begun ended broken 0
+  pub swept-none : (begun ended broken : List ℕ) → ((k : ℕ) → k < bitCount → bit begun k ≡ false) → ((k : ℕ) → k < bitCount → bit ended k ≡ false) → ((k : ℕ) → k < bitCount → bit broken k ≡ false) → Swept begun ended broken 0
   swept-none begun ended broken b e x = record {
     each = λ d h.
-        let k : d + 2 < 384 = omega arith in
+        let k : d + 2 < bitCount = omega arith in
         by-bits (runsOn begun d) false (runsOn ended d) false (runsOn broken d) false (map (operated fields rs d) (upto (legs - 0) 0)) (b (d + 2) k) (e (d + 2) k) (x (d + 2) k)
         ∙ ap (λ (m : ℕ). brokenBy false false false (map (operated fields rs d) (upto m 0))) (sub-zero legs)
         ∙ two-stretches (map (operated fields rs d) (below legs));
@@ -279,14 +279,14 @@ module _ (fields : List BitField) (w : List ℕ) (v legs : ℕ) where
       -- `on` has the range's days; the others are what the code makes of it
       module _ (on again over : List ℕ) {begun ended broken begun′ ended′ broken′ : List ℕ} where
         pub swept-next : leg < legs → ((d : ℕ) → d < mostPeriodDays → bit on (d + 2) ≡ fieldRuns fields (getD w p 0) d) →
-            ((k : ℕ) → k < 384 → bit again k ≡ (bit ended k && bit on k)) → ((k : ℕ) → k < 384 → bit broken′ k ≡ (bit broken k || bit again k)) →
-            ((k : ℕ) → k < 384 → bit over k ≡ (bit begun k && not (bit on k))) → ((k : ℕ) → k < 384 → bit ended′ k ≡ (bit ended k || bit over k)) →
-            ((k : ℕ) → k < 384 → bit begun′ k ≡ (bit begun k || bit on k)) → Swept begun ended broken leg → Swept begun′ ended′ broken′ (getD w (p + 2) 0)
+            ((k : ℕ) → k < bitCount → bit again k ≡ (bit ended k && bit on k)) → ((k : ℕ) → k < bitCount → bit broken′ k ≡ (bit broken k || bit again k)) →
+            ((k : ℕ) → k < bitCount → bit over k ≡ (bit begun k && not (bit on k))) → ((k : ℕ) → k < bitCount → bit ended′ k ≡ (bit ended k || bit over k)) →
+            ((k : ℕ) → k < bitCount → bit begun′ k ≡ (bit begun k || bit on k)) → Swept begun ended broken leg → Swept begun′ ended′ broken′ (getD w (p + 2) 0)
         swept-next h o a t z u s i = record { each = day }
           where
             day : (d : ℕ) → d < mostPeriodDays → brokenBy (runsOn begun′ d) (runsOn ended′ d) (runsOn broken′ d) (map (operated fields rs d) (upto (legs - getD w (p + 2) 0) (getD w (p + 2) 0))) ≡ rowsBroken fields legs rs d
             day d g =
-                let k : d + 2 < 384 = omega arith in
+                let k : d + 2 < bitCount = omega arith in
                 let m : ℕ = getD w (p + 2) 0 - leg - 1 in
                 let n : ℕ = legs - leg - 1 in
                 let r : Bool = fieldRuns fields (getD w p 0) d in

@@ -2,6 +2,7 @@
 use cover::FirstRange;
 use draft::Drafted;
 use reading::Read;
+use timetable::BIT_WORDS;
 use timetable::CALL_WORDS;
 use timetable::CALLS_AT;
 use timetable::CATEGORIES_AT;
@@ -216,7 +217,7 @@ fn two_stretches(
 
 // The days on which they do: a leg runs after one that ran and one that did not. The legs that one range covers run on the same days, so the
 // way along the route goes from range to range, and each range's bit field is looked up once.
-fn torn_days(ranges: &[u32], v: u32, legs: u32, bitfeld: &[u8], fields: &[u32]) -> [u32; 12]
+fn torn_days(ranges: &[u32], v: u32, legs: u32, bitfeld: &[u8], fields: &[u32]) -> [u32; BIT_WORDS]
     requires { ⌜ v * daySize ≤ length (now ranges) ⌝ }
     requires { ⌜ eachOnce (λ (r : DayRange). r .legs) legs (rowsIn dayAt daySize v (now ranges)) ≡ true ⌝ }
     requires { ⌜ FieldMap (now bitfeld) (now fields) ⌝ }
@@ -244,7 +245,7 @@ fn torn_days(ranges: &[u32], v: u32, legs: u32, bitfeld: &[u8], fields: &[u32]) 
 }
 
 // The days of a bit field by its number: 0 is every day.
-fn field_days(bitfeld: &[u8], fields: &[u32], number: u32) -> [u32; 12]
+fn field_days(bitfeld: &[u8], fields: &[u32], number: u32) -> [u32; BIT_WORDS]
     requires { ⌜ FieldMap (now bitfeld) (now fields) ⌝ }
     ensures { λ r. ⌜ ((d : ℕ) → d < mostPeriodDays → runsOn r d ≡ fieldRuns (bitFieldsIn (now (bitfeld .entry))) number d) ⌝ }
 {

@@ -51,7 +51,7 @@ ghost use Rattle.timetable.specs.Table.{recordWords, rowsIn, legsAt, classAt, c
 ghost use Rattle.table.specs.JustTable.{recordEnd, headerSound, classesPlace};
 
 // The day after 31.12.2199.
-const AFTER_LAST_DAY: u64 = 109573;
+const AFTER_LAST_DAY: u64 = calendar::LAST_DAY as u64 + 1;
 
 // Whether the words are a table.
 pub fn is_table(w: &[u32]) -> bool

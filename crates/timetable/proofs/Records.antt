@@ -9,7 +9,7 @@ use lib.Seq.{drop-at, take-at, drop-drop}
 use Rattle.base.specs.Lists.{All, gathered}
 use Rattle.timetable.specs.Delivery.{BitField, StopRecord, Interchange, CategoryClass, CategoryRange, DayRange, ExtraRange, Service}
 use Rattle.timetable.specs.Table.{bitFieldWords, stopWords, interchangeWords, classWords, callWords, categoryWords, dayWords, extraWords, serviceSize, headWords, serviceWords}
-use Rattle.timetable.specs.Layout.{bitFieldSize, stopSize, interchangeSize, classSize, serviceHead, callSize, categorySize, daySize, extraSize}
+use Rattle.timetable.specs.Layout.{bitWords, bitFieldSize, stopSize, interchangeSize, classSize, serviceHead, callSize, categorySize, daySize, extraSize}
 use Rattle.timetable.specs.Table.{word, rowsIn, bitFieldAt, stopAt, interchangeAt, classAt, callAt, categoryAt, dayAt, extraAt, serviceAt, servicesIn}
 use Rattle.timetable.specs.declared.Call.{Call}
 use Rattle.timetable.proofs.Rows.{any, all-any, length-gathered, rows-back}
@@ -18,10 +18,10 @@ use Rattle.timetable.proofs.Rows.{any, all-any, length-gathered, rows-b
 
 -- a bit field has twelve words; the other records have their size by themselves
 abbrev pub twelve : BitField → Type 0
-twelve b = length (b .words) ≡ 12
+twelve b = length (b .words) ≡ bitWords
 
 twelve-back : (b : BitField) (r : List ℕ) → twelve b → bitFieldAt (bitFieldWords b ++ r) ≡ b
-twelve-back b r h = λ i. record { number = b .number; words = take-at (b .words) r 12 h i }
+twelve-back b r h = λ i. record { number = b .number; words = take-at (b .words) r bitWords h i }
 
 pub fields-back : {xs : List BitField} (r : List ℕ) → All twelve xs → rowsIn bitFieldAt bitFieldSize (length xs) (gathered bitFieldWords xs ++ r) ≡ xs
 fields-back = rows-back bitFieldWords bitFieldSize twelve (λ b k. omega (arith, k)) bitFieldAt twelve-back

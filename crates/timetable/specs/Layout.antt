@@ -1,6 +1,12 @@
--- The sizes of the table's records and the limits of the rules, each a number of the paper with a name (but for the last). The code's names for them are tied to
--- these by `timetable::sizes_tied` and `limits_tied`. Assumes nothing.
+-- The sizes of the table's records and the limits of the rules, each a number of the paper with a name (but for the last); what the ground knows has its
+-- name there. The code's names for them are tied to these by `timetable::sizes_tied` and `limits_tied`. Assumes nothing.
 use Prim.Native.Nat.{ℕ, _+_, _*_}
+-- "A bit field is twelve words held together as one value"
+pub use Rattle.bitfield.specs.BitField.{bitWords}
+-- "A period of n days has 1 to 380."
+pub use Rattle.calendar.specs.Calendar.{mostPeriodDays}
+-- "1 file over 16,777,216 bytes"
+pub use Rattle.forms.specs.Form.{mostFileBytes}
 
 -- ---- sizes in words
 
@@ -11,7 +17,7 @@ headerSize = 9
 
 -- "per bit field 13 (number, 12 words)"
 abbrev pub bitFieldSize : ℕ
-bitFieldSize = 13
+bitFieldSize = 1 + bitWords
 
 -- "stop 3 (number, byte offset .., name length ..)"
 abbrev pub stopSize : ℕ
@@ -74,14 +80,6 @@ abbrev pub kindT : ℕ
 kindT = 1
 
 -- ---- limits
-
--- "1 file over 16,777,216 bytes"
-abbrev pub mostFileBytes : ℕ
-mostFileBytes = 16777216
-
--- "A period of n days has 1 to 380."
-abbrev pub mostPeriodDays : ℕ
-mostPeriodDays = 380
 
 -- "26 class over 13"; No. 1: "21 .. refuses a class over 13"
 abbrev pub mostClass : ℕ

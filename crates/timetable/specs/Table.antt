@@ -8,7 +8,7 @@ use lib.ListN.{length, getD, getElem?, take, drop}
 use lib.Dec.{ltb, leb, eqb}
 use Rattle.base.specs.Lists.{every, gathered}
 use Rattle.calendar.specs.Calendar.{lastDay}
-use Rattle.timetable.specs.Layout.{headerSize, bitFieldSize, stopSize, interchangeSize, classSize, serviceHead, callSize, categorySize, daySize, extraSize, recordSize, firstService}
+use Rattle.timetable.specs.Layout.{headerSize, bitWords, bitFieldSize, stopSize, interchangeSize, classSize, serviceHead, callSize, categorySize, daySize, extraSize, recordSize, firstService}
 use Rattle.timetable.specs.Layout.{mostPeriodDays, mostClass, mostCalls, mostCategories, mostDays, mostExtras, latestTime, allFlags}
 use Rattle.timetable.specs.Delivery.{Period, BitField, StopRecord, Interchange, CategoryClass, Legs, CategoryRange, DayRange, ExtraRange, Service, Delivery}
 use Rattle.timetable.specs.Ranges.{inOrder}
@@ -131,7 +131,7 @@ rowsIn f size zero w = []
 rowsIn f size (suc n) w = f w ∷ rowsIn f size n (drop size w)
 
 abbrev pub bitFieldAt : List ℕ → BitField
-bitFieldAt w = record { number = word w 0; words = take 12 (drop 1 w) }
+bitFieldAt w = record { number = word w 0; words = take bitWords (drop 1 w) }
 
 abbrev pub stopAt : List ℕ → StopRecord
 stopAt w = record { number = word w 0; offset = word w 1; size = word w 2 }

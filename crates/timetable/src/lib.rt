@@ -1,12 +1,15 @@
 // What a delivery and its table are made of: the types and the sizes that the loader, the table and the questions share.
 // The rules of document 01 on them stand in specs/; the code that keeps them stands in the crates above.
+pub use bitfield::BIT_WORDS;
+pub use calendar::MOST_PERIOD_DAYS;
 use fields::Detail;
 use fields::RangeEnd;
+pub use forms::MOST_FILE_BYTES;
 ghost use mathlib.Core.Path.{_≡_};
 ghost use mathlib.Core.List.{[], _∷_};
 ghost use mathlib.Core.Option.{some};
 ghost use Rattle.timetable.specs.Offences.{offenceAt, verdictBy};
-ghost use Rattle.timetable.specs.Layout.{headerSize, bitFieldSize, stopSize, interchangeSize, classSize, serviceHead, callSize, categorySize, daySize, extraSize, rowSize, helperHead, helperLine};
+ghost use Rattle.timetable.specs.Layout.{headerSize, bitWords, bitFieldSize, stopSize, interchangeSize, classSize, serviceHead, callSize, categorySize, daySize, extraSize, rowSize, helperHead, helperLine};
 ghost use Rattle.timetable.specs.Layout.{mostFileBytes, mostPeriodDays, mostClass, mostCalls, mostCategories, mostDays, mostExtras, mostRepeats, mostRunning, latestTime, allFlags, kindZ, kindT};
 ghost use Rattle.timetable.specs.Ranges.{inOrder};
 
@@ -203,9 +206,6 @@ pub const HELPER_HEAD_WORDS: usize = 64;
 
 pub const HELPER_LINE_WORDS: usize = 4;
 
-// The twelve words of a bit field's 384 bits.
-pub const BIT_WORDS: usize = 12;
-
 // ---- where the header's words stand
 
 pub const USED_AT: usize = 0;
@@ -258,12 +258,6 @@ pub const KIND_T: u32 = 1;
 
 // ---- limits (specs/Layout; `limits_tied` ties the two)
 
-// "file over 16,777,216 bytes" (1)
-pub const MOST_FILE_BYTES: usize = 16777216;
-
-// "A period of n days has 1 to 380."
-pub const MOST_PERIOD_DAYS: u32 = 380;
-
 // "class over 13" (26, and of a table 21)
 pub const MOST_CLASS: u32 = 13;
 
@@ -306,11 +300,12 @@ pub fn in_order(loose: bool, from: u32, to: u32) -> bool
 }
 
 // The sizes that the contracts name, by the names that the code uses.
-pub fn sizes_tied() -> [usize; 13]
-    ensures { λ r. ⌜ r ≡ headerSize ∷ bitFieldSize ∷ stopSize ∷ interchangeSize ∷ classSize ∷ serviceHead ∷ callSize ∷ categorySize ∷ daySize ∷ extraSize ∷ rowSize ∷ helperHead ∷ helperLine ∷ [] ⌝ }
+pub fn sizes_tied() -> [usize; 14]
+    ensures { λ r. ⌜ r ≡ headerSize ∷ bitWords ∷ bitFieldSize ∷ stopSize ∷ interchangeSize ∷ classSize ∷ serviceHead ∷ callSize ∷ categorySize ∷ daySize ∷ extraSize ∷ rowSize ∷ helperHead ∷ helperLine ∷ [] ⌝ }
 {
     [
         HEADER_WORDS,
+        BIT_WORDS,
         BIT_FIELD_WORDS,
         STOP_WORDS,
         INTERCHANGE_WORDS,

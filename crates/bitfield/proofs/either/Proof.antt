@@ -1,5 +1,6 @@
 use Prim.Native.Nat.{_-_}
 use lib.Bits.{bitOr}
+use Rattle.bitfield.specs.BitField.{bitWords}
 use Rattle.bitfield.proofs.Fill.{Filled}
 use Rattle.bitfield.proofs.Sets.{wordwise, sets}
 use Rattle.bitfield.proofs.either.Statement.{statement}
@@ -9,7 +10,7 @@ abbrev Inv-loop : tie.InvT-loop
 Inv-loop a b r₀ i₀ r i = Filled (wordwise bitOr a b) r i
 
 abbrev μ-loop : tie.MeasureT-loop
-μ-loop a b r₀ i₀ r i = 12 - i
+μ-loop a b r₀ i₀ r i = bitWords - i
 
 loop-holds : tie.Need-loop-holds Inv-loop μ-loop
 loop-holds c = search sets

@@ -1,16 +1,16 @@
 use mathlib.Core.Path.{_≡_}
 use Prim.Native.Nat.{_-_}
 use Rattle.base.specs.Lists.{every, upto}
-use Rattle.bitfield.specs.BitField.{zeroAt, noBit}
+use Rattle.bitfield.specs.BitField.{bitWords, zeroAt, noBit}
 use Rattle.bitfield.proofs.Frame.{frames}
 use Rattle.bitfield.proofs.has_no_bit.Statement.{statement}
 use Rattle.bitfield.proofs.has_no_bit.Tie as tie
 
 abbrev Inv-loop : tie.InvT-loop
-Inv-loop b i₀ i = every (zeroAt b) (upto (12 - i) i) ≡ noBit b
+Inv-loop b i₀ i = every (zeroAt b) (upto (bitWords - i) i) ≡ noBit b
 
 abbrev μ-loop : tie.MeasureT-loop
-μ-loop b i₀ i = 12 - i
+μ-loop b i₀ i = bitWords - i
 
 loop-holds : tie.Need-loop-holds Inv-loop μ-loop
 loop-holds c = search frames

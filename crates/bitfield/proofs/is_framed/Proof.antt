@@ -1,16 +1,16 @@
 use mathlib.Core.Path.{_≡_}
 use Prim.Native.Nat.{_-_}
 use Rattle.base.specs.Lists.{every, upto}
-use Rattle.bitfield.specs.BitField.{framed}
+use Rattle.bitfield.specs.BitField.{bitCount, framed}
 use Rattle.bitfield.proofs.Frame.{fits, frames}
 use Rattle.bitfield.proofs.is_framed.Statement.{statement}
 use Rattle.bitfield.proofs.is_framed.Tie as tie
 
 abbrev Inv-loop : tie.InvT-loop
-Inv-loop b n k₀ k = every (fits n b) (upto (384 - k) k) ≡ framed n b
+Inv-loop b n k₀ k = every (fits n b) (upto (bitCount - k) k) ≡ framed n b
 
 abbrev μ-loop : tie.MeasureT-loop
-μ-loop b n k₀ k = 384 - k
+μ-loop b n k₀ k = bitCount - k
 
 loop-holds : tie.Need-loop-holds Inv-loop μ-loop
 unfolding framed

@@ -1,4 +1,5 @@
 use Prim.Native.Nat.{_-_}
+use Rattle.bitfield.specs.BitField.{bitWords}
 use Rattle.bitfield.proofs.Fill.{Filled}
 use Rattle.bitfield.proofs.Hex.{wordIn}
 use Rattle.bitfield.proofs.Pack.{packing}
@@ -9,7 +10,7 @@ abbrev Inv-loop : tie.InvT-loop
 Inv-loop line v r₀ i₀ r i = Filled (wordIn line) r i
 
 abbrev μ-loop : tie.MeasureT-loop
-μ-loop line v r₀ i₀ r i = 12 - i
+μ-loop line v r₀ i₀ r i = bitWords - i
 
 loop-holds : tie.Need-loop-holds Inv-loop μ-loop
 loop-holds c = search packing

@@ -1,4 +1,5 @@
 use Prim.Native.Nat.{_-_}
+use Rattle.bitfield.specs.BitField.{bitWords}
 use Rattle.bitfield.proofs.Fill.{Filled, wordFrom, copies}
 use Rattle.bitfield.proofs.words_at.Statement.{statement}
 use Rattle.bitfield.proofs.words_at.Tie as tie
@@ -7,7 +8,7 @@ abbrev Inv-loop : tie.InvT-loop
 Inv-loop words at r₀ i₀ r i = Filled (wordFrom words at) r i
 
 abbrev μ-loop : tie.MeasureT-loop
-μ-loop words at r₀ i₀ r i = 12 - i
+μ-loop words at r₀ i₀ r i = bitWords - i
 
 loop-holds : tie.Need-loop-holds Inv-loop μ-loop
 loop-holds c = search copies

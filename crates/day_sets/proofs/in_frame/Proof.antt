@@ -1,4 +1,5 @@
 use Prim.Native.Nat.{_-_}
+use Rattle.bitfield.specs.BitField.{bitWords}
 use Rattle.bitfield.proofs.Fill.{Filled}
 use Rattle.day_sets.specs.DaySets.{wordOf, bitIn}
 use Rattle.day_sets.proofs.Loops.{words}
@@ -9,7 +10,7 @@ abbrev Inv-loop : tie.InvT-loop
 Inv-loop n days r₀ i₀ r i = Filled (wordOf (bitIn n days)) r i
 
 abbrev μ-loop : tie.MeasureT-loop
-μ-loop n days r₀ i₀ r i = 12 - i
+μ-loop n days r₀ i₀ r i = bitWords - i
 
 loop-holds : tie.Need-loop-holds Inv-loop μ-loop
 loop-holds c = search words
