@@ -74,8 +74,8 @@ typedef struct EstelunyaDayCountResult {
  * service its head, then all its calls, *G, *A VE and other *A. Below, .._WORDS is how many words a record has, and .._AT is where a word stands in it,
  * counted from 0. Bytes share a word with the first byte highest.
  *
- * These numbers stand again in planner/src/layout.rs, and those that the loader names in crates/timetable/src/lib.rt: tools/drift.sh holds them
- * together, name by name.
+ * These numbers, and the limits below, stand again in planner/src/layout.rs, and those that the loader names in crates/timetable/src/lib.rt: tools/drift.sh
+ * holds them together, name by name.
  */
 
 /* Header */
@@ -112,7 +112,7 @@ typedef struct EstelunyaDayCountResult {
 /* Category, from a line of ZUGART */
 #define ESTELUNYA_CLASS_WORDS 2
 #define ESTELUNYA_CLASS_CODE_AT 0 /* its code in three bytes */
-#define ESTELUNYA_CLASS_AT 1      /* its class, 0 to 13 */
+#define ESTELUNYA_CLASS_AT 1      /* its class, 0 to MOST_CLASS */
 
 /* Head of a service */
 #define ESTELUNYA_SERVICE_WORDS 12
@@ -185,8 +185,13 @@ typedef struct EstelunyaDayCountResult {
 #define ESTELUNYA_HELPER_HEAD_WORDS 64
 #define ESTELUNYA_HELPER_LINE_WORDS 4
 
-/* The calls that a service has at most, and words that are enough for every walk. */
-#define ESTELUNYA_MOST_CALLS 200
+/* Limits of the rules: each is the most that is taken. */
+#define ESTELUNYA_MOST_FILE_BYTES 16777216 /* bytes of a file; one more is refusal 1 */
+#define ESTELUNYA_MOST_PERIOD_DAYS 380     /* days of a period */
+#define ESTELUNYA_MOST_CLASS 13            /* class of a category */
+#define ESTELUNYA_MOST_CALLS 200           /* calls of a service */
+
+/* Words that are enough for the rows of every walk. */
 #define ESTELUNYA_MOST_ROW_WORDS (ESTELUNYA_MOST_CALLS * ESTELUNYA_ROW_WORDS)
 
 /* The flags of a call and of a row. */
@@ -201,12 +206,12 @@ uint32_t estelunya_version(void);
 /*
  * Words that are enough for the table of any delivery whose files have so many bytes: lent so many, no load is refused with 20. That is proved. No file is looked
  * into, so most tables are shorter; the load says how many words it used, and the others may be given back. ECKDATEN does not count. Any sizes may be asked: bytes
- * over 16,777,216 add nothing, since such a file is refused.
+ * over MOST_FILE_BYTES add nothing, since such a file is refused.
  */
 size_t estelunya_room(size_t bitfeld, size_t bahnhof, size_t umsteigb, size_t fplan, size_t zugart);
 
 /*
- * Loads a delivery: the bytes of its six files, each of any length (over 16,777,216 is refusal 1). They are given by their numbers, and checked in the order
+ * Loads a delivery: the bytes of its six files, each of any length (over MOST_FILE_BYTES is refusal 1). They are given by their numbers, and checked in the order
  * ECKDATEN, BITFELD, BAHNHOF, UMSTEIGB, ZUGART, FPLAN.
  *
  * Accepted: the first `words` words of `table` are the table, and the words after them hold what they held. Refused: all words of `table` hold
@@ -241,7 +246,7 @@ EstelunyaDayResult estelunya_day(
     uint32_t day, uint32_t month, uint32_t year,
     uint32_t field);
 
-/* The time to change at stop number `stop` from a service of class `arriving` to one of class `departing`, each 0 to 13. */
+/* The time to change at stop number `stop` from a service of class `arriving` to one of class `departing`, each 0 to MOST_CLASS. */
 EstelunyaInterchangeResult estelunya_interchange(
     const uint32_t *table, size_t table_len,
     uint32_t stop, uint32_t arriving, uint32_t departing);
@@ -284,7 +289,7 @@ EstelunyaWalkResult estelunya_walk(
  * Arithmetic on operating days, inside a period of `n` days: no table is asked for. A field is the BIT_WORDS words that a table has after a bit field's
  * number: bits 0 and 1 are 1, bit d + 2 is day d, bits n + 2 and n + 3 are 1, the rest 0. The result is such a field again.
  *
- * Refused with 42: `n` is not 1 to 380; a field, or `result`, does not have exactly so many words; or a field's bits that are no days are not those above.
+ * Refused with 42: `n` is not 1 to MOST_PERIOD_DAYS; a field, or `result`, does not have exactly so many words; or a field's bits that are no days are not those above.
  * All words of `result` then hold what they held.
  */
 

@@ -5,8 +5,9 @@
 # with the same parameters, each in the same order: by text; and by the compilers, a C side and a Rust side, both written from the Rattle source
 # (drift/sides.awk) and linked with the archive, agree on layouts, prototypes and answers.
 #
-# The table's layout: each .._WORDS, .._AT, kind and flag of the header has the same value in planner/src/layout.rs, which compare/ takes too; those that the
-# loader (crates/timetable) or the ordinary loader name are the header's. The version is one in all.
+# The table's layout: each .._WORDS, .._AT, limit (MOST_..), kind and flag of the header has the same value in planner/src/layout.rs, which compare/ takes too.
+# The loader (crates/timetable) has each of its sizes, limits and kinds with that value, and the header each of the loader's sizes, places and kinds (of
+# its limits only those that a caller meets); what the ordinary loader names in the same way is the header's. The version is one in all.
 #
 # The refusals' texts: those of include/estelunya_texts.h are the crate's.
 set -eu
@@ -79,15 +80,14 @@ held() {
 
 mkdir -p "$said/include" "$said/planner/src" "$said/crates" "$said/docs"
 timetable=crates/timetable
-bitfield=crates/bitfield
 boundary=crates/estelunya
 planner=planner/src/layout.rs
 ordinary=docs/ordinary-loader
 constants_c "$header" >"$said/$header"
 constants_rust "$planner" "$raw" >"$said/$planner"
 constants_rust "$rattle" | grep '^VERSION ' >"$said/$boundary"
-# The loader takes the words of a bit field's bits from the ground. It names both words of an administration, the header only where they begin.
-constants_rust "$timetable/src/lib.rt" "$bitfield/src/lib.rt" | grep '_WORDS \|_AT \|^KIND_' | grep -v '^MOST_' |
+# The loader takes the words of a bit field's bits, the longest period and the longest file from the ground. It names both words of an administration, the header only where they begin.
+constants_rust "$timetable/src/lib.rt" crates/bitfield/src/lib.rt crates/calendar/src/lib.rt crates/forms/src/lib.rt |
     awk '$1 == "HIGH_AT" || $1 == "LOW_AT" { $2 -= $1 == "LOW_AT"; $1 = "ADMINISTRATION_AT" } { print }' >"$said/$timetable"
 constants_rust "$ordinary"/src/*.rs >"$said/all"
 awk 'FNR == NR { named[$1] = 1; next } $1 in named' "$said/$header" "$said/all" >"$said/$ordinary"
@@ -95,8 +95,8 @@ for list in "$header" "$planner" "$timetable" "$ordinary" "$boundary"; do [ -s "
 
 held "$header" "$planner"
 held "$planner" "$header"
-held "$timetable" "$header"
-held "$header" "$timetable" '_WORDS$'
+held "$timetable" "$header" '_WORDS$|_AT$|^KIND_'
+held "$header" "$timetable" '_WORDS$|^MOST_|^KIND_'
 held "$ordinary" "$header"
 held "$boundary" "$header"
 echo "drift: $(grep -c . "$said/$header") constants of the layout agree"

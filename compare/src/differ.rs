@@ -16,7 +16,7 @@ pub use columns::Columns;
 pub use lent::{Call, Outcome};
 pub use program::Program;
 pub use report::report;
-pub use tally::Tally;
+pub use tally::{Tally, CALLS};
 
 use crate::boundary::{Boundary, Reader};
 use crate::generate::{arithmetic, damaged_table, name_question, names_bent, other_bytes, question, Question, Rng};

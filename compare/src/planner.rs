@@ -4,7 +4,7 @@
 use compare::boundary::{size_word, Boundary};
 use compare::reader::Combination;
 use estelunya_planner::by_number::{load, load_with, room, BitField, Date, Loaded, Table, Walk};
-use estelunya_planner::layout::BIT_WORDS;
+use estelunya_planner::layout::{BIT_WORDS, FIRST_SERVICE_AT, HEADER_WORDS, PERIOD_DAYS_AT, USED_AT};
 use estelunya_planner::{File, Files, Language, LoadRefusal, NameType, Opened, Refusal, Timetable};
 
 pub struct Planner;
@@ -113,8 +113,12 @@ fn numbers(answer: Result<Loaded, LoadRefusal>) -> [u32; 5] {
 }
 
 /// The header of a table of n days that lists nothing.
-fn header(n: u32) -> [u32; 9] {
-    [9, 0, n, 0, 0, 0, 0, 9, 0]
+fn header(n: u32) -> [u32; HEADER_WORDS] {
+    let mut words = [0; HEADER_WORDS];
+    words[USED_AT] = HEADER_WORDS as u32;
+    words[PERIOD_DAYS_AT] = n;
+    words[FIRST_SERVICE_AT] = HEADER_WORDS as u32;
+    words
 }
 
 /// The planner's layer gives a field by value. What it would do with words lent is said here: it takes twelve only.

@@ -7,6 +7,7 @@ mod frequency;
 mod services;
 
 use crate::boundary::Boundary;
+use crate::layout::{HELPER_HEAD_WORDS, HELPER_LINE_WORDS};
 
 /// One example: what it must bring, and what it brought.
 pub struct Checked {
@@ -55,7 +56,7 @@ struct Paper {
 const LENT: u32 = 0xAAAA_AAAA;
 
 /// Helper words: enough for a hundred lines.
-const HELPER: usize = 64 + 4 * 100;
+const HELPER: usize = HELPER_HEAD_WORDS + HELPER_LINE_WORDS * 100;
 
 impl Paper {
     /// 5.4.1's period and 5.7's first record; no bit fields, stops, services and categories.

@@ -1,5 +1,6 @@
-//! The table's layout, as `include/estelunya.h` says it under the same names: how many words a record has, and where a word
-//! stands in it, counted from 0. `tools/drift.sh` holds the two together.
+//! The table's layout and the limits of the rules, as `include/estelunya.h` says them under the same names: how many words a
+//! record has, where a word stands in it, counted from 0, and the most of what is taken. `tools/drift.sh` holds the two together,
+//! and the loader's own constants with them.
 
 /// Words of the header.
 pub const HEADER_WORDS: usize = 9;
@@ -158,6 +159,12 @@ pub const HELPER_HEAD_WORDS: usize = 64;
 /// Helper words for each line of BITFELD, BAHNHOF and UMSTEIGB besides.
 pub const HELPER_LINE_WORDS: usize = 4;
 
+/// The bytes that a file has at most; one more is refused with 1.
+pub const MOST_FILE_BYTES: usize = 16_777_216;
+/// The days that a period has at most.
+pub const MOST_PERIOD_DAYS: u32 = 380;
+/// The highest class of a category.
+pub const MOST_CLASS: u32 = 13;
 /// The calls that a service has at most.
 pub const MOST_CALLS: usize = 200;
 /// Words that are enough for the rows of every walk.

@@ -147,8 +147,8 @@ extern "C" {
         kind: u32,
     ) -> NameResult;
 
-    /// Walks a repeat of a service on a date into the words lent, 10 a row. Listed: later words stay. Not running or
-    /// refused: all words stay.
+    /// Walks a repeat of a service on a date into the words lent, [`ROW_WORDS`](crate::layout::ROW_WORDS) a row. Listed: later
+    /// words stay. Not running or refused: all words stay.
     pub fn estelunya_walk(
         table: *const u32,
         table_len: usize,

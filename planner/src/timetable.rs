@@ -54,7 +54,8 @@ impl Timetable {
     }
 
     /// How many words [`Timetable::load`] lends to the table of files with these lengths, as [`room_for`] says: known before a file is read. Helper words
-    /// come on top: four for each line of BITFELD, BAHNHOF and UMSTEIGB, and 64.
+    /// come on top: [`HELPER_LINE_WORDS`](crate::layout::HELPER_LINE_WORDS) for each line of BITFELD, BAHNHOF and UMSTEIGB, and
+    /// [`HELPER_HEAD_WORDS`](crate::layout::HELPER_HEAD_WORDS).
     ///
     /// # Panics
     ///

@@ -6,7 +6,10 @@ use std::mem::{size_of, MaybeUninit};
 use std::os::raw::c_char;
 use std::ptr::addr_of;
 
-use estelunya_planner::layout::{BIT_WORDS, MOST_ROW_WORDS};
+use estelunya_planner::layout::{
+    BIT_FIELD_WORDS, BIT_WORDS, CLASS_WORDS, HEADER_WORDS, HELPER_HEAD_WORDS, HELPER_LINE_WORDS, INTERCHANGE_WORDS,
+    MOST_ROW_WORDS, ROW_WORDS, STOP_WORDS,
+};
 use estelunya_planner::{raw, Offence, Refusal};
 
 /// The size of an answer and the places of its fields.
@@ -43,13 +46,19 @@ fn main() {
     println!("drift: layouts, prototypes, calls and texts of C and Rust agree");
 }
 
-/// The version, and words for files of 1 to 5 times 103 * 13 * 21 * 59 bytes: each in its own place.
+/// The version, and words for files of 1 to 5 times 103 * 13 * 21 * 59 bytes, the bytes of the shortest lines: each in its own place.
 fn numbers_handed_on() {
     // SAFETY: only numbers are given.
     unsafe {
         assert_eq!((drift_estelunya_version(), raw::estelunya_version()), (raw::VERSION, raw::VERSION));
         let [a, b, c, d, e] = [1, 2, 3, 4, 5].map(|times: usize| times * 103 * 13 * 21 * 59);
-        let expected = 9 + 13 * a / 103 + 3 * b / 13 + 3 * c / 13 + 8 * d / 59 + 2 * e / 21;
+        // a line of FPLAN gives at most 8 words
+        let expected = HEADER_WORDS
+            + BIT_FIELD_WORDS * a / 103
+            + STOP_WORDS * b / 13
+            + INTERCHANGE_WORDS * c / 13
+            + 8 * d / 59
+            + CLASS_WORDS * e / 21;
         assert_eq!((drift_estelunya_room(a, b, c, d, e), raw::estelunya_room(a, b, c, d, e)), (expected, expected));
     }
 }
@@ -87,10 +96,13 @@ macro_rules! both {
     }};
 }
 
+/// The helper words that the trial week needs: BITFELD, BAHNHOF and UMSTEIGB have five lines.
+const HELPED: usize = HELPER_HEAD_WORDS + 5 * HELPER_LINE_WORDS;
+
 /// The trial week loaded, by C or not: the answer, the table's words and the helper words, two of them further ones.
-fn loaded_by(load: Load) -> (raw::LoadResult, [u32; 100], [u32; 86]) {
+fn loaded_by(load: Load) -> (raw::LoadResult, [u32; 100], [u32; HELPED + 2]) {
     let [a, b, c, d, e, f] = FILES.map(|file| (file.as_ptr(), file.len()));
-    let (mut table, mut helper) = ([9; 100], [9; 86]);
+    let (mut table, mut helper) = ([9; 100], [9; HELPED + 2]);
     let (words, helps) = ((table.as_mut_ptr(), table.len()), (helper.as_mut_ptr(), helper.len()));
     // SAFETY: pointers and lengths are those of slices that do not overlap.
     let answer =
@@ -102,9 +114,10 @@ fn loaded_by(load: Load) -> (raw::LoadResult, [u32; 100], [u32; 86]) {
 fn handed_on() {
     let (loaded, table, helper) = loaded_by(drift_estelunya_load);
     assert_eq!((loaded, table, helper), loaded_by(raw::estelunya_load));
-    assert_eq!((loaded.number, helper[83], helper[84]), (0, 0, 9));
+    assert_eq!((loaded.number, helper[HELPED - 1], helper[HELPED]), (0, 0, 9));
     let (words, length) = (table.as_ptr(), table.len());
-    let (walked, _) = both!(drift_estelunya_walk, raw::estelunya_walk, 50, (words, length, 0, 0, 5, 12, 2025));
+    let (walked, _) =
+        both!(drift_estelunya_walk, raw::estelunya_walk, 5 * ROW_WORDS, (words, length, 0, 0, 5, 12, 2025));
     assert_eq!((walked.number, walked.rows), (0, 4));
     // SAFETY: pointer and length are those of a slice.
     unsafe {

@@ -5,7 +5,7 @@
 //! Each case is loaded, asked and reckoned by the C functions and by the planner's safe layer over them; answers and every
 //! word lent must be the reader's. `Program::run` says how it ends.
 
-use compare::differ::{compare, Named, Program};
+use compare::differ::{compare, Named, Program, CALLS};
 
 #[path = "../archive.rs"]
 mod archive;
@@ -15,24 +15,7 @@ mod planner;
 use archive::Archive;
 use planner::Planner;
 
-const DELIVERY: Program = Program {
-    name: "delivery",
-    command: "tools/planner.sh",
-    calls: &[
-        "load",
-        "day",
-        "interchange",
-        "between",
-        "name",
-        "walk",
-        "run",
-        "union",
-        "intersection",
-        "difference",
-        "complement",
-        "count",
-    ],
-};
+const DELIVERY: Program = Program { name: "delivery", command: "tools/planner.sh", calls: &CALLS };
 
 fn main() {
     let boundaries: [Named; 2] = [("the archive", &Archive), ("the planner's layer", &Planner)];

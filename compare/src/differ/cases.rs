@@ -2,7 +2,7 @@
 
 use crate::generate::{counted_helper, mixed, oversized, some_helper, Case, Rng};
 use crate::layout::ROW_WORDS;
-use crate::reader::load::MOST_BYTES;
+use crate::reader::load::MOST_FILE_BYTES;
 
 /// Once in so many cases a file has 16,777,216 bytes or more.
 pub const OVERSIZED_EVERY: u64 = 2_500;
@@ -29,7 +29,7 @@ fn over_length(rng: &mut Rng) -> Case {
     match rng.below(5) {
         0 => case.files[beside] = b"broken".to_vec(),
         1 => case.files[beside] = oversized(rng).files[beside].clone(),
-        2 => case.files[4..].iter_mut().for_each(|file| file.resize(MOST_BYTES + 1, b' ')),
+        2 => case.files[4..].iter_mut().for_each(|file| file.resize(MOST_FILE_BYTES + 1, b' ')),
         _ => return case,
     }
     case.helper = some_helper(rng, counted_helper(&case.files), 2);

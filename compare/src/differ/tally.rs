@@ -7,7 +7,10 @@ use super::columns::Columns;
 use super::lent::{Call, Outcome};
 use crate::generate::questions::{head_of, last_run};
 use crate::generate::{Arithmetic, Question};
-use crate::layout::{BIT_FIELDS_AT, BIT_FIELD_WORDS, HEADER_WORDS, KIND_AT, KIND_T, OFFSET_AT, REPEATS_AT, STOP_WORDS};
+use crate::layout::{
+    BIT_FIELDS_AT, BIT_FIELD_WORDS, HEADER_WORDS, KIND_AT, KIND_T, OFFSET_AT, REPEATS_AT, STOP_NAME_AT, STOP_NUMBER_AT,
+    STOP_WORDS,
+};
 use crate::reader::fields::{self, LineKind};
 use crate::reader::lines::{lines, skipped};
 use crate::reader::Combination;
@@ -32,6 +35,17 @@ const ANSWERS: [(&str, &[&str], &[u32]); 12] = [
     ("complement", &["given"], &[42]),
     ("count", &["none", "some"], &[42]),
 ];
+
+/// The calls that there are.
+pub const CALLS: [&str; ANSWERS.len()] = {
+    let mut calls = [""; ANSWERS.len()];
+    let mut at = 0;
+    while at < calls.len() {
+        calls[at] = ANSWERS[at].0;
+        at += 1;
+    }
+    calls
+};
 
 /// The runs of both kinds of services. *T: the last one "at the end" starts a whole running time after the first, "rounded up" is no
 /// whole number of minutes late.
@@ -92,7 +106,8 @@ fn refused(number: u32) -> String {
 fn starts_field(table: &[u32], stop: u32, start: u32) -> bool {
     let first = HEADER_WORDS as u64 + BIT_FIELD_WORDS as u64 * u64::from(*table.get(BIT_FIELDS_AT).unwrap_or(&0));
     let records = usize::try_from(first).ok().and_then(|first| table.get(first..)).unwrap_or(&[]);
-    records.chunks_exact(STOP_WORDS).find(|record| record[0] == stop).map_or(false, |record| record[1] == start)
+    let record = records.chunks_exact(STOP_WORDS).find(|record| record[STOP_NUMBER_AT] == stop);
+    record.map_or(false, |record| record[STOP_NAME_AT] == start)
 }
 
 /// Which of `RUNS` a walk asked for, where the table has the service and its head was looked at.

@@ -7,10 +7,14 @@ use super::plan::random_frequency;
 use super::raw_table::{parts, RawService, RawTable};
 use super::rng::Rng;
 use crate::layout::{
-    BIT_FIELDS_AT, BIT_FIELD_WORDS, BIT_WORDS, CALLS_AT, CALL_WORDS, CLASSES_AT, EXTRAS_AT, EXTRA_WORDS,
-    FIRST_SERVICE_AT, HEADER_WORDS, INTERCHANGES_AT, KIND_AT, KIND_T, KIND_Z, OFFSET_AT, REPEATS_AT, SERVICES_AT,
-    SERVICE_WORDS, SIZE_AT, STOPS_AT, STOP_WORDS, USED_AT,
+    BIT_FIELDS_AT, BIT_FIELD_BITS_AT, BIT_FIELD_NUMBER_AT, BIT_FIELD_WORDS, BIT_WORDS, CALLS_AT, CALL_ARRIVAL_AT,
+    CALL_DEPARTURE_AT, CALL_FLAGS_AT, CALL_NUMBER_AT, CALL_PLACE_AT, CALL_WORDS, CATEGORY_CODE_AT, CLASSES_AT,
+    CLASS_AT, CLASS_CODE_AT, DAYS_FIELD_AT, EXTRAS_AT, EXTRA_FROM_AT, EXTRA_TO_AT, EXTRA_WORDS, FIRST_SERVICE_AT,
+    HEADER_WORDS, INTERCHANGES_AT, INTERCHANGE_STOP_AT, KIND_AT, KIND_T, KIND_Z, OFFSET_AT, REPEATS_AT, SERVICES_AT,
+    SERVICE_WORDS, SIZE_AT, STOPS_AT, STOP_NUMBER_AT, STOP_WORDS, USED_AT,
 };
+use crate::reader::calendar::{LAST_DAY, MOST_PERIOD_DAYS};
+use crate::reader::forms::MOST_CLASS;
 
 /// A damage to a table; `None` where the table has no place for it.
 pub type Bend = fn(&mut Rng, &mut RawTable) -> Option<()>;
@@ -120,29 +124,29 @@ fn some_other<'a>(rng: &mut Rng, table: &'a mut RawTable) -> Option<(&'a mut [u3
 
 fn leg_on_other_bitfield(rng: &mut Rng, table: &mut RawTable) -> Option<()> {
     let service = some_service(rng, table)?;
-    some(rng, &mut service.days)?[0] = rng.pick(&[0, 77, 999_999, u32::MAX]);
+    some(rng, &mut service.days)?[DAYS_FIELD_AT] = rng.pick(&[0, 77, 999_999, u32::MAX]);
     Some(())
 }
 
 fn bitfield_renamed(rng: &mut Rng, table: &mut RawTable) -> Option<()> {
-    some(rng, &mut table.bitfields)?[0] = rng.pick(&[0, 5, u32::MAX]);
+    some(rng, &mut table.bitfields)?[BIT_FIELD_NUMBER_AT] = rng.pick(&[0, 5, u32::MAX]);
     Some(())
 }
 
 fn bitfield_word(rng: &mut Rng, table: &mut RawTable) -> Option<()> {
-    let (which, word) = (1 + rng.index(BIT_WORDS), rng.draw() as u32);
+    let (which, word) = (BIT_FIELD_BITS_AT + rng.index(BIT_WORDS), rng.draw() as u32);
     some(rng, &mut table.bitfields)?[which] = word;
     Some(())
 }
 
 fn bitfield_twice(rng: &mut Rng, table: &mut RawTable) -> Option<()> {
-    let number = some(rng, &mut table.bitfields)?[0];
-    some(rng, &mut table.bitfields)?[0] = number;
+    let number = some(rng, &mut table.bitfields)?[BIT_FIELD_NUMBER_AT];
+    some(rng, &mut table.bitfields)?[BIT_FIELD_NUMBER_AT] = number;
     Some(())
 }
 
 fn stop_renamed(rng: &mut Rng, table: &mut RawTable) -> Option<()> {
-    some(rng, &mut table.stops)?[0] = rng.pick(&[0, 9_999_999, 1_000_011]);
+    some(rng, &mut table.stops)?[STOP_NUMBER_AT] = rng.pick(&[0, 9_999_999, 1_000_011]);
     Some(())
 }
 
@@ -159,8 +163,8 @@ fn name_elsewhere(rng: &mut Rng, table: &mut RawTable) -> Option<()> {
 
 /// The number of one stop for another too: rows show it, and its first interchange record.
 fn stop_twice(rng: &mut Rng, table: &mut RawTable) -> Option<()> {
-    let number = some(rng, &mut table.stops)?[0];
-    some(rng, &mut table.stops)?[0] = number;
+    let number = some(rng, &mut table.stops)?[STOP_NUMBER_AT];
+    some(rng, &mut table.stops)?[STOP_NUMBER_AT] = number;
     Some(())
 }
 
@@ -168,32 +172,32 @@ fn stop_twice(rng: &mut Rng, table: &mut RawTable) -> Option<()> {
 fn call_elsewhere(rng: &mut Rng, table: &mut RawTable) -> Option<()> {
     let last = table.stops.len().checked_sub(1)?;
     let any = rng.index(last + 1);
-    some_call(rng, table)?[0] = rng.pick(&[0, last, any]) as u32;
+    some_call(rng, table)?[CALL_PLACE_AT] = rng.pick(&[0, last, any]) as u32;
     Some(())
 }
 
 /// A place behind the last stop, or what a call held before there were places: the stop's number.
 fn place_not_below_stops(rng: &mut Rng, table: &mut RawTable) -> Option<()> {
     let stops = table.stops.len() as u32;
-    let number = table.stops.first().map_or(1_000_011, |stop| stop[0]).max(stops);
-    some_call(rng, table)?[0] = rng.pick(&[stops, stops, stops + 1, 3 * stops, number, u32::MAX]);
+    let number = table.stops.first().map_or(1_000_011, |stop| stop[STOP_NUMBER_AT]).max(stops);
+    some_call(rng, table)?[CALL_PLACE_AT] = rng.pick(&[stops, stops, stops + 1, 3 * stops, number, u32::MAX]);
     Some(())
 }
 
 fn record_twice(rng: &mut Rng, table: &mut RawTable) -> Option<()> {
-    let number = some(rng, &mut table.records)?[0];
+    let number = some(rng, &mut table.records)?[INTERCHANGE_STOP_AT];
     table.records.insert(0, [number, rng.draw() as u32, 61]);
     Some(())
 }
 
 fn one_record(rng: &mut Rng, table: &mut RawTable) -> Option<()> {
     table.records.truncate(1);
-    some(rng, &mut table.records)?[0] = rng.pick(&[0, 9_999_999, 5]);
+    some(rng, &mut table.records)?[INTERCHANGE_STOP_AT] = rng.pick(&[0, 9_999_999, 5]);
     Some(())
 }
 
 fn class_renamed(rng: &mut Rng, table: &mut RawTable) -> Option<()> {
-    let code = &mut some(rng, &mut table.classes)?[0];
+    let code = &mut some(rng, &mut table.classes)?[CLASS_CODE_AT];
     *code = rng.pick(&[0, *code ^ 0x20, *code ^ 0x2000, *code | 1 << 24, u32::MAX]);
     Some(())
 }
@@ -207,37 +211,37 @@ fn class_twice(rng: &mut Rng, table: &mut RawTable) -> Option<()> {
 }
 
 fn other_class(rng: &mut Rng, table: &mut RawTable) -> Option<()> {
-    some(rng, &mut table.classes)?[1] = rng.below(14);
+    some(rng, &mut table.classes)?[CLASS_AT] = rng.below(MOST_CLASS + 1);
     Some(())
 }
 
 /// A *G whose category is not listed, or not by these bytes; no condition of 21 is about this.
 fn category_elsewhere(rng: &mut Rng, table: &mut RawTable) -> Option<()> {
     let service = some_service(rng, table)?;
-    let code = &mut some(rng, &mut service.categories)?[0];
+    let code = &mut some(rng, &mut service.categories)?[CATEGORY_CODE_AT];
     *code = rng.pick(&[0, *code ^ 0x20, u32::MAX]);
     Some(())
 }
 
 fn class_over_13(rng: &mut Rng, table: &mut RawTable) -> Option<()> {
-    some(rng, &mut table.classes)?[1] = rng.pick(&[14, 14, 15, 256, u32::MAX]);
+    some(rng, &mut table.classes)?[CLASS_AT] = rng.pick(&[MOST_CLASS + 1, MOST_CLASS + 1, 15, 256, u32::MAX]);
     Some(())
 }
 
 fn other_flags(rng: &mut Rng, table: &mut RawTable) -> Option<()> {
-    some_call(rng, table)?[3] = rng.below(16);
+    some_call(rng, table)?[CALL_FLAGS_AT] = rng.below(16);
     Some(())
 }
 
 /// A call's number or administration; no condition of 21 is about these.
 fn other_number(rng: &mut Rng, table: &mut RawTable) -> Option<()> {
-    let which = rng.between(4, 6) as usize;
+    let which = CALL_NUMBER_AT + rng.index(3);
     some_call(rng, table)?[which] = rng.pick(&[0, 100_000, 1 << 24, u32::MAX]);
     Some(())
 }
 
 fn other_time(rng: &mut Rng, table: &mut RawTable) -> Option<()> {
-    let which = 1 + rng.index(2);
+    let which = rng.pick(&[CALL_ARRIVAL_AT, CALL_DEPARTURE_AT]);
     some_call(rng, table)?[which] = rng.below(60_000);
     Some(())
 }
@@ -273,7 +277,7 @@ fn bend_range(rng: &mut Rng, ranges: &mut Vec<[u32; 3]>) -> Option<()> {
 /// A service in three parts, of which the middle one never runs.
 fn tear(rng: &mut Rng, table: &mut RawTable) -> Option<()> {
     let mut never = [0; BIT_FIELD_WORDS];
-    never[0] = some(rng, &mut table.bitfields)?[0];
+    never[BIT_FIELD_NUMBER_AT] = some(rng, &mut table.bitfields)?[BIT_FIELD_NUMBER_AT];
     let service = some_service(rng, table)?;
     let legs = service.calls.len() as u32 - 1;
     if legs < 3 {
@@ -281,7 +285,7 @@ fn tear(rng: &mut Rng, table: &mut RawTable) -> Option<()> {
     }
     let a = rng.between(1, legs - 2);
     let b = rng.between(a + 1, legs - 1);
-    service.days = vec![[0, 0, a], [never[0], a, b], [0, b, legs]];
+    service.days = vec![[0, 0, a], [never[BIT_FIELD_NUMBER_AT], a, b], [0, b, legs]];
     table.bitfields.insert(0, never);
     Some(())
 }
@@ -319,18 +323,18 @@ fn set_runs(rng: &mut Rng, table: &mut RawTable, kind: u32, [repeats, offset]: [
 }
 
 fn other_period(rng: &mut Rng, table: &mut RawTable) -> Option<()> {
-    table.days = rng.between(1, 380);
-    table.first_day = table.first_day.min(109_573 - table.days);
+    table.days = rng.between(1, MOST_PERIOD_DAYS);
+    table.first_day = table.first_day.min(LAST_DAY + 1 - table.days);
     Some(())
 }
 
 fn days_out_of_bounds(rng: &mut Rng, table: &mut RawTable) -> Option<()> {
-    table.days = rng.pick(&[0, 381, u32::MAX]);
+    table.days = rng.pick(&[0, MOST_PERIOD_DAYS + 1, u32::MAX]);
     Some(())
 }
 
 fn last_day_too_late(rng: &mut Rng, table: &mut RawTable) -> Option<()> {
-    table.first_day = rng.pick(&[109_573 - table.days.clamp(1, 380) + 1, 109_573, u32::MAX]);
+    table.first_day = rng.pick(&[LAST_DAY + 2 - table.days.clamp(1, MOST_PERIOD_DAYS), LAST_DAY + 1, u32::MAX]);
     Some(())
 }
 
@@ -395,13 +399,13 @@ fn no_such_kind(rng: &mut Rng, table: &mut RawTable) -> Option<()> {
 }
 
 fn time_over_59999(rng: &mut Rng, table: &mut RawTable) -> Option<()> {
-    let which = 1 + rng.index(2);
+    let which = rng.pick(&[CALL_ARRIVAL_AT, CALL_DEPARTURE_AT]);
     some_call(rng, table)?[which] = rng.pick(&[60_000, u32::MAX]);
     Some(())
 }
 
 fn flags_over_15(rng: &mut Rng, table: &mut RawTable) -> Option<()> {
-    some_call(rng, table)?[3] = rng.pick(&[16, 17, u32::MAX]);
+    some_call(rng, table)?[CALL_FLAGS_AT] = rng.pick(&[16, 17, u32::MAX]);
     Some(())
 }
 
@@ -413,7 +417,7 @@ fn end_past_calls(rng: &mut Rng, table: &mut RawTable) -> Option<()> {
 }
 
 fn other_end_past_calls(rng: &mut Rng, table: &mut RawTable) -> Option<()> {
-    let which = 2 + rng.index(2);
+    let which = rng.pick(&[EXTRA_FROM_AT, EXTRA_TO_AT]);
     let (range, calls) = some_other(rng, table)?;
     range[which] = rng.pick(&[calls, u32::MAX]);
     Some(())
@@ -429,8 +433,8 @@ fn wrong_order(rng: &mut Rng, table: &mut RawTable) -> Option<()> {
 
 fn other_wrong_order(rng: &mut Rng, table: &mut RawTable) -> Option<()> {
     let (range, _) = some_other(rng, table)?;
-    range[2] = 1;
-    range[3] = 0;
+    range[EXTRA_FROM_AT] = 1;
+    range[EXTRA_TO_AT] = 0;
     Some(())
 }
 

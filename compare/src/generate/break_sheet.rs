@@ -2,9 +2,10 @@
 
 use super::break_plan::{At, Hit};
 use super::names::bad_list;
-use super::plan::{Plan, LAST_DAY};
+use super::plan::Plan;
 use super::rng::Rng;
 use super::sheet::{date_text, skipped_row, Row, Sheet, Tag};
+use crate::reader::calendar::{LAST_DAY, MOST_PERIOD_DAYS};
 
 pub type SheetDamage = fn(&mut Rng, &Plan, &mut Sheet) -> Hit;
 
@@ -84,7 +85,7 @@ fn end_before_start(rng: &mut Rng, plan: &Plan, sheet: &mut Sheet) -> Hit {
 }
 
 fn over_380(rng: &mut Rng, plan: &Plan, sheet: &mut Sheet) -> Hit {
-    let end = plan.first_day + 380 + if rng.coin() { 0 } else { rng.below(50_000) };
+    let end = plan.first_day + MOST_PERIOD_DAYS + if rng.coin() { 0 } else { rng.below(50_000) };
     if end > LAST_DAY {
         return None;
     }

@@ -11,6 +11,7 @@ use crate::layout::{
     BIT_FIELD_WORDS, CALL_WORDS, CATEGORY_WORDS, CLASS_WORDS, DAYS_WORDS, EXTRA_WORDS, HEADER_WORDS, HELPER_HEAD_WORDS,
     HELPER_LINE_WORDS, INTERCHANGE_WORDS, SERVICE_WORDS, STOP_WORDS,
 };
+use crate::reader::load::MOST_FILE_BYTES;
 
 /// The refusal that a damage must bring; the column is 0 unless 4.
 #[derive(Clone, Copy, Debug, PartialEq, Eq)]
@@ -321,7 +322,6 @@ pub fn mixed(rng: &mut Rng, turn: u32) -> Case {
 /// Refusal 1: a file of exactly 16,777,216 bytes, or of some more; often with too few helper words. These cases are large, so
 /// they are rare.
 pub fn oversized(rng: &mut Rng) -> Case {
-    const MOST: usize = 16_777_216;
     let mut case = valid(rng, Size::Small);
     let file = rng.index(6);
     let bytes = &mut case.files[file];
@@ -333,12 +333,12 @@ pub fn oversized(rng: &mut Rng) -> Case {
         }
         bytes.push(b'.');
     }
-    let size = rng.pick(&[MOST, MOST + 1, MOST + 1_000]);
+    let size = rng.pick(&[MOST_FILE_BYTES, MOST_FILE_BYTES + 1, MOST_FILE_BYTES + 1_000]);
     bytes.resize(size, b' ');
     let needed = counted_helper(&case.files);
     let short = rng.coin();
     case.helper = if short { short_helper(rng, needed) } else { enough_helper(rng, needed) };
-    case.aim = match (size > MOST, short) {
+    case.aim = match (size > MOST_FILE_BYTES, short) {
         (true, _) => Some(Aim { number: 1, file: file as u32 + 1, line: 0, column: 0 }),
         (false, true) => Some(Aim { number: 51, file: 0, line: 0, column: 0 }),
         (false, false) => return case,

@@ -1,6 +1,7 @@
 //! Random arithmetic on operating days: fields of a period, now and then with something wrong.
 
 use super::rng::Rng;
+use crate::reader::calendar::MOST_PERIOD_DAYS;
 use crate::reader::day_sets::Combination;
 
 /// Arithmetic and all that it reads; `room` is the words lent for the result.
@@ -27,13 +28,13 @@ pub fn arithmetic(rng: &mut Rng) -> Arithmetic {
     }
 }
 
-/// The days of a period; about 1 and 380, where a word ends, and outside.
+/// The days of a period; about 1 and the most, where a word ends, and outside.
 fn period(rng: &mut Rng) -> u32 {
     match rng.below(16) {
-        0 => rng.pick(&[1, 2, 3, 378, 379, 380]),
+        0 => rng.pick(&[1, 2, 3, MOST_PERIOD_DAYS - 2, MOST_PERIOD_DAYS - 1, MOST_PERIOD_DAYS]),
         1 => (32 * rng.between(1, 12)).min(384) - rng.between(1, 5),
-        2 if rng.coin() => rng.pick(&[0, 381, 382, 383, 384, 412, u32::MAX - 1, u32::MAX]),
-        _ => rng.between(1, 380),
+        2 if rng.coin() => rng.pick(&[0, MOST_PERIOD_DAYS + 1, 382, 383, 384, 412, u32::MAX - 1, u32::MAX]),
+        _ => rng.between(1, MOST_PERIOD_DAYS),
     }
 }
 
@@ -49,7 +50,8 @@ fn room(rng: &mut Rng) -> usize {
 fn field(rng: &mut Rng, n: u32) -> Vec<u32> {
     match rng.below(32) {
         0 => {
-            let other = rng.pick(&[n.wrapping_sub(1), n.wrapping_add(1), n ^ 32, 380 - n.min(380)]);
+            let opposite = MOST_PERIOD_DAYS - n.min(MOST_PERIOD_DAYS);
+            let other = rng.pick(&[n.wrapping_sub(1), n.wrapping_add(1), n ^ 32, opposite]);
             framed(rng, other)
         }
         1 => with_bit_changed(rng, n),
@@ -74,7 +76,7 @@ fn framed(rng: &mut Rng, n: u32) -> Vec<u32> {
 }
 
 fn with_bit_changed(rng: &mut Rng, n: u32) -> Vec<u32> {
-    let end = n.min(380);
+    let end = n.min(MOST_PERIOD_DAYS);
     let at = match rng.below(3) {
         0 => rng.pick(&[0, 1, 2, end + 1, end + 2, end + 3, 383]),
         1 => (end + 4).min(383),

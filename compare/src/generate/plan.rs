@@ -3,6 +3,7 @@
 use super::rng::Rng;
 use super::Size;
 use crate::reader::bits::BitWords;
+use crate::reader::calendar::{LAST_DAY, MOST_PERIOD_DAYS};
 
 #[derive(Clone, Debug)]
 pub struct Plan {
@@ -81,9 +82,6 @@ impl Range {
     }
 }
 
-/// 31.12.2199.
-pub const LAST_DAY: u32 = 109_572;
-
 /// The date of a day number, found by stepping over years and months.
 pub fn date_of(day: u32) -> (u32, u32, u32) {
     let leap = |year: u32| year % 4 == 0 && (year % 100 != 0 || year % 400 == 0);
@@ -125,10 +123,10 @@ pub fn bitfield_of(n: u32, mut runs: impl FnMut(u32) -> bool) -> BitWords {
 pub fn random(rng: &mut Rng, size: Size) -> Plan {
     let days = match rng.below(8) {
         0 => 1,
-        1 => rng.pick(&[2, 7, 28, 30, 62, 245, 365, 366, 380]),
-        2 => 380,
+        1 => rng.pick(&[2, 7, 28, 30, 62, 245, 365, 366, MOST_PERIOD_DAYS]),
+        2 => MOST_PERIOD_DAYS,
         3 => 7,
-        _ => rng.between(1, 380),
+        _ => rng.between(1, MOST_PERIOD_DAYS),
     };
     let first_day = match rng.below(8) {
         0 => 0,

@@ -7,6 +7,7 @@ use crate::layout::{
     KIND_T, MOST_ROW_WORDS, OFFSET_AT, PERIOD_DAYS_AT, REPEATS_AT, ROW_WORDS, SERVICES_AT, SERVICE_WORDS, SIZE_AT,
     STOPS_AT, STOP_WORDS,
 };
+use crate::reader::calendar::{LAST_DAY, MOST_PERIOD_DAYS};
 
 #[derive(Clone, Copy, Debug, PartialEq, Eq)]
 pub enum Question {
@@ -31,7 +32,7 @@ fn word(words: &[u32], at: usize) -> u32 {
 }
 
 fn date(rng: &mut Rng, words: &[u32]) -> [u32; 3] {
-    let (first, n) = (word(words, FIRST_DAY_AT).min(109_572), word(words, PERIOD_DAYS_AT).clamp(1, 380));
+    let (first, n) = (word(words, FIRST_DAY_AT).min(LAST_DAY), word(words, PERIOD_DAYS_AT).clamp(1, MOST_PERIOD_DAYS));
     let day = match rng.below(12) {
         0 => first.saturating_sub(1),
         1 => first + n,
@@ -39,7 +40,7 @@ fn date(rng: &mut Rng, words: &[u32]) -> [u32; 3] {
         3 => first + n - 1,
         _ => first + rng.below(n),
     };
-    let (d, m, y) = date_of(day.min(109_572));
+    let (d, m, y) = date_of(day.min(LAST_DAY));
     match rng.below(24) {
         0 => rng.pick(&[[29, 2, 1900], [31, 4, y], [0, m, y], [d, 0, y], [d, 13, y], [d, m, 1899], [d, m, 2200]]),
         1 => {

@@ -5,6 +5,7 @@ use super::tally::Tally;
 use crate::columns::bit_digits;
 use crate::generate::Rng;
 use crate::reader::bits::{BitWords, BITS};
+use crate::reader::calendar::MOST_PERIOD_DAYS;
 
 fn random_words(rng: &mut Rng) -> BitWords {
     let fill = rng.pick(&[0, u32::MAX, 1, 1 << 31]);
@@ -55,7 +56,7 @@ fn ask_frames(tally: &mut Tally, rng: &mut Rng, n: u32) {
 
 /// Some day of n: none but the last, none but the one after, none but a frame bit.
 fn ask_last_days(tally: &mut Tally) {
-    for n in 0..=380 {
+    for n in 0..=MOST_PERIOD_DAYS {
         for k in [1, n + 1, n + 2] {
             let mut words = [0; 12];
             flip(&mut words, k);
@@ -100,7 +101,7 @@ fn ask_line(tally: &mut Tally, rng: &mut Rng) {
 pub fn ask(tally: &mut Tally, rng: &mut Rng, rounds: u32) {
     tally.ask(about(What::NoBits, &[], &[]));
     tally.ask(about(What::AllBits, &[], &[]));
-    for n in 0..=380 {
+    for n in 0..=MOST_PERIOD_DAYS {
         ask_frames(tally, rng, n);
     }
     ask_last_days(tally);

@@ -3,6 +3,7 @@
 use super::question::{about, What};
 use super::tally::Tally;
 use crate::generate::Rng;
+use crate::reader::calendar::{LAST_DAY, MOST_PERIOD_DAYS};
 
 /// Every day of 1900 to 2199, and what stands around: days 0 to 40, months 0 to 15, years 1890 to 2210.
 fn ask_all_days(tally: &mut Tally) {
@@ -28,7 +29,8 @@ fn ask_far_days(tally: &mut Tally) {
 }
 
 fn ask_periods(tally: &mut Tally, rng: &mut Rng, rounds: u32) {
-    let edges = [0, 1, 379, 380, 381, 35_336, 109_572, 1 << 31, u32::MAX - 380, u32::MAX];
+    let most = MOST_PERIOD_DAYS;
+    let edges = [0, 1, most - 1, most, most + 1, 35_336, LAST_DAY, 1 << 31, u32::MAX - most, u32::MAX];
     for round in 0..rounds {
         let start = if round % 2 == 0 { rng.pick(&edges) } else { rng.below(110_000) };
         let length = rng.between(0, 384);

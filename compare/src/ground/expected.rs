@@ -2,7 +2,7 @@
 
 use super::question::{number, three, told, Answer, Question, What};
 use crate::reader::bits::{bit, frame_ok, runs_on, BitWords, BITS};
-use crate::reader::calendar::{day_number, period, MOST_DAYS};
+use crate::reader::calendar::{day_number, period, MOST_PERIOD_DAYS};
 use crate::reader::fields::{
     all_blank, column, columns, count, date, detail, digits, hex_words, kind, no_blank, range_end, time, Date, Detail,
     LineKind, RangeEnd, Time,
@@ -41,9 +41,9 @@ fn bit_answer(question: &Question, k: u32) -> Answer {
     let at_most = |most: u32, holds: fn(&BitWords, u32) -> bool| flag(k <= most && holds(&question.words(0), k));
     match question.what {
         What::Bit => flag(bit(&question.words(0), k)),
-        What::Runs => at_most(MOST_DAYS - 1, runs_on),
-        What::Framed => at_most(MOST_DAYS, frame_ok),
-        What::SomeDay => at_most(MOST_DAYS, |words, n| (0..n).any(|d| runs_on(words, d))),
+        What::Runs => at_most(MOST_PERIOD_DAYS - 1, runs_on),
+        What::Framed => at_most(MOST_PERIOD_DAYS, frame_ok),
+        What::SomeDay => at_most(MOST_PERIOD_DAYS, |words, n| (0..n).any(|d| runs_on(words, d))),
         What::NoBits => joined(|_| false),
         What::AllBits => joined(|_| true),
         What::Either => joined(|k| bit(&question.words(0), k) || bit(&question.words(1), k)),

@@ -1,15 +1,21 @@
 //! "Questions" on any words: refusals 21 to 36 without 32, and of document 02 38 (No. 1), and 39 to 41 (No. 3).
 
 use super::bits::{runs_on, BitWords};
-use super::calendar::{day_number, LAST_DAY, MOST_DAYS};
+use super::calendar::{day_number, LAST_DAY, MOST_PERIOD_DAYS};
+use super::forms::MOST_CLASS;
+use super::load::{MOST_CALLS, MOST_CATEGORIES, MOST_DAY_RANGES, MOST_OTHERS};
 use super::names::{chosen, names, wanted};
 use super::runs::Runs;
 use super::service::stretches;
 use crate::layout::{
-    ARRIVAL, BIT_FIELDS_AT, BIT_FIELD_WORDS, CALLS_AT, CALL_WORDS, CATEGORIES_AT, CATEGORY_WORDS, CLASSES_AT,
-    CLASS_WORDS, DAYS_AT, DAYS_WORDS, DEPARTURE, EXTRAS_AT, EXTRA_WORDS, FIRST_DAY_AT, FIRST_SERVICE_AT, HEADER_WORDS,
-    INTERCHANGES_AT, INTERCHANGE_WORDS, KIND_AT, MOST_CALLS, NO_ALIGHTING, NO_BOARDING, OFFSET_AT, PERIOD_DAYS_AT,
-    REPEATS_AT, ROW_WORDS, SERVICES_AT, SERVICE_WORDS, SIZE_AT, STOPS_AT, STOP_WORDS, USED_AT,
+    ARRIVAL, BIT_FIELDS_AT, BIT_FIELD_BITS_AT, BIT_FIELD_NUMBER_AT, BIT_FIELD_WORDS, CALLS_AT, CALL_ADMINISTRATION_AT,
+    CALL_ARRIVAL_AT, CALL_DEPARTURE_AT, CALL_FLAGS_AT, CALL_NUMBER_AT, CALL_PLACE_AT, CALL_WORDS, CATEGORIES_AT,
+    CATEGORY_CODE_AT, CATEGORY_FROM_AT, CATEGORY_TO_AT, CATEGORY_WORDS, CLASSES_AT, CLASS_AT, CLASS_CODE_AT,
+    CLASS_WORDS, DAYS_AT, DAYS_FIELD_AT, DAYS_FROM_AT, DAYS_TO_AT, DAYS_WORDS, DEPARTURE, EXTRAS_AT, EXTRA_FIELD_AT,
+    EXTRA_FROM_AT, EXTRA_TO_AT, EXTRA_WORDS, FIRST_DAY_AT, FIRST_SERVICE_AT, HEADER_WORDS, INTERCHANGES_AT,
+    INTERCHANGE_FIRST_TIME_AT, INTERCHANGE_SECOND_TIME_AT, INTERCHANGE_STOP_AT, INTERCHANGE_WORDS, KIND_AT,
+    NO_ALIGHTING, NO_BOARDING, OFFSET_AT, PERIOD_DAYS_AT, REPEATS_AT, ROW_WORDS, SERVICES_AT, SERVICE_WORDS, SIZE_AT,
+    STOPS_AT, STOP_NAME_AT, STOP_NAME_LENGTH_AT, STOP_NUMBER_AT, STOP_WORDS, USED_AT,
 };
 
 /// The answer of a day question.
@@ -95,7 +101,7 @@ fn table(words: &[u32]) -> Option<Table<'_>> {
     let words = &words[..used];
     // "n not 1 to 380, or last day after 31.12.2199"
     let (first_day, n) = (u64::from(words[FIRST_DAY_AT]), words[PERIOD_DAYS_AT]);
-    if !(1..=MOST_DAYS).contains(&n) || first_day + u64::from(n) - 1 > u64::from(LAST_DAY) {
+    if !(1..=MOST_PERIOD_DAYS).contains(&n) || first_day + u64::from(n) - 1 > u64::from(LAST_DAY) {
         return None;
     }
     // "U is 0; word 7 is not 8 + 13B + 3S + 3U or is beyond words used", where No. 1 says 9 and adds 2K
@@ -109,7 +115,7 @@ fn table(words: &[u32]) -> Option<Table<'_>> {
     let services = services(words, words[STOPS_AT])?;
     let table = Table { words, bitfields, stops, records, classes, services };
     // "a class over 13"
-    Some(table).filter(|table| table.class_records().all(|record| record[1] <= 13))
+    Some(table).filter(|table| table.class_records().all(|record| record[CLASS_AT] <= MOST_CLASS))
 }
 
 /// "the V records do not end exactly at words used": the services from word 7 on, or nothing if they do not fit.
@@ -136,7 +142,7 @@ fn service(words: &[u32], stops: u32) -> Option<Service> {
     let [c, g, v, a] = [CALLS_AT, CATEGORIES_AT, DAYS_AT, EXTRAS_AT].map(|at| words[at] as usize);
     let runs = Runs::of_words(words[KIND_AT], [words[REPEATS_AT], words[OFFSET_AT]])?;
     // "c outside 2 to 200, g, v, a over 50, 50, 100"
-    if !(2..=MOST_CALLS).contains(&c) || g > 50 || v > 50 || a > 100 {
+    if !(2..=MOST_CALLS).contains(&c) || g > MOST_CATEGORIES || v > MOST_DAY_RANGES || a > MOST_OTHERS {
         return None;
     }
     // "a count differs from 11 + 4c + 3g + 3v + 4a", where No. 5 says 7c and No. 8 twelve
@@ -150,9 +156,9 @@ fn service(words: &[u32], stops: u32) -> Option<Service> {
     let service = Service {
         runs,
         calls: calls.chunks_exact(CALL_WORDS).map(call).collect(),
-        categories: categories.chunks_exact(CATEGORY_WORDS).map(over).collect(),
-        days: days.chunks_exact(DAYS_WORDS).map(over).collect(),
-        others: others.chunks_exact(EXTRA_WORDS).map(|other| over(&other[1..])).collect(),
+        categories: over(categories, CATEGORY_WORDS, [CATEGORY_CODE_AT, CATEGORY_FROM_AT, CATEGORY_TO_AT]),
+        days: over(days, DAYS_WORDS, [DAYS_FIELD_AT, DAYS_FROM_AT, DAYS_TO_AT]),
+        others: over(others, EXTRA_WORDS, [EXTRA_FIELD_AT, EXTRA_FROM_AT, EXTRA_TO_AT]),
     };
     if in_bounds(&service, stops) {
         Some(service)
@@ -163,17 +169,18 @@ fn service(words: &[u32], stops: u32) -> Option<Service> {
 
 fn call(words: &[u32]) -> Call {
     Call {
-        place: words[0],
-        arrival: words[1],
-        departure: words[2],
-        flags: words[3],
-        number: words[4],
-        administration: [words[5], words[6]],
+        place: words[CALL_PLACE_AT],
+        arrival: words[CALL_ARRIVAL_AT],
+        departure: words[CALL_DEPARTURE_AT],
+        flags: words[CALL_FLAGS_AT],
+        number: words[CALL_NUMBER_AT],
+        administration: [words[CALL_ADMINISTRATION_AT], words[CALL_ADMINISTRATION_AT + 1]],
     }
 }
 
-fn over(words: &[u32]) -> Over {
-    Over { given: words[0], from: words[1], to: words[2] }
+/// Ranges of so many words each, of which these say what is given, from and to.
+fn over(words: &[u32], size: usize, [given, from, to]: [usize; 3]) -> Vec<Over> {
+    words.chunks_exact(size).map(|range| Over { given: range[given], from: range[from], to: range[to] }).collect()
 }
 
 /// "a time over 59,999, flags over 15; a range end not below c or in wrong order"; document 02, No. 10: "21 additionally refuses a place not below S".
@@ -205,7 +212,7 @@ impl<'a> Table<'a> {
 
     /// The first record of a stop.
     fn stop_record(&self, stop: u32) -> Option<&'a [u32]> {
-        self.stop_records().find(|record| record[0] == stop)
+        self.stop_records().find(|record| record[STOP_NUMBER_AT] == stop)
     }
 
     fn stop_known(&self, stop: u32) -> bool {
@@ -216,10 +223,9 @@ impl<'a> Table<'a> {
     fn interchange_times(&self, stop: u32) -> [u32; 2] {
         let start = HEADER_WORDS + BIT_FIELD_WORDS * self.bitfields + STOP_WORDS * self.stops;
         let mut records = self.words[start..].chunks_exact(INTERCHANGE_WORDS).take(self.records);
-        match records.find(|record| record[0] == stop) {
-            Some(record) => [record[1], record[2]],
-            None => [self.words[start + 1], self.words[start + 2]],
-        }
+        let own = records.find(|record| record[INTERCHANGE_STOP_AT] == stop);
+        let record = own.unwrap_or(&self.words[start..]);
+        [record[INTERCHANGE_FIRST_TIME_AT], record[INTERCHANGE_SECOND_TIME_AT]]
     }
 
     /// "The first time applies when both classes are 0, 1 or 2" (No. 2), else the second.
@@ -236,7 +242,7 @@ impl<'a> Table<'a> {
 
     /// The class of a category.
     fn class_of(&self, category: u32) -> Option<u32> {
-        self.class_records().find(|record| record[0] == category).map(|record| record[1])
+        self.class_records().find(|record| record[CLASS_CODE_AT] == category).map(|record| record[CLASS_AT])
     }
 
     /// Whether a bit field runs on a day, "0 always runs"; `None` if there is no such bit field.
@@ -245,9 +251,9 @@ impl<'a> Table<'a> {
             return Some(true);
         }
         let mut records = self.words[HEADER_WORDS..].chunks_exact(BIT_FIELD_WORDS).take(self.bitfields);
-        let record = records.find(|record| record[0] == number)?;
+        let record = records.find(|record| record[BIT_FIELD_NUMBER_AT] == number)?;
         let mut bits: BitWords = [0; 12];
-        bits.copy_from_slice(&record[1..]);
+        bits.copy_from_slice(&record[BIT_FIELD_BITS_AT..]);
         Some(runs_on(&bits, day))
     }
 
@@ -294,7 +300,7 @@ pub fn interchange(words: &[u32], stop: u32, class_a: u32, class_b: u32) -> Chan
         Some(table) => table,
         None => return Changed::Refused { number: 21 },
     };
-    if class_a > 13 || class_b > 13 {
+    if class_a > MOST_CLASS || class_b > MOST_CLASS {
         return Changed::Refused { number: 26 };
     }
     if !table.stop_known(stop) {
@@ -331,7 +337,7 @@ fn found_name(words: &[u32], bahnhof: &[u8], stop: u32, language: u32, kind: u32
     let table = table(words).ok_or(21_u32)?;
     let wanted = wanted(language, kind).ok_or(40_u32)?;
     let record = table.stop_record(stop).ok_or(27_u32)?;
-    let (place, length) = (record[1] as usize, record[2] as usize);
+    let (place, length) = (record[STOP_NAME_AT] as usize, record[STOP_NAME_LENGTH_AT] as usize);
     let field = bahnhof.get(place..).and_then(|rest| rest.get(..length)).ok_or(41_u32)?;
     let names = names(field).ok_or(39_u32)?;
     let name = chosen(&names, wanted);
@@ -390,7 +396,7 @@ fn row(
 ) -> Result<[u32; ROW_WORDS], u32> {
     let call = service.calls[i];
     let stop = match table.stop_records().nth(call.place as usize) {
-        Some(record) => record[0],
+        Some(record) => record[STOP_NUMBER_AT],
         None => unreachable!("21 refuses a place not below S"),
     };
     // "First row: arrival 0, flags 1 and 4 cleared. Last: departure 0, flags 2 and 8 cleared, category 0."

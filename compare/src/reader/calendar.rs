@@ -4,7 +4,7 @@
 pub const LAST_DAY: u32 = 109_572;
 
 /// A period has 1 to 380 days.
-pub const MOST_DAYS: u32 = 380;
+pub const MOST_PERIOD_DAYS: u32 = 380;
 
 const FIRST_YEAR: u32 = 1900;
 const LAST_YEAR: u32 = 2199;
@@ -45,7 +45,7 @@ pub fn day_number(day: u32, month: u32, year: u32) -> Option<u32> {
 /// over 380. "A period of n days has 1 to 380."
 pub fn period(start: u32, end: u32) -> Option<u32> {
     let days = end.checked_sub(start)?.checked_add(1)?;
-    if days <= MOST_DAYS {
+    if days <= MOST_PERIOD_DAYS {
         Some(days)
     } else {
         None

@@ -3,6 +3,7 @@
 use std::convert::TryInto;
 
 use super::bits::{frame_ok, runs_on, BitWords};
+use super::calendar::MOST_PERIOD_DAYS;
 
 /// What two fields are asked for.
 #[derive(Clone, Copy, Debug, PartialEq, Eq)]
@@ -48,7 +49,7 @@ pub fn day_count(n: u32, field: &[u32]) -> Result<u32, Refused> {
 /// The n days of a field.
 fn days(n: u32, field: &[u32]) -> Result<Vec<bool>, Refused> {
     let words: BitWords = field.try_into().map_err(|_| Refused { number: NO_FIELD })?;
-    if !(1..=380).contains(&n) || !frame_ok(&words, n) {
+    if !(1..=MOST_PERIOD_DAYS).contains(&n) || !frame_ok(&words, n) {
         return Err(Refused { number: NO_FIELD });
     }
     Ok((0..n).map(|d| runs_on(&words, d)).collect())

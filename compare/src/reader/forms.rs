@@ -6,6 +6,9 @@ use super::fields::{
     repeats_and_offset, running_time, time, Date, Detail, RangeEnd, Time,
 };
 
+/// No. 1: "class 5-6 (count to 13)"; 26: "class over 13".
+pub const MOST_CLASS: u32 = 13;
+
 /// A field counts at the column where it starts.
 fn field(start: usize, holds: bool) -> Option<usize> {
     if holds {
@@ -67,7 +70,7 @@ pub fn form_category(line: &[u8]) -> Option<usize> {
     leftmost(&[
         field(1, column(line, 1) != b' '),
         unnamed(line, 4, 4),
-        field(5, count(line, 5, 6).map_or(false, |class| class <= 13)),
+        field(5, count(line, 5, 6).map_or(false, |class| class <= MOST_CLASS)),
         unnamed(line, 7, 7),
         field(8, matches!(column(line, 8), b'A'..=b'H' | b' ')),
         unnamed(line, 9, 9),

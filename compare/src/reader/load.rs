@@ -17,6 +17,7 @@ use super::names::names;
 use super::runs::Runs;
 use super::service::{checked, Call, Draft, End, Given, Range, Service};
 use super::table;
+use crate::layout::{HELPER_HEAD_WORDS, HELPER_LINE_WORDS};
 
 /// The answer of a load.
 #[derive(Clone, Copy, Debug, PartialEq, Eq)]
@@ -69,21 +70,22 @@ pub struct Delivery {
 }
 
 /// 1: "file over 16,777,216 bytes"
-pub const MOST_BYTES: usize = 16_777_216;
+pub const MOST_FILE_BYTES: usize = 16_777_216;
 
 /// The number of the first UMSTEIGB record.
 const DEFAULT_RECORD: u32 = 9_999_999;
 
 /// 13: "in one service over 200 calls, 50 *G, 50 *A VE or 100 other *A"
-const MOST_CALLS: usize = 200;
-const MOST_CATEGORIES: usize = 50;
-const MOST_DAY_RANGES: usize = 50;
-const MOST_OTHERS: usize = 100;
+pub const MOST_CALLS: usize = 200;
+pub const MOST_CATEGORIES: usize = 50;
+pub const MOST_DAY_RANGES: usize = 50;
+pub const MOST_OTHERS: usize = 100;
 
 /// No. 13: "helper words are lent: 64, and four for each line of BITFELD, BAHNHOF and UMSTEIGB".
 pub fn helper_needed(files: [&[u8]; 6]) -> usize {
     let [_, bitfeld, bahnhof, umsteigb, ..] = files;
-    64 + [bitfeld, bahnhof, umsteigb].iter().map(|file| 4 * lines(file).len()).sum::<usize>()
+    HELPER_HEAD_WORDS
+        + HELPER_LINE_WORDS * [bitfeld, bahnhof, umsteigb].map(|file| lines(file).len()).iter().sum::<usize>()
 }
 
 /// Loads the files by their numbers, ECKDATEN, BITFELD, BAHNHOF, UMSTEIGB, FPLAN, ZUGART. "A refusal returns number, file, line, and the
@@ -123,7 +125,7 @@ const ORDER: [u32; 6] = [1, 2, 3, 4, 6, 5];
 /// "First, lengths in file order"
 fn check_lengths(files: [&[u8]; 6]) -> Result<(), Offence> {
     for file in ORDER {
-        if files[file as usize - 1].len() > MOST_BYTES {
+        if files[file as usize - 1].len() > MOST_FILE_BYTES {
             return refuse(1, file, 0);
         }
     }

@@ -4,8 +4,12 @@
 use super::{a, bitfield, call, category, file, g, text, z};
 use crate::boundary::{Boundary, Reader};
 use crate::columns::line;
-use crate::layout::{CLASSES_AT, CLASS_WORDS, FIRST_SERVICE_AT, HEADER_WORDS};
+use crate::layout::{
+    BIT_FIELD_WORDS, CLASSES_AT, CLASS_AT, CLASS_WORDS, FIRST_SERVICE_AT, HEADER_WORDS, INTERCHANGE_WORDS, STOP_WORDS,
+    USED_AT,
+};
 use crate::reader::forms::form_category;
+use crate::reader::load::MOST_FILE_BYTES;
 use crate::reader::{interchange, interchange_between, is_table, Changed};
 
 const ALL: (&str, &str) = ("", "");
@@ -156,7 +160,7 @@ fn order_of_files() {
     assert_eq!([first(&[4, 6, 5]), first(&[6, 5]), first(&[5]), first(&[3, 6])], [4, 6, 5, 3]);
     let longest = |long: &[usize]| {
         let mut all = files(b"?", &[]);
-        long.iter().for_each(|number| all[number - 1] = vec![b' '; 16_777_217]);
+        long.iter().for_each(|number| all[number - 1] = vec![b' '; MOST_FILE_BYTES + 1]);
         loaded(&all).0
     };
     assert_eq!(longest(&[5, 6]), [1, 6, 0, 0, 0]);
@@ -170,18 +174,21 @@ fn order_of_files() {
 fn words_of_the_table() {
     let zugart = file(&[category("BAT", 4, ""), category("b", 13, ""), category("%", 1, ""), category("IC", 0, "")]);
     let (answer, table) = loaded(&files(&zugart, &[g("BAT", ALL, ALL)]));
-    let start = HEADER_WORDS + 13 + 2 * 3 + 3;
+    let start = HEADER_WORDS + BIT_FIELD_WORDS + 2 * STOP_WORDS + INTERCHANGE_WORDS;
     assert_eq!((answer[0], table[CLASSES_AT], table[FIRST_SERVICE_AT] as usize), (0, 3, start + 3 * CLASS_WORDS));
-    assert_eq!(table[start..start + 6], [0x42_4154, 4, 0x62_2020, 13, 0x49_4320, 0]);
+    assert_eq!(table[start..start + 3 * CLASS_WORDS], [0x42_4154, 4, 0x62_2020, 13, 0x49_4320, 0]);
     let with = |at: usize, word: u32| {
         let mut words = table.clone();
         words[at] = word;
         is_table(&words)
     };
-    assert!(is_table(&table) && with(start + 1, 13) && with(start, u32::MAX) && with(start, table[start + 2]));
-    assert!(!with(start + 1, 14) && !with(start + 5, 14) && !with(start + 3, u32::MAX));
+    assert!(is_table(&table) && with(start + CLASS_AT, 13) && with(start, u32::MAX));
+    // a code listed twice
+    assert!(with(start, table[start + CLASS_WORDS]));
+    let class_of = |category: usize| start + CLASS_WORDS * category + CLASS_AT;
+    assert!(!with(class_of(0), 14) && !with(class_of(2), 14) && !with(class_of(1), u32::MAX));
     assert!(!with(CLASSES_AT, 2) && !with(CLASSES_AT, 4) && !with(CLASSES_AT, 3 + (1 << 31)));
-    assert!(!is_table(&table[..8]) && !with(0, 8));
+    assert!(!is_table(&table[..8]) && !with(USED_AT, 8));
 }
 
 /// "The new question takes a stop and two categories"; 38 "in the question, after 27".

@@ -1,17 +1,18 @@
 //! The comparison itself: it passes the reader, and finds a boundary that slips in one thing.
 
 use crate::boundary::{Boundary, Reader};
-use crate::differ::{compare, Tally, OVERSIZED_EVERY};
+use crate::differ::{compare, Tally, CALLS, OVERSIZED_EVERY};
 use crate::generate::questions::head_of;
 use crate::generate::raw_table::parts;
 use crate::layout::{
-    ADMINISTRATION_AT, CALLS_AT, CALL_WORDS, CLASSES_AT, CLASS_WORDS, FIRST_SERVICE_AT, KIND_AT, KIND_T, KIND_Z,
-    NUMBER_AT, OFFSET_AT, REPEATS_AT, ROW_ARRIVAL_AT, ROW_CATEGORY_AT, ROW_DEPARTURE_AT, ROW_NUMBER_AT, ROW_WORDS,
-    SERVICES_AT, SERVICE_WORDS, STOPS_AT, STOP_WORDS, USED_AT,
+    ADMINISTRATION_AT, CALLS_AT, CALL_NUMBER_AT, CALL_PLACE_AT, CALL_WORDS, CLASSES_AT, CLASS_AT, CLASS_WORDS,
+    FIRST_SERVICE_AT, HELPER_LINE_WORDS, KIND_AT, KIND_T, KIND_Z, MOST_CALLS, MOST_CLASS, NUMBER_AT, OFFSET_AT,
+    REPEATS_AT, ROW_ARRIVAL_AT, ROW_CATEGORY_AT, ROW_DEPARTURE_AT, ROW_NUMBER_AT, ROW_WORDS, SERVICES_AT,
+    SERVICE_WORDS, STOPS_AT, STOP_NUMBER_AT, STOP_WORDS, USED_AT,
 };
 use crate::reader::fields::{column, columns};
 use crate::reader::lines::{lines, skipped, Line};
-use crate::reader::load::MOST_BYTES;
+use crate::reader::load::MOST_FILE_BYTES;
 use crate::reader::names::{fits, names, wanted, Name};
 use crate::reader::runs::Runs;
 use crate::reader::{helper_needed, is_table, Combination};
@@ -365,11 +366,11 @@ fn without_marks(bahnhof: &[u8]) -> Vec<u8> {
 }
 
 /// The first record of a stop in a table.
-fn stop_record(table: &[u32], stop: u32) -> Option<[u32; 3]> {
+fn stop_record(table: &[u32], stop: u32) -> Option<[u32; STOP_WORDS]> {
     if !is_table(table) {
         return None;
     }
-    parts(&table[..table[USED_AT] as usize]).stops.into_iter().find(|record| record[0] == stop)
+    parts(&table[..table[USED_AT] as usize]).stops.into_iter().find(|record| record[STOP_NUMBER_AT] == stop)
 }
 
 impl Slip {
@@ -415,9 +416,9 @@ impl Slip {
             let mut before: Vec<u32> = service.head[NUMBER_AT..=ADMINISTRATION_AT + 1].to_vec();
             let calls = service.calls.clone();
             for (i, call) in service.calls.iter_mut().enumerate() {
-                let held = &mut call[4..];
+                let held = &mut call[CALL_NUMBER_AT..];
                 match self {
-                    NumberOfNextCall if i + 1 < calls.len() => held.copy_from_slice(&calls[i + 1][4..]),
+                    NumberOfNextCall if i + 1 < calls.len() => held.copy_from_slice(&calls[i + 1][CALL_NUMBER_AT..]),
                     // the administration is taken over where the number is
                     BothTakenOver if held[0] == before[0] => held.copy_from_slice(&before),
                     NumberOfOpening => held.copy_from_slice(&before),
@@ -445,7 +446,7 @@ impl Slip {
             Reader.load([a, b, c, d, e, &changed], &mut [], &mut helper)
         };
         let is = match (self, number) {
-            (ZugartLengthLast, 1) if file == 6 && files[4].len() > MOST_BYTES => [1, 5, 0, 0, 0],
+            (ZugartLengthLast, 1) if file == 6 && files[4].len() > MOST_FILE_BYTES => [1, 5, 0, 0, 0],
             (EmptyZugartRefused, 0) if records.is_empty() => [2, 6, lines(files[5]).len() as u32 + 1, 0, 0],
             (GroupsBeforeCodes, 6) if file == 6 && other_group(&lines(files[5])[line as usize - 1]) => {
                 [37, 6, line, 0, 0]
@@ -513,7 +514,7 @@ impl Slip {
             match self {
                 KindLost => service.head[KIND_AT] = KIND_Z,
                 FrequencySwapped => service.head.swap(REPEATS_AT, OFFSET_AT),
-                _ => service.calls[0][4] = 0,
+                _ => service.calls[0][CALL_NUMBER_AT] = 0,
             }
         }
         table.copy_from_slice(&raw.words());
@@ -523,10 +524,11 @@ impl Slip {
     fn replace_places(&self, table: &mut [u32]) {
         let mut raw = parts(table);
         for call in raw.services.iter_mut().flat_map(|service| &mut service.calls) {
-            call[0] = match self {
-                NumberInCall => raw.stops[call[0] as usize][0],
-                PlaceInWords => call[0] * STOP_WORDS as u32,
-                _ => call[0] + 1,
+            let place = call[CALL_PLACE_AT];
+            call[CALL_PLACE_AT] = match self {
+                NumberInCall => raw.stops[place as usize][STOP_NUMBER_AT],
+                PlaceInWords => place * STOP_WORDS as u32,
+                _ => place + 1,
             };
         }
         table.copy_from_slice(&raw.words());
@@ -543,7 +545,7 @@ impl Slip {
                     None => break,
                 };
                 let at = (head.as_ptr() as usize - table.as_ptr() as usize) / 4 + SERVICE_WORDS;
-                for call in 0..head[CALLS_AT].min(200) as usize {
+                for call in 0..MOST_CALLS.min(head[CALLS_AT] as usize) {
                     if let Some(place) = seen.get_mut(at + CALL_WORDS * call) {
                         *place = (*place).min(stops.saturating_sub(1));
                     }
@@ -556,7 +558,9 @@ impl Slip {
             let classes = table.get(CLASSES_AT).copied().unwrap_or(0).min(1_000) as usize;
             let start = end.saturating_sub(CLASS_WORDS * classes);
             let records = seen.get_mut(start..end).unwrap_or(&mut []);
-            records.chunks_exact_mut(CLASS_WORDS).for_each(|record| record[1] = record[1].min(13));
+            records
+                .chunks_exact_mut(CLASS_WORDS)
+                .for_each(|record| record[CLASS_AT] = record[CLASS_AT].min(MOST_CLASS));
             return seen;
         }
         if !matches!(self, FrequencyLimit999 | RepeatsLimit9999 | DensityZeroTable | AnyKind) {
@@ -644,9 +648,14 @@ impl Slip {
     fn helper_asked(&self, files: [&[u8]; 6], needed: usize) -> usize {
         let of = |at: usize| lines(files[at]);
         match self {
-            SkippedLinesFree => needed - 4 * (1..4).flat_map(of).filter(|line| skipped(line.text)).count(),
-            LastLineFree => needed - 4 * (1..4).filter(|at| !matches!(files[*at].last(), None | Some(b'\n'))).count(),
-            OtherFilesCounted => needed + 4 * [0, 4, 5].iter().map(|at| of(*at).len()).sum::<usize>(),
+            SkippedLinesFree => {
+                needed - HELPER_LINE_WORDS * (1..4).flat_map(of).filter(|line| skipped(line.text)).count()
+            }
+            LastLineFree => {
+                needed
+                    - HELPER_LINE_WORDS * (1..4).filter(|at| !matches!(files[*at].last(), None | Some(b'\n'))).count()
+            }
+            OtherFilesCounted => needed + HELPER_LINE_WORDS * [0, 4, 5].iter().map(|at| of(*at).len()).sum::<usize>(),
             _ => needed,
         }
     }
@@ -667,24 +676,10 @@ fn the_reader_passes() {
 /// As many cases as the programs ask for reach every kind of answer, and every kind of run.
 #[test]
 fn every_answer_comes() {
-    let calls = [
-        "load",
-        "day",
-        "interchange",
-        "between",
-        "name",
-        "walk",
-        "run",
-        "union",
-        "intersection",
-        "difference",
-        "complement",
-        "count",
-    ];
     let mut tally = Tally::default();
     (0..20_000).for_each(|index| assert!(compare(9, index, &[], &mut tally).is_ok()));
     println!("{}", tally);
-    assert_eq!(tally.missing(&calls), Vec::<String>::new());
+    assert_eq!(tally.missing(&CALLS), Vec::<String>::new());
 }
 
 #[test]

@@ -2,11 +2,16 @@
 
 use super::{a, bitfield, call, file, g, text, z};
 use crate::columns::line;
+use crate::layout::{
+    self, CALL_NUMBER_AT, CALL_WORDS, CATEGORY_WORDS, DAYS_WORDS, ROW_CATEGORY_AT, ROW_FIRST_TIME_AT, ROW_NUMBER_AT,
+    ROW_SECOND_TIME_AT, ROW_STOP_AT, ROW_WORDS,
+};
 use crate::reader::bits::{frame_ok, runs_on};
-use crate::reader::calendar::{day_number, period, LAST_DAY};
+use crate::reader::calendar::{day_number, period, LAST_DAY, MOST_PERIOD_DAYS};
 use crate::reader::fields::{date, detail, hex_words, range_end, time, Date, Time};
-use crate::reader::forms::{form_interchange, form_z};
+use crate::reader::forms::{form_interchange, form_z, MOST_CLASS};
 use crate::reader::lines::{lines, skipped};
+use crate::reader::load::{MOST_CALLS, MOST_FILE_BYTES};
 use crate::reader::service::{from_index, to_index, Call, End};
 use crate::reader::{day, interchange, is_table, load, walk, Changed, DayAnswer, Loaded, Walked};
 
@@ -223,7 +228,7 @@ fn helper_words() {
     assert_eq!(with(&more, 82, 99).0, short(100));
     assert_eq!(with(&more, 82, 101), (broken(1, 1, 1), true, emptied(100, 1)));
     // "directly after 1"
-    more[4].resize(16_777_217, b' ');
+    more[4].resize(MOST_FILE_BYTES + 1, b' ');
     assert_eq!(with(&more, 82, 99), (refused(1, 5, 0), true, vec![9; 99]));
     assert_eq!(with(&more, 82, 101), (refused(1, 5, 0), true, vec![9; 101]));
 }
@@ -263,10 +268,11 @@ fn questions_on_the_trial_week() {
 #[test]
 fn places() {
     let table = load_in(&trial_week(), 82).1;
+    let shown = |row: &[u32]| [ROW_STOP_AT, ROW_FIRST_TIME_AT, ROW_SECOND_TIME_AT].map(|at| row[at]);
     let first_rows = |words: &[u32]| {
-        let mut rows = [9; 40];
+        let mut rows = [9; 4 * ROW_WORDS];
         match walk(words, 0, 0, 5, 12, 2025, &mut rows) {
-            Walked::Rows(4) => Ok(rows.chunks(10).map(|row| [row[0], row[8], row[9]]).collect::<Vec<_>>()),
+            Walked::Rows(4) => Ok(rows.chunks(ROW_WORDS).map(shown).collect::<Vec<_>>()),
             Walked::Refused { number, needed: 0 } => Err(number),
             other => panic!("{:?}", other),
         }
@@ -333,15 +339,18 @@ fn changes_of_number() {
             Loaded::Accepted { words } => words as usize,
             refused => panic!("{:?}", refused),
         };
-        let calls: Vec<u32> =
-            table[words - 40..words - 12].chunks(7).flat_map(|call| call[4..].iter().copied()).collect();
+        // four calls, then a *G and three *A VE
+        let end = words - CATEGORY_WORDS - 3 * DAYS_WORDS;
+        let calls = table[end - 4 * CALL_WORDS..end].chunks(CALL_WORDS);
+        let calls: Vec<u32> = calls.flat_map(|call| call[CALL_NUMBER_AT..].iter().copied()).collect();
         // a Saturday, on which only 000002 runs
-        let mut rows = [0; 40];
+        let mut rows = [0; 4 * ROW_WORDS];
         let listed = match walk(&table, 0, 0, 6, 12, 2025, &mut rows) {
             Walked::Rows(listed) => listed as usize,
             other => panic!("{:?}", other),
         };
-        let told: Vec<u32> = rows.chunks(10).take(listed).flat_map(|row| row[4..7].iter().copied()).collect();
+        let rows = rows.chunks(ROW_WORDS).take(listed);
+        let told: Vec<u32> = rows.flat_map(|row| row[ROW_NUMBER_AT..ROW_CATEGORY_AT].iter().copied()).collect();
         (calls, told)
     };
     let daily = ["000002"; 3];
@@ -356,6 +365,13 @@ fn changes_of_number() {
         holding([("00007", "QUAY_1"), ("", ""), ("", "FERRY_"), ("", "")], ["000001", "000002", "000002"]);
     assert_eq!(calls, [7, quay, one, 7, quay, one, 7, FER, RY_, 7, FER, RY_]);
     assert_eq!(told, calls[3..]);
+}
+
+/// The reader has its limits from the paper; those that the header names are the same.
+#[test]
+fn limits() {
+    assert_eq!((MOST_FILE_BYTES, MOST_CALLS), (layout::MOST_FILE_BYTES, layout::MOST_CALLS));
+    assert_eq!((MOST_PERIOD_DAYS, MOST_CLASS), (layout::MOST_PERIOD_DAYS, layout::MOST_CLASS));
 }
 
 #[test]

@@ -2,7 +2,10 @@
 
 use super::{a, bitfield, call, category, file, g, t, text, z};
 use crate::columns::line;
-use crate::layout::{KIND_AT, KIND_T, KIND_Z, OFFSET_AT, REPEATS_AT, SERVICE_WORDS};
+use crate::layout::{
+    CALL_NUMBER_AT, CALL_WORDS, CATEGORY_WORDS, DAYS_WORDS, FIRST_SERVICE_AT, KIND_AT, KIND_T, KIND_Z, OFFSET_AT,
+    OPENING_LINE_AT, REPEATS_AT, ROW_ARRIVAL_AT, ROW_DEPARTURE_AT, ROW_WORDS, SERVICE_WORDS,
+};
 use crate::reader::forms::form_t;
 use crate::reader::runs::Runs;
 use crate::reader::{is_table, load, walk, Loaded, Walked};
@@ -109,26 +112,26 @@ fn both_kinds_in_one_file() {
     ]
     .concat();
     let (answer, table) = loaded(&fplan);
-    let size = SERVICE_WORDS + 2 * 7 + 3 + 3;
-    let start = table[7] as usize;
+    let size = SERVICE_WORDS + 2 * CALL_WORDS + CATEGORY_WORDS + DAYS_WORDS;
+    let start = table[FIRST_SERVICE_AT] as usize;
     assert_eq!(answer, Loaded::Accepted { words: (start + 3 * size) as u32 });
     assert!(is_table(&table));
     let heads: Vec<&[u32]> = table[start..].chunks(size).take(3).collect();
     let told: Vec<[u32; 4]> =
-        heads.iter().map(|head| [head[REPEATS_AT], head[OFFSET_AT], head[10], head[KIND_AT]]).collect();
+        heads.iter().map(|head| [head[REPEATS_AT], head[OFFSET_AT], head[OPENING_LINE_AT], head[KIND_AT]]).collect();
     assert_eq!(told, [[240, 450, 1, KIND_T], [23, 10, 6, KIND_Z], [0, 9_999, 11, KIND_T]]);
     // the *Z values of No. 5 are the *T's
-    assert_eq!(heads[0][SERVICE_WORDS + 4], 1);
+    assert_eq!(heads[0][SERVICE_WORDS + CALL_NUMBER_AT], 1);
     let runs = |service: u32| {
         let mut late = Vec::new();
         for run in 0.. {
-            let mut rows = [0; 20];
+            let mut rows = [0; 2 * ROW_WORDS];
             match walk(&table, service, run, 5, 12, 2025, &mut rows) {
-                Walked::Rows(2) => late.push(rows[2] - 480),
+                Walked::Rows(2) => late.push(rows[ROW_DEPARTURE_AT] - 480),
                 Walked::Refused { number: 25, needed: 0 } => break,
                 other => panic!("{:?}", other),
             }
-            assert_eq!(rows[11] - 490, *late.last().unwrap());
+            assert_eq!(rows[ROW_WORDS + ROW_ARRIVAL_AT] - 490, *late.last().unwrap());
         }
         late
     };

@@ -3,7 +3,7 @@
 use super::{Checked, Paper};
 use crate::boundary::Boundary;
 use crate::columns::category as category_line;
-use crate::layout::{CLASSES_AT, CLASS_WORDS, HEADER_WORDS, INTERCHANGE_WORDS, STOP_WORDS};
+use crate::layout::{CLASSES_AT, CLASS_AT, CLASS_CODE_AT, CLASS_WORDS, HEADER_WORDS, INTERCHANGE_WORDS, STOP_WORDS};
 
 /// 5.5's example in its columns: train type N, class 3, tariff group A, output control 0, text N, supplement 0, a local service.
 const LOCAL_TRAIN: &str = "N    3 A 0 N        0 N      Nahverkehrs zug";
@@ -20,7 +20,7 @@ pub fn category(boundary: &dyn Boundary) -> Vec<Checked> {
         Checked::new(
             "5.5 one category: N and two blanks, class 3",
             &[1, 0x4E_2020, 3],
-            &[table[CLASSES_AT], record[0], record[1]],
+            &[table[CLASSES_AT], record[CLASS_CODE_AT], record[CLASS_AT]],
         ),
     ]
 }

@@ -5,8 +5,9 @@ use super::{Checked, Paper};
 use crate::boundary::Boundary;
 use crate::columns::{a, call, category, g, line, t};
 use crate::layout::{
-    CALL_WORDS, CATEGORY_WORDS, CLASS_WORDS, DAYS_WORDS, HEADER_WORDS, INTERCHANGE_WORDS, KIND_AT, KIND_T,
-    MOST_ROW_WORDS, OFFSET_AT, REPEATS_AT, ROW_ARRIVAL_AT, ROW_DEPARTURE_AT, ROW_WORDS, SERVICE_WORDS, STOP_WORDS,
+    CALL_WORDS, CATEGORY_WORDS, CLASS_WORDS, DAYS_WORDS, FIRST_SERVICE_AT, HEADER_WORDS, INTERCHANGE_WORDS, KIND_AT,
+    KIND_T, MOST_ROW_WORDS, OFFSET_AT, REPEATS_AT, ROW_ARRIVAL_AT, ROW_DEPARTURE_AT, ROW_WORDS, SERVICE_WORDS,
+    STOP_WORDS,
 };
 
 /// A day of 5.4.1's period.
@@ -46,7 +47,7 @@ pub fn service_1554(boundary: &dyn Boundary) -> Vec<Checked> {
     let printed = line(&[(1, "*T 01554 80_____ 0240 0450"), (59, "%")]);
     let mended = opened(t("01554", "80____", "0240", "0450"));
     let (accepted, table) = mended.accepted(boundary, "5.3.3 the *T service 1554", WORDS_1554);
-    let head = &table[table[7] as usize..];
+    let head = &table[table[FIRST_SERVICE_AT] as usize..];
     let expected = [0, 0, 0, 0, 8, 8, 0, 15, 15, 0, 23, 23, 0, 30, 30, 0, 233, 233, 0, 240, 240, 25, 25];
     vec![
         opened(printed).refused(boundary, "5.3.3 as printed, seven bytes of administration", [4, 5, 1, 16]),
@@ -112,7 +113,7 @@ pub fn on_call(boundary: &dyn Boundary) -> Vec<Checked> {
         + DAYS_WORDS;
     let mended = t("00001", "VGS___", "0720", "0900");
     let (accepted, table) = opened(mended.clone(), 1).accepted(boundary, "5.3.17 density 0900, without *EI", words);
-    let kind = table[table[7] as usize + KIND_AT];
+    let kind = table[table[FIRST_SERVICE_AT] as usize + KIND_AT];
     vec![
         opened(signed(22, "-0900"), 0).refused(boundary, "5.3.17 as printed, density -0900", [4, 5, 1, 22]),
         opened(signed(22, "-900"), 0).refused(boundary, "5.3.17 density -900", [4, 5, 1, 22]),

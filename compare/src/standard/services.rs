@@ -5,8 +5,8 @@ use crate::boundary::Boundary;
 use crate::columns::{a, bit_digits, bitfield, call, category, g, z};
 use crate::generate::plan::bitfield_of;
 use crate::layout::{
-    BIT_FIELD_WORDS, CALL_WORDS, CATEGORY_WORDS, CLASS_WORDS, DAYS_WORDS, EXTRA_WORDS, HEADER_WORDS, INTERCHANGE_WORDS,
-    ROW_WORDS, SERVICE_WORDS, STOP_WORDS,
+    BIT_FIELD_WORDS, CALL_WORDS, CATEGORY_WORDS, CLASS_WORDS, DAYS_WORDS, EXTRA_FROM_AT, EXTRA_TO_AT, EXTRA_WORDS,
+    HEADER_WORDS, INTERCHANGE_WORDS, ROW_WORDS, SERVICE_WORDS, STOP_WORDS,
 };
 
 /// The days of 5.4.1's period.
@@ -65,8 +65,10 @@ pub fn service_1554(boundary: &dyn Boundary) -> Vec<Checked> {
     let old: Vec<String> = fplan_1554().iter().map(|line| line.replace("    %", "%")).collect();
     let words = WORDS_1554;
     let (accepted, table) = paper.clone().with(5, &fplan_1554()).accepted(boundary, "5.3.1 service 1554", words);
-    let ends: Vec<u32> =
-        table[words - 4 * EXTRA_WORDS..words].chunks(EXTRA_WORDS).flat_map(|other| [other[2], other[3]]).collect();
+    let ends: Vec<u32> = table[words - 4 * EXTRA_WORDS..words]
+        .chunks(EXTRA_WORDS)
+        .flat_map(|other| [other[EXTRA_FROM_AT], other[EXTRA_TO_AT]])
+        .collect();
     vec![
         paper.with(5, &old).refused(boundary, "5.3.1 with \"%\" in column 55", [4, 5, 1, 55]),
         accepted,

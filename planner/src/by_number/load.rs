@@ -99,7 +99,7 @@ pub struct Lengths {
 /// ```
 /// use estelunya_planner::by_number::{room_for, Lengths};
 ///
-/// let longest = 16 * 1024 * 1024;
+/// let longest = estelunya_planner::layout::MOST_FILE_BYTES;
 /// let most = Lengths { bitfeld: longest, bahnhof: longest, umsteigb: longest, fplan: longest, zugart: longest };
 /// assert_eq!(room_for(&most) * 4, 54_934_228); // bytes
 /// ```
@@ -115,8 +115,9 @@ pub fn room_for(lengths: &Lengths) -> usize {
     unsafe { raw::estelunya_room(bitfeld, bahnhof, umsteigb, fplan, zugart) }
 }
 
-/// How many helper words the load of these files needs: 64, and four for each line of BITFELD, BAHNHOF and UMSTEIGB. No file is
-/// looked into further; one that is too long is refused as a load refuses it.
+/// How many helper words the load of these files needs: [`HELPER_HEAD_WORDS`](crate::layout::HELPER_HEAD_WORDS), and
+/// [`HELPER_LINE_WORDS`](crate::layout::HELPER_LINE_WORDS) for each line of BITFELD, BAHNHOF and UMSTEIGB. No file is looked into
+/// further; one that is too long is refused as a load refuses it.
 ///
 /// # Errors
 ///

@@ -1,10 +1,12 @@
 //! A refusal for people: the line, the field, what it means and how to mend it. The first line of a screen is the proved answer, the
 //! rest is worked out here.
 
+use estelunya_planner::layout::{MOST_CLASS, MOST_FILE_BYTES};
+
 use super::dates::{day_count, period, stated, written, wrong};
 use super::lines::{
     column, columns, digits, field_at, kind, line, lines, numbered, passed_over, text, trimmed, Delivery, Kind, Rule,
-    BAHNHOF, BITFELD, ECKDATEN, FPLAN, MOST_BYTES, NAMES, UMSTEIGB, ZUGART,
+    BAHNHOF, BITFELD, ECKDATEN, FPLAN, NAMES, UMSTEIGB, ZUGART,
 };
 use super::service::{of_delivery, service_of, Finding};
 use super::{form, looks};
@@ -152,7 +154,7 @@ fn finding(delivery: &Delivery, answer: &Answer) -> Finding {
         (1, _) => Finding::says(format!(
             "the file has {} bytes, {} too many",
             file.len(),
-            file.len().saturating_sub(MOST_BYTES)
+            file.len().saturating_sub(MOST_FILE_BYTES)
         )),
         (2, _) => Finding::says(format!("the file has {} lines", lines(file).count())),
         (3, _) => Finding::says(format!("the file has {} lines", lines(file).count())),
@@ -364,10 +366,10 @@ fn date_mend(bytes: &[u8]) -> &'static str {
 
 fn count_mend(field: &[u8], most: u32) -> &'static str {
     match (form_number(field), most) {
-        (Some(value), 13) if value > most => "give the category a class from 0 to 13",
+        (Some(value), MOST_CLASS) if value > most => "give the category a class from 0 to 13",
         (Some(value), _) if value > most => "write at most 60 minutes",
         (Some(_), _) => "set the number to the right edge of its columns",
-        (None, 13) => "write the class, 0 to 13, at the right edge of columns 5-6",
+        (None, MOST_CLASS) => "write the class, 0 to 13, at the right edge of columns 5-6",
         (None, _) => "write the minutes in digits, at the right edge of the field",
     }
 }

@@ -1,5 +1,7 @@
 //! A file's lines and columns, as the loader reads them, and the fields that each kind of line has.
 
+use estelunya_planner::layout::MOST_CLASS;
+
 /// The files of a delivery by their numbers, from 1.
 pub const NAMES: [&str; 6] = ["ECKDATEN", "BITFELD", "BAHNHOF", "UMSTEIGB", "FPLAN", "ZUGART"];
 /// ECKDATEN.
@@ -14,9 +16,6 @@ pub const UMSTEIGB: u32 = 4;
 pub const FPLAN: u32 = 5;
 /// ZUGART, which is checked before FPLAN.
 pub const ZUGART: u32 = 6;
-
-/// A longer file is refused with 1.
-pub const MOST_BYTES: usize = 16_777_216;
 
 /// The files of a delivery, each as its bytes.
 #[derive(Clone, Debug)]
@@ -195,7 +194,7 @@ const RECORDS: &[Field] = &[
 ];
 const CATEGORIES: &[Field] = &[
     (1, 3, "code", Rule::Begins),
-    (5, 6, "class", Rule::Count(13)),
+    (5, 6, "class", Rule::Count(MOST_CLASS)),
     (8, 8, "tariff group", Rule::OneOf("A, B, C, D, E, F, G, H or blank")),
     (10, 10, "output", Rule::OneOf("a digit 0 to 7")),
     (12, 19, "text for the output", Rule::Free),

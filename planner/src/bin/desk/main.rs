@@ -27,12 +27,14 @@ use std::thread;
 use std::time::{Duration, Instant};
 
 use estelunya_planner::by_number::load;
-use estelunya_planner::layout::{BIT_FIELDS_AT, CLASSES_AT, INTERCHANGES_AT, PERIOD_DAYS_AT, SERVICES_AT, STOPS_AT};
+use estelunya_planner::layout::{
+    BIT_FIELDS_AT, CLASSES_AT, INTERCHANGES_AT, MOST_FILE_BYTES, PERIOD_DAYS_AT, SERVICES_AT, STOPS_AT,
+};
 use estelunya_planner::{Files, LoadRefusal};
 
 use explain::{screen, short, Answer};
 use further::Further;
-use lines::{Delivery, MOST_BYTES, NAMES};
+use lines::{Delivery, NAMES};
 
 const ACCEPTED: i32 = 0;
 const REFUSED: i32 = 1;
@@ -110,7 +112,7 @@ fn told(delivery: &Delivery, all: bool) -> (i32, String) {
 fn loaded(delivery: &Delivery) -> Result<Vec<u32>, Answer> {
     with_progress(|| {
         // No line of a file gives more words than a quarter of its bytes.
-        let bytes: usize = delivery.files.iter().map(|file| file.len().min(MOST_BYTES)).sum();
+        let bytes: usize = delivery.files.iter().map(|file| file.len().min(MOST_FILE_BYTES)).sum();
         let mut words = vec![0; bytes / 4 + 64];
         let used = match load(&files(delivery), &mut words).map_err(answer) {
             Err(Answer { number: 20, needed, .. }) => {

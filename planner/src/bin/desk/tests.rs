@@ -4,11 +4,12 @@ use std::collections::BTreeSet;
 use std::path::Path;
 
 use estelunya_planner::by_number::load_with;
+use estelunya_planner::layout::MOST_FILE_BYTES;
 
 use super::dates::{later, written};
 use super::explain::{screen, Answer};
 use super::form::frame;
-use super::lines::{lines, Delivery, BAHNHOF, BITFELD, ECKDATEN, FPLAN, MOST_BYTES, UMSTEIGB, ZUGART};
+use super::lines::{lines, Delivery, BAHNHOF, BITFELD, ECKDATEN, FPLAN, UMSTEIGB, ZUGART};
 use super::{answer, files, loaded, run, told};
 
 const SCREENS: &str = include_str!("screens.txt");
@@ -68,7 +69,7 @@ fn cases() -> Vec<(&'static str, Delivery, bool)> {
     let week = trial_week();
     let cr_only: Vec<u8> = week.file(FPLAN).iter().map(|byte| if *byte == b'\n' { b'\r' } else { *byte }).collect();
     let stripped = String::from_utf8(week.file(FPLAN).to_vec()).unwrap().replace('%', "");
-    let long = vec![b' '; MOST_BYTES + 1];
+    let long = vec![b' '; MOST_FILE_BYTES + 1];
     let records_cr = b"9999999  2  3 all stops\r1000011  4  5\r";
     let mut listed = vec![
         ("accepted", trial_week(), false),
