@@ -15,7 +15,7 @@ use Rattle.fields.specs.declared.Time.{Time}
 use Rattle.forms.specs.Form.{Row, fits, formOf, isFit, before, named, strayFrom, unnamed, rowForm, formFrom}
 use Rattle.forms.specs.Form as Fm
 use Rattle.forms.specs.Columns.{callColumns}
-use Rattle.forms.proofs.Straight.{and-one, end-fit, fit, step-gap, step-next}
+use Rattle.forms.proofs.Straight.{chained, and-one, end-fit, fit, step-gap, step-next}
 use Rattle.forms.specs.declared.Form.{Form}
 use Rattle.forms.specs.declared.Form.the-variants.{Fits, Broken as BrokenForm}
 use Rattle.timetable.specs.Layout.{mostFileBytes}
@@ -26,13 +26,6 @@ use Rattle.told.specs.Calls.{headFits, tailFits, endFits, callWith}
 
 -- ---- a chain of tests, for `search chains`: t is what a test said
 
-module _ (t x : Bool) (e : t ≡ x) where
-  pub and-true : (r y : Bool) → t ≡ true → r ≡ y → r ≡ (x && y)
-  and-true r y h d = rw (← e, h) d
-
-  pub and-false : (y : Bool) → t ≡ false → false ≡ (x && y)
-  and-false y h = rw (← e, h)
-
 module _ (p : List ℕ) (y t : Bool) (et : t ≡ every (isOf (Byte 32)) p) where
   is-blank : blank p ≡ t
   is-blank = sym et
@@ -42,9 +35,6 @@ module _ (p : List ℕ) (y t : Bool) (et : t ≡ every (isOf (Byte 32)) p) where
 
   pub or-other : (u : Bool) → t ≡ false → u ≡ y → u ≡ (blank p || y)
   or-other u h d = rw (is-blank, h, d)
-
-pub byte-test : (x v m : ℕ) → x ≡ v → eqb x m ≡ eqb v m
-byte-test x v m e = rw e
 
 -- ---- the form of schedule lines, column by column
 
@@ -100,6 +90,6 @@ module _ (l : List ℕ) (a d : Time) (t f : Bool) (h : length l ≤ mostFileByte
   pub usual-fits : (k : CallLine) → f ≡ true → k ≡ callWith l a d → Calls k ≡ formed (formOf callColumns l) (Calls (callIn l))
   usual-fits k y e = rw (fit (formOf callColumns l) (same ∙ y), e, ea, ed)
 
-pub ruleset chains = (tests, and-true, and-false, or-blank, or-other, byte-test)
+pub ruleset chains = (chained, or-blank, or-other)
 
 pub ruleset usual = (tests, usual-fits)
