@@ -37,17 +37,32 @@ const VE: u32 = b'V' as u32 * 256 + b'E' as u32;
 pub fn told_in(text: &[u8]) -> Told
     ensures { λ r. ⌜ r ≡ toldIn (now (text .entry)) ⌝ }
 {
+    told_of(forms::kind_of(text), text)
+}
+
+// What a line says, where its kind was found.
+pub fn told_of(kind: Kind, text: &[u8]) -> Told
+    requires { ⌜ kind ≡ kindOf (now text) ⌝ }
+    ensures { λ r. ⌜ r ≡ toldIn (now (text .entry)) ⌝ }
+{
     if lines::skips(text) {
         return Told::Skip;
     }
-    told_by(forms::kind_of(text), text)
+    told_by(kind, text)
 }
 
-// Whether a line opens a service, whatever its form.
-pub fn opens_service(text: &[u8]) -> bool
-    ensures { λ r. ⌜ r ≡ isOpening (kindOf (now (text .entry))) ⌝ }
+// Whether a line of a kind opens a service, whatever its form.
+pub fn is_opening(kind: Kind) -> bool
+    ensures { λ r. ⌜ r ≡ isOpening kind ⌝ }
 {
-    is_opening(forms::kind_of(text))
+    match kind {
+        Kind::Opening => true,
+        Kind::Frequency => true,
+        Kind::Category => false,
+        Kind::Attribute => false,
+        Kind::Schedule => false,
+        Kind::Other => false,
+    }
 }
 
 // What a line of a kind says.
@@ -61,19 +76,6 @@ fn told_by(kind: Kind, text: &[u8]) -> Told
         Kind::Attribute => attribute_told(text),
         Kind::Schedule => call_told(text),
         Kind::Other => Told::Other,
-    }
-}
-
-fn is_opening(kind: Kind) -> bool
-    ensures { λ r. ⌜ r ≡ isOpening kind ⌝ }
-{
-    match kind {
-        Kind::Opening => true,
-        Kind::Frequency => true,
-        Kind::Category => false,
-        Kind::Attribute => false,
-        Kind::Schedule => false,
-        Kind::Other => false,
     }
 }
 
