@@ -302,20 +302,12 @@ pub fn part_number(part: Part) -> u32
 
 // ---- read back
 
-// The call whose words start at a place.
+// The call whose words start at a place: they begin as a call's of the table do.
 pub fn call_at(calls: &[u32], at: usize) -> Call
     requires { ⌜ at + draftCall ≤ length (now calls) ⌝ }
     ensures { λ r. ⌜ r ≡ callBack (drop at (now (calls .entry))) .1 ⌝ }
 {
-    Call {
-        stop: calls[at],
-        arrival: calls[at + 1],
-        departure: calls[at + 2],
-        flags: calls[at + 3],
-        number: calls[at + 4],
-        high: calls[at + 5],
-        low: calls[at + 6],
-    }
+    timetable::call_at(calls, at)
 }
 
 // The number of its line.
