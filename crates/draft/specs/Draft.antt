@@ -28,12 +28,15 @@ use Rattle.timetable.specs.declared.RangeLine.{RangeLine}
 use Rattle.timetable.specs.declared.Told.{Told}
 use Rattle.draft.specs.declared.Counts.{Counts}
 
--- the words of a call, and of a range, in the draft
+-- the words of a call, of a range, and of one of its ends, in the draft
 abbrev pub draftCall : ℕ
 draftCall = 8
 
 abbrev pub draftRange : ℕ
 draftRange = 12
+
+abbrev pub draftEnd : ℕ
+draftEnd = 4
 
 -- the words lent for them
 abbrev pub mostRanges : ℕ

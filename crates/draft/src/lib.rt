@@ -23,7 +23,7 @@ ghost use lib.ListN.{length, drop};
 ghost use Rattle.timetable.specs.Plan.{asCall, asRange, partNumber};
 ghost use Rattle.timetable.specs.Service.{opened, callBy};
 ghost use Rattle.words.specs.Words.{write};
-ghost use Rattle.draft.specs.Draft.{draftCall, draftRange, mostRanges, callsLent, rangesLent, callDraft, placeTag, placeValue, detailTag, detailValue, endDraft, rangeDraft};
+ghost use Rattle.draft.specs.Draft.{draftCall, draftRange, draftEnd, mostRanges, callsLent, rangesLent, callDraft, placeTag, placeValue, detailTag, detailValue, endDraft, rangeDraft};
 ghost use Rattle.draft.specs.Draft.{callBack, placeBack, detailBack, partBack, endBack, lineBack, rangeBack, callsOn, rangesOn, onLine, lastOf, callsAfter, noCounts, countCalls, countPart, countRanges, counted, ranges#, Within};
 
 // The words of a call in the draft: those of the table (stop, arrival, departure, flags, and the number and administration that hold there), and its
@@ -245,7 +245,7 @@ fn put_range(ranges: &mut [u32], at: usize, line: u32, range: RangeLine)
 }
 
 fn put_end(ranges: &mut [u32], at: usize, end: End)
-    requires { ⌜ at + 4 ≤ length (now ranges) ⌝ }
+    requires { ⌜ at + draftEnd ≤ length (now ranges) ⌝ }
     ensures { λ _. ⌜ now (ranges .exit) ≡ write (now (ranges .entry)) at (endDraft end) ⌝ }
 {
     let place = end.place;
@@ -347,7 +347,7 @@ pub fn range_line(ranges: &[u32], at: usize) -> u32
 
 // The end whose words start at a place.
 fn end_at(ranges: &[u32], at: usize) -> End
-    requires { ⌜ at + 4 ≤ length (now ranges) ⌝ }
+    requires { ⌜ at + draftEnd ≤ length (now ranges) ⌝ }
     ensures { λ r. ⌜ r ≡ endBack 0 (drop at (now (ranges .entry))) ⌝ }
 {
     let place = place_of(ranges[at], ranges[at + 1]);

@@ -27,7 +27,7 @@ ghost use Rattle.forms.specs.Kinds.{kindOf};
 ghost use Rattle.timetable.specs.Plan.{openingIn, frequencyIn, categoryIn, attributePart, attributeIn, minutesOf, flagsOf, callIn, formed, toldBy, toldIn, isOpening};
 ghost use Rattle.timetable.specs.Layout.{mostFileBytes};
 ghost use Rattle.timetable.specs.declared.Told.the-variants.{Opens, Ranges, Calls};
-ghost use Rattle.told.specs.Marked.{openingFits, repeatsFit, blankToEnd, endsFit, detailsFit, detailFits, fieldFits};
+ghost use Rattle.told.specs.Marked.{markColumn, openingFits, repeatsFit, blankToEnd, endsFit, detailsFit, detailFits, fieldFits};
 ghost use Rattle.told.specs.Calls.{headFits, tailFits, endFits, callWith};
 
 // "VE" as two bytes: operating days.
@@ -318,7 +318,7 @@ fn attribute_part(code: u32) -> Part
 
 // The name in columns 4 to c and the two ends after it, and then the rest.
 fn ends_fit(text: &[u8], c: usize, ends: Ends, rest: bool) -> bool
-    requires { ⌜ c ≤ 100 ⌝ }
+    requires { ⌜ c ≤ markColumn ⌝ }
     ensures { λ r. ⌜ r ≡ endsFit c (now (text .entry)) ends rest ⌝ }
 {
     let from = ends.from;
@@ -341,7 +341,7 @@ fn ends_fit(text: &[u8], c: usize, ends: Ends, rest: bool) -> bool
 
 // Column c and the two details after it, and the line's end.
 fn details_fit(text: &[u8], c: usize, ends: Ends) -> bool
-    requires { ⌜ c ≤ 100 ⌝ }
+    requires { ⌜ c ≤ markColumn ⌝ }
     ensures { λ r. ⌜ r ≡ detailsFit c (now (text .entry)) ends ⌝ }
 {
     let from = ends.from;
@@ -474,7 +474,7 @@ fn blank_or(text: &[u8], a: usize, b: usize, class: Class) -> bool
 // The time in the six columns a to b.
 fn time_at(text: &[u8], a: usize, b: usize) -> Time
     requires { ⌜ 1 ≤ a ⌝ }
-    requires { ⌜ a ≤ 100 ⌝ }
+    requires { ⌜ a ≤ markColumn ⌝ }
     requires { ⌜ b ≡ a + 5 ⌝ }
     ensures { λ r. ⌜ r ≡ time (columns a b (now (text .entry))) ⌝ }
 {
