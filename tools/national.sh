@@ -94,7 +94,7 @@ done
 
 deliver 0.1:20:10
 counted "$plain" archive estelunya_load
-for function in told::told_in forms::kind_of; do
+for function in told::told_of forms::kind_of; do
     awk -v name="$function" -v times="$(entered "$function")" -v lines="$of_file" 'BEGIN {
         printf "  calls a line of %-18s %8.2f\n", name, times / lines }'
 done

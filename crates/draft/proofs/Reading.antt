@@ -6,7 +6,6 @@ use native.Mathlib.Nat.{add-zero, add-assoc}
 use lib.ListN.{getD, drop}
 use lib.Seq.{getD-drop}
 use Rattle.base.proofs.Laws.{tests}
-use Rattle.timetable.specs.declared.Call.{Call}
 use Rattle.timetable.specs.declared.End.{End}
 use Rattle.timetable.specs.declared.Part.{Part}
 use Rattle.timetable.specs.declared.Part.the-variants.{Category, Days, Extra}
@@ -14,28 +13,6 @@ use Rattle.fields.specs.declared.RangeEnd.the-variants.{Outer, Index, Stop, NoE
 use Rattle.fields.specs.declared.Detail.the-variants.{Plain, Nth, Timed, NoDetail}
 use Rattle.timetable.specs.declared.RangeLine.{RangeLine}
 use Rattle.draft.specs.Draft.{callBack, placeBack, detailBack, partBack, endBack, lineBack, rangeBack}
-
-pub call-read : (w : List ℕ) (at : ℕ)
-    → record {
-      stop = getD w at 0;
-      arrival = getD w (at + 1) 0;
-      departure = getD w (at + 2) 0;
-      flags = getD w (at + 3) 0;
-      number = getD w (at + 4) 0;
-      high = getD w (at + 5) 0;
-      low = getD w (at + 6) 0;
-    } ≡ callBack (drop at w) .1
-call-read w at =
-    rw (
-      getD-drop at w 0 0,
-      add-zero at,
-      getD-drop at w 1 0,
-      getD-drop at w 2 0,
-      getD-drop at w 3 0,
-      getD-drop at w 4 0,
-      getD-drop at w 5 0,
-      getD-drop at w 6 0,
-    ) refl
 
 pub call-line : (w : List ℕ) (at : ℕ) → getD w (at + 7) 0 ≡ callBack (drop at w) .0
 call-line w at = sym (getD-drop at w 7 0)
@@ -98,4 +75,4 @@ part-0 k e = rw e refl
 pub part-1 : (k : ℕ) → k ≡ 1 → Days ≡ partBack k
 part-1 k e = rw e refl
 
-pub ruleset readers = (tests, call-read, call-line, range-line, end-read, range-read, place-0, place-1, place-2, detail-0, detail-1, detail-2, part-0, part-1)
+pub ruleset readers = (tests, call-line, range-line, end-read, range-read, place-0, place-1, place-2, detail-0, detail-1, detail-2, part-0, part-1)

@@ -16,7 +16,7 @@ use Rattle.timetable.specs.Layout.{mostCalls, mostCategories, mostDays, mostExt
 use Rattle.timetable.specs.Delivery.{Service}
 use Rattle.timetable.specs.Plan.{asCall, asRange, partNumber, ofPart, partLines, saidOn}
 use Rattle.timetable.specs.Service.{opened, announced, holding, calledOn, callsOf, categoryRange, dayRange, extraRange}
-use Rattle.timetable.specs.Table.{word, rowsIn}
+use Rattle.timetable.specs.Table.{word, rowsIn, callAt}
 use Rattle.timetable.specs.declared.Announced.{Announced}
 use Rattle.timetable.specs.declared.Call.{Call}
 use Rattle.timetable.specs.declared.CallLine.{CallLine}
@@ -28,12 +28,15 @@ use Rattle.timetable.specs.declared.RangeLine.{RangeLine}
 use Rattle.timetable.specs.declared.Told.{Told}
 use Rattle.draft.specs.declared.Counts.{Counts}
 
--- the words of a call, and of a range, in the draft
+-- the words of a call, of a range, and of one of its ends, in the draft
 abbrev pub draftCall : ℕ
 draftCall = 8
 
 abbrev pub draftRange : ℕ
 draftRange = 12
+
+abbrev pub draftEnd : ℕ
+draftEnd = 4
 
 -- the words lent for them
 abbrev pub mostRanges : ℕ
@@ -83,7 +86,7 @@ rangeDraft x = x .0 ∷ partNumber (x .1 .part) ∷ x .1 .name ∷ x .1 .field �
 -- ---- read back
 
 abbrev pub callBack : List ℕ → ℕ × Call
-callBack w = (word w 7, record { stop = word w 0; arrival = word w 1; departure = word w 2; flags = word w 3; number = word w 4; high = word w 5; low = word w 6 })
+callBack w = (word w 7, callAt w)
 
 abbrev pub placeBack : ℕ → ℕ → RangeEnd
 placeBack tag x = cond (eqb tag 0) Outer (cond (eqb tag 1) (Index (record { 0 = x })) (cond (eqb tag 2) (Stop (record { 0 = x })) NoEnd))

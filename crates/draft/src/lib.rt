@@ -23,7 +23,7 @@ ghost use lib.ListN.{length, drop};
 ghost use Rattle.timetable.specs.Plan.{asCall, asRange, partNumber};
 ghost use Rattle.timetable.specs.Service.{opened, callBy};
 ghost use Rattle.words.specs.Words.{write};
-ghost use Rattle.draft.specs.Draft.{draftCall, draftRange, mostRanges, callsLent, rangesLent, callDraft, placeTag, placeValue, detailTag, detailValue, endDraft, rangeDraft};
+ghost use Rattle.draft.specs.Draft.{draftCall, draftRange, draftEnd, mostRanges, callsLent, rangesLent, callDraft, placeTag, placeValue, detailTag, detailValue, endDraft, rangeDraft};
 ghost use Rattle.draft.specs.Draft.{callBack, placeBack, detailBack, partBack, endBack, lineBack, rangeBack, callsOn, rangesOn, onLine, lastOf, callsAfter, noCounts, countCalls, countPart, countRanges, counted, ranges#, Within};
 
 // The words of a call in the draft: those of the table (stop, arrival, departure, flags, and the number and administration that hold there), and its
@@ -245,7 +245,7 @@ fn put_range(ranges: &mut [u32], at: usize, line: u32, range: RangeLine)
 }
 
 fn put_end(ranges: &mut [u32], at: usize, end: End)
-    requires { ⌜ at + 4 ≤ length (now ranges) ⌝ }
+    requires { ⌜ at + draftEnd ≤ length (now ranges) ⌝ }
     ensures { λ _. ⌜ now (ranges .exit) ≡ write (now (ranges .entry)) at (endDraft end) ⌝ }
 {
     let place = end.place;
@@ -302,20 +302,12 @@ pub fn part_number(part: Part) -> u32
 
 // ---- read back
 
-// The call whose words start at a place.
+// The call whose words start at a place: they begin as a call's of the table do.
 pub fn call_at(calls: &[u32], at: usize) -> Call
     requires { ⌜ at + draftCall ≤ length (now calls) ⌝ }
     ensures { λ r. ⌜ r ≡ callBack (drop at (now (calls .entry))) .1 ⌝ }
 {
-    Call {
-        stop: calls[at],
-        arrival: calls[at + 1],
-        departure: calls[at + 2],
-        flags: calls[at + 3],
-        number: calls[at + 4],
-        high: calls[at + 5],
-        low: calls[at + 6],
-    }
+    timetable::call_at(calls, at)
 }
 
 // The number of its line.
@@ -355,7 +347,7 @@ pub fn range_line(ranges: &[u32], at: usize) -> u32
 
 // The end whose words start at a place.
 fn end_at(ranges: &[u32], at: usize) -> End
-    requires { ⌜ at + 4 ≤ length (now ranges) ⌝ }
+    requires { ⌜ at + draftEnd ≤ length (now ranges) ⌝ }
     ensures { λ r. ⌜ r ≡ endBack 0 (drop at (now (ranges .entry))) ⌝ }
 {
     let place = place_of(ranges[at], ranges[at + 1]);

@@ -1,5 +1,5 @@
--- Lines before a service, and the lines of one: what `head_end` and `next_line` pass. In each law r is the line cut at a place, and t says whether
--- it opens a service. Assumes nothing.
+-- Lines before a service, and the lines of one: what `head_end` and `next_line` pass. In each law r is the line cut at a place, kind its kind, and t says
+-- whether it opens a service. Assumes nothing.
 use mathlib.Core.Path.{_≡_, refl, ap, sym, _∙_}
 use mathlib.Core.List.{List, [], _∷_, _++_}
 use mathlib.Core.Bool.{Bool, true, false, cond, not}
@@ -12,6 +12,7 @@ use Rattle.lines.specs.Lines.{Line, linesOf, skipped, cutAt, linesAt}
 use Rattle.lines.specs.declared.Cut.{Cut}
 use Rattle.lines.proofs.Laws.{walk, Cutting, cutting, lines-none}
 use Rattle.forms.specs.Kinds.{kindOf}
+use Rattle.forms.specs.declared.Kind.{Kind}
 use Rattle.timetable.specs.Layout.{mostFileBytes}
 use Rattle.timetable.specs.Offences.{offenceAt, given, _<|>_, first}
 use Rattle.timetable.specs.Plan.{toldIn, isOpening, opens}
@@ -61,19 +62,21 @@ cutLine f at n r = record { no = n; start = at; text = take (r .stop - at) (drop
 abbrev pub after : List ℕ → Cut → List Line
 after f r = linesAt f (r .next) (r .no)
 
+opens-by : (l : Line) (kind : Kind) (t : Bool) → kind ≡ kindOf (l .text) → t ≡ isOpening kind → opens l ≡ t
+unfolding opens
+opens-by l kind t w o = sym (o ∙ ap isOpening w)
+
 -- ---- the next line of a service, for `search next`
 
-module _ (f : List ℕ) (at n : ℕ) (r : Cut) (t : Bool) (h : at < length f) (d : r ≡ cutAt f at n) (o : t ≡ isOpening (kindOf (take (r .stop - at) (drop at f)))) where
+module _ (f : List ℕ) (at n : ℕ) (r : Cut) (kind : Kind) (t : Bool) (h : at < length f) (d : r ≡ cutAt f at n) (w : kind ≡ kindOf (take (r .stop - at) (drop at f))) (o : t ≡ isOpening kind) where
   pub next-opens : t ≡ true → headLines (linesAt f at n) ≡ []
-  unfolding opens
-  next-opens k = rw (cutting f at n r h d .step) (head-open (cutLine f at n r) (after f r) (sym o ∙ k))
+  next-opens k = rw (cutting f at n r h d .step) (head-open (cutLine f at n r) (after f r) (opens-by (cutLine f at n r) kind t w o ∙ k))
 
   pub next-told : (said : Told) → t ≡ false → n ≤ at + 1 → said ≡ toldIn (take (r .stop - at) (drop at f)) → NextLine f at n said (r .next) (r .no)
-  unfolding opens
   next-told said k v e =
       let c : Cutting f at n r = cutting f at n r h d in
       let l : Line = cutLine f at n r in
-      let q : opens l ≡ false = sym o ∙ k in
+      let q : opens l ≡ false = opens-by l kind t w o ∙ k in
       record {
         line = l;
         own-number = refl;
@@ -125,19 +128,18 @@ module _ (f : List ℕ) (at n : ℕ) (p : Headed f at n) where
   pub head-none : length f ≤ mostFileBytes → length f ≤ at → HeadClear f at n
   head-none s h = cleared s (nothing-opens f at n h)
 
-  module _ (r : Cut) (t : Bool) (h : at < length f) (d : r ≡ cutAt f at n) (o : t ≡ isOpening (kindOf (take (r .stop - at) (drop at f)))) where
+  module _ (r : Cut) (kind : Kind) (t : Bool) (h : at < length f) (d : r ≡ cutAt f at n) (w : kind ≡ kindOf (take (r .stop - at) (drop at f))) (o : t ≡ isOpening kind) where
     pub head-clear : length f ≤ mostFileBytes → t ≡ true → HeadClear f at n
-    head-clear s k = cleared s (next-opens f at n r t h d o k)
+    head-clear s k = cleared s (next-opens f at n r kind t h d w o k)
 
     -- s says whether the line is skipped
     module _ (s : Bool) (k : t ≡ false) (i : s ≡ skipped (take (r .stop - at) (drop at f))) where
       pub head-more : s ≡ true → Headed f (r .next) (r .no)
-      unfolding opens
       head-more j =
           let c : Cutting f at n r = cutting f at n r h d in
           let l : Line = cutLine f at n r in
           let ls : List Line = after f r in
-          let q : opens l ≡ false = sym o ∙ k in
+          let q : opens l ≡ false = opens-by l kind t w o ∙ k in
           record {
             clean = p .clean ∙ rw (c .step) (offence-skip l ls q (sym i ∙ j));
             services = p .services ∙ rw (c .step) (blocks-shut l ls q);
@@ -146,8 +148,7 @@ module _ (f : List ℕ) (at n : ℕ) (p : Headed f at n) where
           }
 
       pub head-stray : (e : Offence) → s ≡ false → e ≡ offenceAt 12 n → headFirst (linesOf f) ≡ some e
-      unfolding opens
-      head-stray e j z = p .clean ∙ rw (cutting f at n r h d .step, z) (offence-stray (cutLine f at n r) (after f r) (sym o ∙ k) (sym i ∙ j))
+      head-stray e j z = p .clean ∙ rw (cutting f at n r h d .step, z) (offence-stray (cutLine f at n r) (after f r) (opens-by (cutLine f at n r) kind t w o ∙ k) (sym i ∙ j))
 
 pub ruleset heading = (tests, walk, head-start, head-none, head-clear, head-more, head-stray)
 

@@ -203,7 +203,7 @@ fn call_of(s: &[u32], k: u32) -> Call
     requires { ⌜ k < calls# (now s) ⌝ }
     ensures { λ r. ⌜ r ≡ callAt (drop (serviceHead + callSize * k) (now (s .entry))) ⌝ }
 {
-    table::call_at(s, SERVICE_WORDS + CALL_WORDS * table::size(k))
+    timetable::call_at(s, SERVICE_WORDS + CALL_WORDS * table::size(k))
 }
 
 // Whether exactly one *G covers a leg.

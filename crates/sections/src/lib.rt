@@ -11,10 +11,9 @@ use timetable::Verdict;
 ghost use mathlib.Core.Path.{_≡_};
 ghost use mathlib.Core.List.{[]};
 ghost use mathlib.Core.Bool.{true, cond, not, _||_};
-ghost use Prim.Native.Nat.{_+_, _%_, _≤_, _<_};
+ghost use Prim.Native.Nat.{_+_, _%_, _≤_};
 ghost use lib.ListN.{length, getD, take, drop, replicate};
 ghost use lib.Dec.{eqb};
-ghost use Rattle.columns.specs.Columns.{column};
 ghost use Rattle.lines.specs.Lines.{linesAt, linesOf};
 ghost use Rattle.bitfield.specs.BitField.{bitsIn};
 ghost use Rattle.timetable.specs.Layout.{mostFileBytes, mostPeriodDays, helperHead};
@@ -221,18 +220,11 @@ fn key_on(section: Section, text: &[u8]) -> u32
     }
 }
 
-// Columns 1 to 3 as one number, the first byte highest.
+// A category's code: columns 1 to 3 as one number.
 fn code_on(text: &[u8]) -> u32
     ensures { λ r. ⌜ r ≡ threeBytes 1 (now (text .entry)) ⌝ }
 {
-    (byte_on(text, 1) * 256 + byte_on(text, 2)) * 256 + byte_on(text, 3)
-}
-
-fn byte_on(text: &[u8], c: usize) -> u32
-    ensures { λ r. ⌜ r ≡ column c (now (text .entry)) ⌝ }
-    ensures { λ r. ⌜ r < 256 ⌝ }
-{
-    columns::column_at(text, c) as u32
+    timetable::three_bytes(text, 1)
 }
 
 // ---- checks

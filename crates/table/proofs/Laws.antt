@@ -19,20 +19,6 @@ use Rattle.timetable.proofs.Rows.{stride-turn, rows-again, rows-out, rows-done}
 
 -- ---- the rows of a record, for `search rows`
 
-pub call-is : (w : List ℕ) (p : ℕ)
-    → record { stop = getD w p 0; arrival = getD w (p + 1) 0; departure = getD w (p + 2) 0; flags = getD w (p + 3) 0; number = getD w (p + 4) 0; high = getD w (p + 5) 0; low = getD w (p + 6) 0 } ≡ callAt (drop p w)
-call-is w p =
-    rw (
-      getD-drop p w 0 0,
-      add-zero p,
-      getD-drop p w 1 0,
-      getD-drop p w 2 0,
-      getD-drop p w 3 0,
-      getD-drop p w 4 0,
-      getD-drop p w 5 0,
-      getD-drop p w 6 0,
-    )
-
 -- a call y was read at p, and x says whether it is sound
 module _ (stops : ℕ) (w : List ℕ) (p k : ℕ) (r x : Bool) (y : Call) (h : 0 < k) (d : y ≡ callAt (drop p w)) (e : x ≡ callSound stops y) (v : every (callSound stops) (rowsIn callAt callSize k (drop p w)) ≡ r) where
   pub calls-again : not x ≡ false → every (callSound stops) (rowsIn callAt callSize (k - 1) (drop (p + callSize) w)) ≡ r
@@ -94,4 +80,4 @@ module _ (w : List ℕ) (p k own : ℕ) (h : 0 < k) (v : p + (own + 2) * k ≤ l
   pub ranges-next : length w < 2 ^ 64 → p + (own + 2) < 2 ^ 64
   ranges-next l = omega (arith, ranges-rest)
 
-pub ruleset rows = (tests, call-is, calls-again, calls-out, calls-done, loose-order, strict-order, legs-bad, legs-end, ranges-again, ranges-out, ranges-done, ranges-rest, ranges-legs, ranges-place, ranges-size, ranges-next)
+pub ruleset rows = (tests, calls-again, calls-out, calls-done, loose-order, strict-order, legs-bad, legs-end, ranges-again, ranges-out, ranges-done, ranges-rest, ranges-legs, ranges-place, ranges-size, ranges-next)

@@ -351,22 +351,6 @@ pub fn opening_at(w: &[u32]) -> Opening
     }
 }
 
-// The call at a place.
-pub fn call_at(w: &[u32], p: usize) -> Call
-    requires { ⌜ p + callSize ≤ length (now w) ⌝ }
-    ensures { λ r. ⌜ r ≡ callAt (drop p (now (w .entry))) ⌝ }
-{
-    Call {
-        stop: w[p],
-        arrival: w[p + 1],
-        departure: w[p + 2],
-        flags: w[p + 3],
-        number: w[p + 4],
-        high: w[p + 5],
-        low: w[p + 6],
-    }
-}
-
 // ---- calls and ranges
 
 // Whether the n calls from a place on have their places, times and flags within bounds.
@@ -377,7 +361,7 @@ fn calls_sound(w: &[u32], at: usize, n: u32, stops: u32) -> bool
     let mut p = at;
     let mut k = n;
     while 0 < k {
-        if !call_sound(call_at(w, p), stops) {
+        if !call_sound(timetable::call_at(w, p), stops) {
             return false;
         }
         p += CALL_WORDS;

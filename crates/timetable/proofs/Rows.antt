@@ -4,14 +4,15 @@ use mathlib.Core.Path.{_≡_, refl, sym, ap, _∙_}
 use mathlib.Core.List.{List, [], _∷_, _++_, append-assoc}
 use mathlib.Core.Bool.{Bool, true, false, not, _&&_}
 use Prim.Native.Nat.{ℕ, zero, suc, _+_, _-_, _*_, _^_, _≤_, _<_}
-use native.Mathlib.Nat.{zero-add, suc-add, suc-mul, zero-mul, add-comm, sub-zero, zero-sub, suc-sub-suc, mul-zero, mul-suc}
+use native.Mathlib.Nat.{add-zero, zero-add, suc-add, suc-mul, zero-mul, add-comm, sub-zero, zero-sub, suc-sub-suc, mul-zero, mul-suc}
 use native.Mathlib.Omega.{arith}
-use lib.ListN.{length, take, drop, length-append}
-use lib.Seq.{drop-drop, drop-at, take-nil}
+use lib.ListN.{length, getD, take, drop, length-append}
+use lib.Seq.{drop-drop, drop-at, take-nil, getD-drop}
 use borrow.Author.Tests.{not-true, not-false}
 use Rattle.base.specs.Lists.{All, nil, cons, every, gathered}
 use Rattle.base.proofs.Loops.{and-true}
-use Rattle.timetable.specs.Table.{rowsIn}
+use Rattle.base.proofs.Laws.{tests}
+use Rattle.timetable.specs.Table.{rowsIn, callAt}
 
 -- ---- room for rows, where their size is no literal
 
@@ -166,3 +167,21 @@ module _ {X : Type 0} (g : X → List ℕ) (size : ℕ) (ok : X → Type 0) (lon
   rows-back f back r nil = refl
   rows-back f back r (cons {x} {xs} h t) =
       rw (append-assoc (g x) (gathered g xs) r, back x (gathered g xs ++ r) h, drop-at (g x) (gathered g xs ++ r) size (long x h), rows-back f back r t) refl
+
+-- ---- a call read word by word, for `search calls`
+
+pub call-is : (w : List ℕ) (p : ℕ)
+    → record { stop = getD w p 0; arrival = getD w (p + 1) 0; departure = getD w (p + 2) 0; flags = getD w (p + 3) 0; number = getD w (p + 4) 0; high = getD w (p + 5) 0; low = getD w (p + 6) 0 } ≡ callAt (drop p w)
+call-is w p =
+    rw (
+      getD-drop p w 0 0,
+      add-zero p,
+      getD-drop p w 1 0,
+      getD-drop p w 2 0,
+      getD-drop p w 3 0,
+      getD-drop p w 4 0,
+      getD-drop p w 5 0,
+      getD-drop p w 6 0,
+    )
+
+pub ruleset calls = (tests, call-is)

@@ -8,10 +8,14 @@ pub use forms::MOST_FILE_BYTES;
 ghost use mathlib.Core.Path.{_≡_};
 ghost use mathlib.Core.List.{[], _∷_};
 ghost use mathlib.Core.Option.{some};
+ghost use Prim.Native.Nat.{_+_, _^_, _≤_, _<_};
+ghost use lib.ListN.{length, drop};
 ghost use Rattle.timetable.specs.Offences.{offenceAt, verdictBy};
 ghost use Rattle.timetable.specs.Layout.{headerSize, bitWords, bitFieldSize, stopSize, interchangeSize, classSize, serviceHead, callSize, categorySize, daySize, extraSize, rowSize, helperHead, helperLine};
 ghost use Rattle.timetable.specs.Layout.{mostFileBytes, mostPeriodDays, mostClass, mostCalls, mostCategories, mostDays, mostExtras, mostRepeats, mostRunning, latestTime, allFlags, kindZ, kindT};
 ghost use Rattle.timetable.specs.Ranges.{inOrder};
+ghost use Rattle.timetable.specs.Plan.{twoBytes, threeBytes};
+ghost use Rattle.timetable.specs.Table.{callAt};
 
 // ---- what a line of FPLAN says
 
@@ -77,6 +81,29 @@ pub enum Told {
     Calls(CallLine),
 }
 
+// Columns c and c + 1 as one number, the first byte highest: a code.
+pub fn two_bytes(text: &[u8], c: usize) -> u32
+    requires { ⌜ c + 2 < 2 ^ 64 ⌝ }
+    ensures { λ r. ⌜ r ≡ twoBytes c (now (text .entry)) ⌝ }
+    ensures { λ r. ⌜ r < 65536 ⌝ }
+{
+    wide(columns::column_at(text, c)) * 256 + wide(columns::column_at(text, c + 1))
+}
+
+// The same of three columns: a category, or half an administration.
+pub fn three_bytes(text: &[u8], c: usize) -> u32
+    requires { ⌜ c + 2 < 2 ^ 64 ⌝ }
+    ensures { λ r. ⌜ r ≡ threeBytes c (now (text .entry)) ⌝ }
+{
+    two_bytes(text, c) * 256 + wide(columns::column_at(text, c + 2))
+}
+
+fn wide(b: u8) -> u32
+    ensures { λ r. ⌜ r ≡ b ⌝ }
+{
+    b as u32
+}
+
 // ---- calls
 
 // What conductors announce: the number and the administration that hold at a call.
@@ -96,6 +123,22 @@ pub struct Call {
     pub number: u32,
     pub high: u32,
     pub low: u32,
+}
+
+// The call whose words start at a place.
+pub fn call_at(w: &[u32], at: usize) -> Call
+    requires { ⌜ at + callSize ≤ length (now w) ⌝ }
+    ensures { λ r. ⌜ r ≡ callAt (drop at (now (w .entry))) ⌝ }
+{
+    Call {
+        stop: w[at],
+        arrival: w[at + 1],
+        departure: w[at + 2],
+        flags: w[at + 3],
+        number: w[at + 4],
+        high: w[at + 5],
+        low: w[at + 6],
+    }
 }
 
 // ---- offences

@@ -15,7 +15,7 @@ use timetable::RangeLine;
 use timetable::Told;
 ghost use mathlib.Core.Path.{_≡_};
 ghost use mathlib.Core.Bool.{not, _||_};
-ghost use Prim.Native.Nat.{_+_, _-_, _≤_, _<_};
+ghost use Prim.Native.Nat.{_+_, _-_, _≤_};
 ghost use lib.ListN.{length};
 ghost use lib.Dec.{eqb};
 ghost use Rattle.base.specs.Lists.{every};
@@ -24,10 +24,10 @@ ghost use Rattle.fields.specs.Fields.{time, clock};
 ghost use Rattle.forms.specs.Form.{formOf, isTime};
 ghost use Rattle.forms.specs.Columns.{serviceColumns, frequencyColumns, categoryColumns, attributeColumns, callColumns};
 ghost use Rattle.forms.specs.Kinds.{kindOf};
-ghost use Rattle.timetable.specs.Plan.{twoBytes, threeBytes, openingIn, frequencyIn, categoryIn, attributePart, attributeIn, minutesOf, flagsOf, callIn, formed, toldBy, toldIn, isOpening};
+ghost use Rattle.timetable.specs.Plan.{openingIn, frequencyIn, categoryIn, attributePart, attributeIn, minutesOf, flagsOf, callIn, formed, toldBy, toldIn, isOpening};
 ghost use Rattle.timetable.specs.Layout.{mostFileBytes};
 ghost use Rattle.timetable.specs.declared.Told.the-variants.{Opens, Ranges, Calls};
-ghost use Rattle.told.specs.Marked.{openingFits, repeatsFit, blankToEnd, endsFit, detailsFit, detailFits, fieldFits};
+ghost use Rattle.told.specs.Marked.{markColumn, openingFits, repeatsFit, blankToEnd, endsFit, detailsFit, detailFits, fieldFits};
 ghost use Rattle.told.specs.Calls.{headFits, tailFits, endFits, callWith};
 
 // "VE" as two bytes: operating days.
@@ -37,17 +37,32 @@ const VE: u32 = b'V' as u32 * 256 + b'E' as u32;
 pub fn told_in(text: &[u8]) -> Told
     ensures { λ r. ⌜ r ≡ toldIn (now (text .entry)) ⌝ }
 {
+    told_of(forms::kind_of(text), text)
+}
+
+// What a line says, where its kind was found.
+pub fn told_of(kind: Kind, text: &[u8]) -> Told
+    requires { ⌜ kind ≡ kindOf (now text) ⌝ }
+    ensures { λ r. ⌜ r ≡ toldIn (now (text .entry)) ⌝ }
+{
     if lines::skips(text) {
         return Told::Skip;
     }
-    told_by(forms::kind_of(text), text)
+    told_by(kind, text)
 }
 
-// Whether a line opens a service, whatever its form.
-pub fn opens_service(text: &[u8]) -> bool
-    ensures { λ r. ⌜ r ≡ isOpening (kindOf (now (text .entry))) ⌝ }
+// Whether a line of a kind opens a service, whatever its form.
+pub fn is_opening(kind: Kind) -> bool
+    ensures { λ r. ⌜ r ≡ isOpening kind ⌝ }
 {
-    is_opening(forms::kind_of(text))
+    match kind {
+        Kind::Opening => true,
+        Kind::Frequency => true,
+        Kind::Category => false,
+        Kind::Attribute => false,
+        Kind::Schedule => false,
+        Kind::Other => false,
+    }
 }
 
 // What a line of a kind says.
@@ -61,19 +76,6 @@ fn told_by(kind: Kind, text: &[u8]) -> Told
         Kind::Attribute => attribute_told(text),
         Kind::Schedule => call_told(text),
         Kind::Other => Told::Other,
-    }
-}
-
-fn is_opening(kind: Kind) -> bool
-    ensures { λ r. ⌜ r ≡ isOpening kind ⌝ }
-{
-    match kind {
-        Kind::Opening => true,
-        Kind::Frequency => true,
-        Kind::Category => false,
-        Kind::Attribute => false,
-        Kind::Schedule => false,
-        Kind::Other => false,
     }
 }
 
@@ -151,8 +153,8 @@ fn opening_in(text: &[u8]) -> Opening
 {
     Opening {
         number: columns::number_in(text, 4, 8),
-        high: three_bytes(text, 10),
-        low: three_bytes(text, 13),
+        high: timetable::three_bytes(text, 10),
+        low: timetable::three_bytes(text, 13),
         repeats: columns::number_in(text, 23, 25),
         offset: columns::number_in(text, 27, 29),
         kind: KIND_Z,
@@ -175,8 +177,8 @@ fn frequency_in(text: &[u8]) -> Opening
 {
     Opening {
         number: columns::number_in(text, 4, 8),
-        high: three_bytes(text, 10),
-        low: three_bytes(text, 13),
+        high: timetable::three_bytes(text, 10),
+        low: timetable::three_bytes(text, 13),
         repeats: columns::number_in(text, 17, 20),
         offset: columns::number_in(text, 22, 25),
         kind: KIND_T,
@@ -232,7 +234,7 @@ fn category_in(text: &[u8]) -> RangeLine
     };
     RangeLine {
         part: Part::Category,
-        name: three_bytes(text, 4),
+        name: timetable::three_bytes(text, 4),
         field: 0,
         ends: Ends { from, to },
     }
@@ -289,7 +291,7 @@ fn field_fits(text: &[u8], rest: bool) -> bool
 fn attribute_in(text: &[u8]) -> RangeLine
     ensures { λ r. ⌜ r ≡ attributeIn (now (text .entry)) ⌝ }
 {
-    let code = two_bytes(text, 4);
+    let code = timetable::two_bytes(text, 4);
     let from = End {
         place: fields::range_end_in(text, 7, 13),
         detail: fields::detail_in(text, 30, 35),
@@ -316,7 +318,7 @@ fn attribute_part(code: u32) -> Part
 
 // The name in columns 4 to c and the two ends after it, and then the rest.
 fn ends_fit(text: &[u8], c: usize, ends: Ends, rest: bool) -> bool
-    requires { ⌜ c ≤ 100 ⌝ }
+    requires { ⌜ c ≤ markColumn ⌝ }
     ensures { λ r. ⌜ r ≡ endsFit c (now (text .entry)) ends rest ⌝ }
 {
     let from = ends.from;
@@ -339,7 +341,7 @@ fn ends_fit(text: &[u8], c: usize, ends: Ends, rest: bool) -> bool
 
 // Column c and the two details after it, and the line's end.
 fn details_fit(text: &[u8], c: usize, ends: Ends) -> bool
-    requires { ⌜ c ≤ 100 ⌝ }
+    requires { ⌜ c ≤ markColumn ⌝ }
     ensures { λ r. ⌜ r ≡ detailsFit c (now (text .entry)) ends ⌝ }
 {
     let from = ends.from;
@@ -472,7 +474,7 @@ fn blank_or(text: &[u8], a: usize, b: usize, class: Class) -> bool
 // The time in the six columns a to b.
 fn time_at(text: &[u8], a: usize, b: usize) -> Time
     requires { ⌜ 1 ≤ a ⌝ }
-    requires { ⌜ a ≤ 100 ⌝ }
+    requires { ⌜ a ≤ markColumn ⌝ }
     requires { ⌜ b ≡ a + 5 ⌝ }
     ensures { λ r. ⌜ r ≡ time (columns a b (now (text .entry))) ⌝ }
 {
@@ -542,8 +544,8 @@ fn call_of(text: &[u8], arrival: Time, departure: Time) -> CallLine
         numbered: filled_in(text, 44, 48),
         number: columns::number_in(text, 44, 48),
         administered: filled_in(text, 50, 55),
-        high: three_bytes(text, 50),
-        low: three_bytes(text, 53),
+        high: timetable::three_bytes(text, 50),
+        low: timetable::three_bytes(text, 53),
     }
 }
 
@@ -575,29 +577,4 @@ fn flags_of(f: u32, t: Time) -> u32
         Time::Stated { minutes, barred } => if barred { f + 4 * f } else { f },
         Time::NoTime => 0,
     }
-}
-
-// ---- bytes
-
-// Columns c and c + 1 as one number, the first byte highest.
-fn two_bytes(text: &[u8], c: usize) -> u32
-    requires { ⌜ c ≤ 100 ⌝ }
-    ensures { λ r. ⌜ r ≡ twoBytes c (now (text .entry)) ⌝ }
-    ensures { λ r. ⌜ r < 65536 ⌝ }
-{
-    wide(columns::column_at(text, c)) * 256 + wide(columns::column_at(text, c + 1))
-}
-
-// The same of three columns.
-fn three_bytes(text: &[u8], c: usize) -> u32
-    requires { ⌜ c ≤ 100 ⌝ }
-    ensures { λ r. ⌜ r ≡ threeBytes c (now (text .entry)) ⌝ }
-{
-    two_bytes(text, c) * 256 + wide(columns::column_at(text, c + 2))
-}
-
-fn wide(b: u8) -> u32
-    ensures { λ r. ⌜ r ≡ b ⌝ }
-{
-    b as u32
 }

@@ -16,17 +16,20 @@ loop-holds c = search heading
 line-from-requires : tie.Need-line-from-requires Inv-loop μ-loop
 line-from-requires c κs = search heading
 
-sub-opens-service : tie.Need-sub-opens-service Inv-loop μ-loop
-sub-opens-service c = search heading
+sub-kind-of : tie.Need-sub-kind-of Inv-loop μ-loop
+sub-kind-of c = search heading
 
-part-opens-service-start : tie.Need-part-opens-service-start Inv-loop μ-loop
-part-opens-service-start c = search heading
+part-kind-of-start : tie.Need-part-kind-of-start Inv-loop μ-loop
+part-kind-of-start c = search heading
 
-part-opens-service-end : tie.Need-part-opens-service-end Inv-loop μ-loop
-part-opens-service-end c = search heading
+part-kind-of-end : tie.Need-part-kind-of-end Inv-loop μ-loop
+part-kind-of-end c = search heading
 
-opens-service-requires : tie.Need-opens-service-requires Inv-loop μ-loop
-opens-service-requires c κs = search heading
+kind-of-requires : tie.Need-kind-of-requires Inv-loop μ-loop
+kind-of-requires c κs = search heading
+
+is-opening-requires : tie.Need-is-opening-requires Inv-loop μ-loop
+is-opening-requires c κs = search heading
 
 returns : tie.Need-returns Inv-loop μ-loop
 returns c = search heading
@@ -66,10 +69,11 @@ head-end-spec =
     μ-loop
     loop-holds
     line-from-requires
-    sub-opens-service
-    part-opens-service-start
-    part-opens-service-end
-    opens-service-requires
+    sub-kind-of
+    part-kind-of-start
+    part-kind-of-end
+    kind-of-requires
+    is-opening-requires
     returns
     sub-skips
     part-skips-start

@@ -8,32 +8,35 @@ returns c = search next
 line-from-requires : tie.Need-line-from-requires
 line-from-requires c κs = search next
 
-sub-opens-service : tie.Need-sub-opens-service
-sub-opens-service c = search next
+sub-kind-of : tie.Need-sub-kind-of
+sub-kind-of c = search next
 
-part-opens-service-start : tie.Need-part-opens-service-start
-part-opens-service-start c = search next
+part-kind-of-start : tie.Need-part-kind-of-start
+part-kind-of-start c = search next
 
-part-opens-service-end : tie.Need-part-opens-service-end
-part-opens-service-end c = search next
+part-kind-of-end : tie.Need-part-kind-of-end
+part-kind-of-end c = search next
 
-opens-service-requires : tie.Need-opens-service-requires
-opens-service-requires c κs = search next
+kind-of-requires : tie.Need-kind-of-requires
+kind-of-requires c κs = search next
+
+is-opening-requires : tie.Need-is-opening-requires
+is-opening-requires c κs = search next
 
 returns-2 : tie.Need-returns-2
 returns-2 c = search next
 
-sub-told-in : tie.Need-sub-told-in
-sub-told-in c = search next
+sub-told-of : tie.Need-sub-told-of
+sub-told-of c = search next
 
-part-told-in-start : tie.Need-part-told-in-start
-part-told-in-start c = search next
+part-told-of-start : tie.Need-part-told-of-start
+part-told-of-start c = search next
 
-part-told-in-end : tie.Need-part-told-in-end
-part-told-in-end c = search next
+part-told-of-end : tie.Need-part-told-of-end
+part-told-of-end c = search next
 
-told-in-requires : tie.Need-told-in-requires
-told-in-requires c κs = search next
+told-of-requires : tie.Need-told-of-requires
+told-of-requires c κs = search next
 
 returns-3 : tie.Need-returns-3
 returns-3 c = search next
@@ -44,13 +47,14 @@ next-line-spec =
     (tie.spec
     returns
     line-from-requires
-    sub-opens-service
-    part-opens-service-start
-    part-opens-service-end
-    opens-service-requires
+    sub-kind-of
+    part-kind-of-start
+    part-kind-of-end
+    kind-of-requires
+    is-opening-requires
     returns-2
-    sub-told-in
-    part-told-in-start
-    part-told-in-end
-    told-in-requires
+    sub-told-of
+    part-told-of-start
+    part-told-of-end
+    told-of-requires
     returns-3)
