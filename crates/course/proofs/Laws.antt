@@ -15,7 +15,7 @@ use Rattle.timetable.specs.Legs.{operated, stretches, legCount, operatedLegs}
 use Rattle.timetable.specs.Runs.{hasRun}
 use Rattle.timetable.specs.declared.Opening.{Opening}
 use Rattle.timetable.specs.Table.{rowsIn, callAt, openingAt, calls#, serviceAt, periodDays, stops#, services#, stopNumberAt, withStop, resolved, tableOf, sizesSound}
-use Rattle.timetable.specs.Questions.{legRefusal, firstRefusal, stretchOf}
+use Rattle.timetable.specs.Questions.{legRefusal, firstRefusal, stretchOf, callsRefusal}
 use Rattle.timetable.proofs.Rows.{length-rows, rows-take, rows-drop}
 use Rattle.table.specs.JustTable.{JustTable}
 use Rattle.table.proofs.Says.{sizes-say, head-word, record-sized}
@@ -23,8 +23,8 @@ use Rattle.table.proofs.JustTable.{just-says, just-word}
 use Rattle.lookups.specs.Lookups.{servicePlace}
 use Rattle.lookups.proofs.Services.{service-none, service-is, service-sound}
 use Rattle.legs.specs.Run.{noted, gap}
-use Rattle.rows.specs.Rows.{callsFault, callsFrom}
-use Rattle.rows.proofs.Calls.{faults-resolved}
+use Rattle.rows.specs.Rows.{callsFrom}
+use Rattle.rows.proofs.Calls.{refusal-resolved}
 use Rattle.course.specs.Course.{courseBy, stretchCourse, dayCourse, serviceCourse, courseOf}
 use Rattle.course.specs.declared.Course.{Course}
 use Rattle.course.specs.declared.Course.the-variants.{Along, NotRunning, Refused}
@@ -39,7 +39,7 @@ stretch-calls s a n b =
     ∙ rows-take callAt callSize (n + 1) (calls# s - a) (drop (callSize * a) (drop serviceHead s)) (omega arith)
     ∙ ap (rowsIn callAt callSize (n + 1)) (drop-drop (callSize * a) serviceHead s)
 
-module _ (s : List ℕ) (a n number : ℕ) (b : a + n < calls# s) (e : noted number ≡ callsFault (serviceAt s) a n 0 0 (callsFrom s a (n + 1))) where
+module _ (s : List ℕ) (a n number : ℕ) (b : a + n < calls# s) (e : noted number ≡ callsRefusal (serviceAt s) a n 0 0 (callsFrom s a (n + 1))) where
   stretch-by : stretchCourse (serviceAt s) a n ≡ courseBy (noted number) (Along a n)
   unfolding stretchCourse
   stretch-by = rw (stretch-calls s a n b, sym e)
@@ -137,7 +137,7 @@ module _ (stops : List StopRecord) (s : Service) where
 
   stretch-resolved : (a n : ℕ) → stretchCourse (resolved stops s) a n ≡ stretchCourse s a n
   unfolding stretchCourse
-  stretch-resolved a n = rw (calls-resolved a (n + 1), faults-resolved stops s a n 0 0 (take (n + 1) (drop a (s .calls))))
+  stretch-resolved a n = rw (calls-resolved a (n + 1), refusal-resolved stops s a n 0 0 (take (n + 1) (drop a (s .calls))))
 
   course-resolved : (d : Delivery) (r k : ℕ) → serviceCourse d (resolved stops s) r k ≡ serviceCourse d s r k
   unfolding serviceCourse dayCourse resolved

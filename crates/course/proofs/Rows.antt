@@ -13,9 +13,7 @@ use Rattle.base.proofs.Lists.{length-map-upto}
 use Rattle.timetable.specs.Delivery.{Service, Delivery}
 use Rattle.timetable.specs.Legs.{operated, stretches, legCount, operatedLegs}
 use Rattle.timetable.specs.Runs.{hasRun, lateness}
-use Rattle.timetable.specs.Questions.{legRefusal, firstRefusal, idleLegs, leadingLegs, stretchOf, stretchCalls, onDay, serviceJourney, journeyBy}
-use Rattle.rows.specs.Rows.{callsFault}
-use Rattle.rows.proofs.Calls.{faults-are}
+use Rattle.timetable.specs.Questions.{legRefusal, firstRefusal, idleLegs, leadingLegs, stretchOf, stretchCalls, callsRefusal, onDay, serviceJourney, journeyBy}
 use Rattle.course.specs.Course.{courseBy, stretchFrom, stretchCourse, legsCourse, dayCourse, serviceCourse, rowsAlong}
 use Rattle.course.specs.declared.Course.{Course}
 use Rattle.course.specs.declared.Course.the-variants.{Along, NotRunning, Refused}
@@ -36,7 +34,7 @@ module _ (d : Delivery) (s : Service) (delay : ℕ) where
   unfolding stretchCourse
   legs-journey bs =
       ap (λ j. cond (eqb (stretches false bs) 0) (rowsAlong d s delay NotRunning) (cond (leb 2 (stretches false bs)) (rowsAlong d s delay (Refused 35)) j))
-      (rw (faults-are d s (stretchOf bs .start) (stretchOf bs .legs) 0 0 (stretchCalls s (stretchOf bs))) (by-option (callsFault s (stretchOf bs .start) (stretchOf bs .legs) 0 0 (stretchCalls s (stretchOf bs))) (Along (stretchOf bs .start) (stretchOf bs .legs))))
+      (by-option (callsRefusal s (stretchOf bs .start) (stretchOf bs .legs) 0 0 (stretchCalls s (stretchOf bs))) (Along (stretchOf bs .start) (stretchOf bs .legs)))
       ∙ by-stretches (eqb (stretches false bs) 0) (leb 2 (stretches false bs)) (stretchCourse s (stretchOf bs .start) (stretchOf bs .legs))
 
 pub course-journey : (d : Delivery) (s : Service) (r k : ℕ) → serviceJourney d s r k ≡ rowsAlong d s (lateness (s .opening) r) (serviceCourse d s r k)
@@ -92,7 +90,7 @@ module _ (a n : ℕ) where
     legs-within : (bs : List Bool) → legsCourse s bs ≡ Along a n → a + n ≤ length bs
     unfolding stretchCourse
     legs-within bs e =
-        let x : Along (stretchOf bs .start) (stretchOf bs .legs) ≡ Along a n = by-none (callsFault s (stretchOf bs .start) (stretchOf bs .legs) 0 0 (stretchCalls s (stretchFrom (stretchOf bs .start) (stretchOf bs .legs)))) (Along (stretchOf bs .start) (stretchOf bs .legs)) (third (eqb (stretches false bs) 0) (leb 2 (stretches false bs)) (stretchCourse s (stretchOf bs .start) (stretchOf bs .legs)) e) in
+        let x : Along (stretchOf bs .start) (stretchOf bs .legs) ≡ Along a n = by-none (callsRefusal s (stretchOf bs .start) (stretchOf bs .legs) 0 0 (stretchCalls s (stretchFrom (stretchOf bs .start) (stretchOf bs .legs)))) (Along (stretchOf bs .start) (stretchOf bs .legs)) (third (eqb (stretches false bs) 0) (leb 2 (stretches false bs)) (stretchCourse s (stretchOf bs .start) (stretchOf bs .legs)) e) in
         let p : stretchOf bs .start ≡ a = ap startOf x in
         let q : stretchOf bs .legs ≡ n = ap legsOf x in
         omega (arith, stretch-within bs)

@@ -10,9 +10,8 @@ use Rattle.base.specs.Lists.{below}
 use Rattle.timetable.specs.Delivery.{Service, Delivery}
 use Rattle.timetable.specs.Legs.{stretches, legCount, operatedLegs}
 use Rattle.timetable.specs.Runs.{hasRun}
-use Rattle.timetable.specs.Questions.{legRefusal, firstRefusal, Stretch, stretchOf, stretchCalls}
+use Rattle.timetable.specs.Questions.{legRefusal, firstRefusal, Stretch, stretchOf, stretchCalls, callsRefusal}
 use Rattle.timetable.specs.Questions.{rowsOf, Journey, refused, idle, rows}
-use Rattle.rows.specs.Rows.{callsFault}
 use Rattle.course.specs.declared.Course.{Course}
 use Rattle.course.specs.declared.Course.the-variants.{Along, NotRunning, Refused}
 
@@ -25,7 +24,7 @@ stretchFrom a n = record { start = a; legs = n }
 
 -- along the stretch from call a on with n legs: 36, 33
 unfoldable pub stretchCourse : Service → ℕ → ℕ → Course
-stretchCourse s a n = courseBy (callsFault s a n 0 0 (stretchCalls s (stretchFrom a n))) (Along a n)
+stretchCourse s a n = courseBy (callsRefusal s a n 0 0 (stretchCalls s (stretchFrom a n))) (Along a n)
 
 -- where these legs are operated: "No leg operated: "not running" .. 35 two stretches."
 abbrev pub legsCourse : Service → List Bool → Course

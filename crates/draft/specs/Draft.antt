@@ -178,7 +178,7 @@ pub record DraftOf (ls : List Line) (k : Counts) (calls ranges : List ℕ) : Typ
   pub called : callsOn (k .calls) calls ≡ calledOn ls
   pub ranged : rangesOn (ranges# k) ranges ≡ saidOn asRange ls
 
--- ---- the service that a draft is, where `opening` and `line` are its *Z line's
+-- ---- the service that a draft is, where `opening` and `line` are its opening line's
 
 abbrev pub partIn : Part → List RangeLine → List RangeLine
 partIn p rs = gathered (ofPart p) rs

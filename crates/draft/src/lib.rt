@@ -51,8 +51,8 @@ pub struct Counts {
     pub extras: u32,
 }
 
-// A service as drafted: what its *Z line says and that line's number, how many calls and ranges it has, and where the next service begins:
-// the place and the number of its *Z line, or of the file's end.
+// A service as drafted: what its opening line says and that line's number, how many calls and ranges it has, and where the next service begins:
+// the place and the number of its opening line, or of the file's end.
 pub struct Drafted {
     pub opening: Opening,
     pub line: u32,

@@ -1,5 +1,5 @@
-// The C boundary: load, walk, day, interchange and stop name, and the arithmetic on operating days, with numbers and slices. Nothing is asked of the caller: bad input gets its numbered refusal,
-// and table, rows and result words then hold what they held (the helper words of a load: `helped`, timetable/specs/Load).
+// The C boundary: the version, words enough for a load, load, walk, day, interchange (between classes and between categories) and stop name, and the arithmetic on operating days, with numbers and slices. Nothing is asked of
+// the caller: bad input gets its numbered refusal, and table, rows and result words then hold what they held (the helper words of a load: `helped`, timetable/specs/Load).
 use day_sets::CountAnswer;
 use day_sets::Operation;
 use day_sets::SetAnswer;
@@ -53,7 +53,7 @@ pub struct NameResult {
     pub length: usize,
 }
 
-// number 0: how many rows of 10 words are listed, 0 where the service is not running; other numbers are refusals, 29 with the words needed.
+// number 0: how many rows (of `ROW_WORDS` words) are listed, 0 where the service is not running; other numbers are refusals, 29 with the words needed.
 #[repr(C)]
 pub struct WalkResult {
     pub number: u32,

@@ -12,7 +12,7 @@ use lib.Dec.{eqb}
 use borrow.Author.Tests.{eq-eqb, ne-eqb}
 use Rattle.base.specs.Lists.{find}
 use Rattle.base.proofs.Laws.{tests}
-use Rattle.bitfield.specs.BitField.{bit, runsOn}
+use Rattle.bitfield.specs.BitField.{bitCount, bit, runsOn}
 use Rattle.timetable.specs.Delivery.{BitField, StopRecord, Interchange, CategoryClass}
 use Rattle.timetable.specs.Files.{hasStop, hasClass}
 use Rattle.timetable.specs.Layout.{headerSize, bitFieldSize, stopSize, interchangeSize, classSize, mostPeriodDays}
@@ -68,7 +68,7 @@ pub ruleset places = (tests, just-word, stops-scaled, stops-fit, interchanges-sc
 pub zero-known : (b : ℕ) (fs : List BitField) → b ≡ 0 → true ≡ fieldKnown b fs
 zero-known b fs e = rw (eq-eqb b 0 e)
 
-pub zero-days : (b : ℕ) (fs : List BitField) (ws : List ℕ) → b ≡ 0 → ((k : ℕ) → k < 384 → bit ws k ≡ true) → (d : ℕ) → d < mostPeriodDays → runsOn ws d ≡ fieldRuns fs b d
+pub zero-days : (b : ℕ) (fs : List BitField) (ws : List ℕ) → b ≡ 0 → ((k : ℕ) → k < bitCount → bit ws k ≡ true) → (d : ℕ) → d < mostPeriodDays → runsOn ws d ≡ fieldRuns fs b d
 unfolding fieldRuns
 zero-days b fs ws e a d h = a (d + 2) (omega arith) ∙ rw (eq-eqb b 0 e)
 
@@ -83,7 +83,7 @@ module _ (w : List ℕ) (h : JustTable w) (b : ℕ) (n : b ≡ 0 → ⊥) (f : F
   pub unknown-known : f ≡ Nothing → false ≡ fieldKnown b (tableOf w .fields)
   unknown-known g = sym (field-known ∙ ap isAt g)
 
-  pub unknown-days : f ≡ Nothing → (ws : List ℕ) → ((k : ℕ) → k < 384 → bit ws k ≡ false) → (d : ℕ) → d < mostPeriodDays → runsOn ws d ≡ fieldRuns (tableOf w .fields) b d
+  pub unknown-days : f ≡ Nothing → (ws : List ℕ) → ((k : ℕ) → k < bitCount → bit ws k ≡ false) → (d : ℕ) → d < mostPeriodDays → runsOn ws d ≡ fieldRuns (tableOf w .fields) b d
   unknown-days g ws a d l = a (d + 2) (omega arith) ∙ sym (field-days d ∙ ap (λ (f : Found). runsBy (readAt bitFieldAt w f) d) g)
 
   module _ (p : ℕ) (g : f ≡ At p) where

@@ -116,7 +116,7 @@ fn check_services(
     Checked::Holds(count, total)
 }
 
-// A service that was written: the words that it took, its calls, and where the next service begins (the place and the number of its *Z line, or of the
+// A service that was written: the words that it took, its calls, and where the next service begins (the place and the number of its opening line, or of the
 // file's end).
 struct Put {
     pub words: u32,

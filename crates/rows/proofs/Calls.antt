@@ -12,16 +12,16 @@ use lib.Dec.{eqb, leb}
 use borrow.Author.Tests.{not-true, not-false, ne-eqb, le-ltb, lt-ltb}
 use Rattle.base.proofs.Laws.{tests}
 use Rattle.timetable.specs.Layout.{serviceHead, callSize}
-use Rattle.timetable.specs.Delivery.{Delivery, Service, StopRecord, CategoryRange}
+use Rattle.timetable.specs.Delivery.{Service, StopRecord, CategoryRange}
 use Rattle.timetable.specs.Offences.{_<|>_}
 use Rattle.timetable.specs.Legs.{covering}
 use Rattle.timetable.specs.Table.{rowsIn, callAt, stopNumberAt, withStop, resolved}
-use Rattle.timetable.specs.Questions.{neededLast, callsRefusal}
+use Rattle.timetable.specs.Questions.{neededLast, callRefusal, callsRefusal}
 use Rattle.timetable.specs.declared.Call.{Call}
 use Rattle.timetable.proofs.Rows.{one-row}
 use Rattle.legs.specs.Run.{noted}
 use Rattle.rows.proofs.Record.{leg-fits, next-fits, leg-within}
-use Rattle.rows.specs.Rows.{callFault, callsFault, timesFine, timeFine, callsFrom}
+use Rattle.rows.specs.Rows.{timesFine, timeFine, callsFrom}
 
 -- ---- a time; the tests of the code as they come
 
@@ -55,22 +55,22 @@ pub ruleset times = (tests, fine-free, fine-missing, fine-order, choose-first, c
 -- ---- one call; y says whether its times are fine, z whether its leaving leg has one *G
 
 module _ (s : Service) (a n i before : ℕ) (c : Call) (y : Bool) (f : y ≡ timesFine n i before c) where
-  pub call-36 : not y ≡ true → noted 36 ≡ callFault s a n i before c
-  unfolding callFault _<|>_ timesFine
+  pub call-36 : not y ≡ true → noted 36 ≡ callRefusal s a n i before c
+  unfolding callRefusal _<|>_ timesFine
   call-36 l = rw (sym f ∙ not-true y l)
 
   module _ (l : not y ≡ false) where
-    pub call-last : n ≤ i → noted 0 ≡ callFault s a n i before c
-    unfolding callFault _<|>_ timesFine
+    pub call-last : n ≤ i → noted 0 ≡ callRefusal s a n i before c
+    unfolding callRefusal _<|>_ timesFine
     call-last h = rw (sym f ∙ not-false y l, le-ltb i n h)
 
     module _ (h : i < n) (z : Bool) (g : z ≡ eqb (covering (λ (r : CategoryRange). r .legs) (s .categories) (a + i)) 1) where
-      pub call-33 : not z ≡ true → noted 33 ≡ callFault s a n i before c
-      unfolding callFault _<|>_ timesFine
+      pub call-33 : not z ≡ true → noted 33 ≡ callRefusal s a n i before c
+      unfolding callRefusal _<|>_ timesFine
       call-33 m = rw (sym f ∙ not-false y l, lt-ltb i n h, sym g ∙ not-true z m)
 
-      pub call-fine : not z ≡ false → noted 0 ≡ callFault s a n i before c
-      unfolding callFault _<|>_ timesFine
+      pub call-fine : not z ≡ false → noted 0 ≡ callRefusal s a n i before c
+      unfolding callRefusal _<|>_ timesFine
       call-fine m = rw (sym f ∙ not-false y l, lt-ltb i n h, sym g ∙ not-false z m)
 
 pub ruleset call = (tests, leg-fits, call-36, call-last, call-33, call-fine)
@@ -84,12 +84,12 @@ calls-next s a n i c h e =
     let m : n + 1 - i - 1 ≡ n + 1 - (i + 1) = omega arith in
     one-row callAt callSize (n + 1 - i) (drop (serviceHead + callSize * (a + i)) s) (omega arith) ∙ rw (e, drop-drop callSize (serviceHead + callSize * (a + i)) s, p, m) refl
 
-module _ (t : Service) (s : List ℕ) (a n i before number : ℕ) (c : Call) (r : Option ℕ) (h : i ≤ n) (e : c ≡ callAt (drop (serviceHead + callSize * (a + i)) s)) (f : noted number ≡ callFault t a n i before c) (v : callsFault t a n i before (callsFrom s (a + i) (n + 1 - i)) ≡ r) where
-  calls-here : (noted number <|> callsFault t a n (i + 1) (neededLast n i c) (callsFrom s (a + (i + 1)) (n + 1 - (i + 1)))) ≡ r
-  unfolding callsFault
+module _ (t : Service) (s : List ℕ) (a n i before number : ℕ) (c : Call) (r : Option ℕ) (h : i ≤ n) (e : c ≡ callAt (drop (serviceHead + callSize * (a + i)) s)) (f : noted number ≡ callRefusal t a n i before c) (v : callsRefusal t a n i before (callsFrom s (a + i) (n + 1 - i)) ≡ r) where
+  calls-here : (noted number <|> callsRefusal t a n (i + 1) (neededLast n i c) (callsFrom s (a + (i + 1)) (n + 1 - (i + 1)))) ≡ r
+  unfolding callsRefusal
   calls-here = rw f (rw (calls-next s a n i c h e) at v)
 
-  pub calls-again : number ≡ 0 → (b : ℕ) → b ≡ neededLast n i c → callsFault t a n (i + 1) b (callsFrom s (a + (i + 1)) (n + 1 - (i + 1))) ≡ r
+  pub calls-again : number ≡ 0 → (b : ℕ) → b ≡ neededLast n i c → callsRefusal t a n (i + 1) b (callsFrom s (a + (i + 1)) (n + 1 - (i + 1))) ≡ r
   unfolding _<|>_
   calls-again z b q = rw q (rw z at calls-here)
 
@@ -97,25 +97,20 @@ module _ (t : Service) (s : List ℕ) (a n i before number : ℕ) (c : Call) (r 
   unfolding _<|>_
   calls-out z = rw (ne-eqb number 0 z) (rw (ne-eqb number 0 z) at calls-here)
 
-pub calls-start : (t : Service) (s : List ℕ) (a n : ℕ) → callsFault t a n 0 0 (callsFrom s (a + 0) (n + 1 - 0)) ≡ callsFault t a n 0 0 (callsFrom s a (n + 1))
+pub calls-start : (t : Service) (s : List ℕ) (a n : ℕ) → callsRefusal t a n 0 0 (callsFrom s (a + 0) (n + 1 - 0)) ≡ callsRefusal t a n 0 0 (callsFrom s a (n + 1))
 calls-start t s a n = rw (add-zero a, sub-zero (n + 1))
 
-pub calls-done : (t : Service) (s : List ℕ) (a n i before : ℕ) (r : Option ℕ) → n < i → callsFault t a n i before (callsFrom s (a + i) (n + 1 - i)) ≡ r → noted 0 ≡ r
-unfolding callsFault callsFrom rowsIn
+pub calls-done : (t : Service) (s : List ℕ) (a n i before : ℕ) (r : Option ℕ) → n < i → callsRefusal t a n i before (callsFrom s (a + i) (n + 1 - i)) ≡ r → noted 0 ≡ r
+unfolding callsRefusal callsFrom rowsIn
 calls-done t s a n i before r h v =
     let z : n + 1 - i ≡ 0 = omega arith in
     rw z at v
 
--- ---- what is refused is the same for every delivery, and where each stop is told by its number
+-- ---- what is refused is the same where each stop is told by its number
 
-pub faults-are : (d : Delivery) (s : Service) (a n i before : ℕ) (cs : List Call) → callsRefusal d s a n i before cs ≡ callsFault s a n i before cs
-unfolding callsRefusal callsFault callFault
-faults-are d s a n i before [] = refl
-faults-are d s a n i before (c ∷ cs) = rw (faults-are d s a n (i + 1) (neededLast n i c) cs)
-
-pub faults-resolved : (stops : List StopRecord) (s : Service) (a n i before : ℕ) (cs : List Call) → callsFault (resolved stops s) a n i before (map (withStop (stopNumberAt stops)) cs) ≡ callsFault s a n i before cs
-unfolding callsFault callFault resolved
-faults-resolved stops s a n i before [] = refl
-faults-resolved stops s a n i before (c ∷ cs) = rw (faults-resolved stops s a n (i + 1) (neededLast n i c) cs)
+pub refusal-resolved : (stops : List StopRecord) (s : Service) (a n i before : ℕ) (cs : List Call) → callsRefusal (resolved stops s) a n i before (map (withStop (stopNumberAt stops)) cs) ≡ callsRefusal s a n i before cs
+unfolding callsRefusal callRefusal resolved
+refusal-resolved stops s a n i before [] = refl
+refusal-resolved stops s a n i before (c ∷ cs) = rw (refusal-resolved stops s a n (i + 1) (neededLast n i c) cs)
 
 pub ruleset calls = (tests, leg-fits, next-fits, leg-within, calls-start, calls-again, calls-out, calls-done)

@@ -1,30 +1,17 @@
 -- What the functions on the calls of a stretch answer. Assumes nothing.
 use Prim.Native.Nat.{ℕ, _+_, _*_}
 use mathlib.Core.List.{List, [], _∷_, map}
-use mathlib.Core.Bool.{Bool, not, _&&_, _||_}
-use mathlib.Core.Option.{Option, none}
+use mathlib.Core.Bool.{Bool, _&&_, _||_}
 use lib.ListN.{drop}
-use lib.Dec.{ltb, leb, eqb}
+use lib.Dec.{leb}
 use Rattle.timetable.specs.Layout.{serviceHead, callSize}
-use Rattle.timetable.specs.Delivery.{Delivery, Service, CategoryRange}
-use Rattle.timetable.specs.Offences.{_<|>_}
-use Rattle.timetable.specs.Legs.{covering}
+use Rattle.timetable.specs.Delivery.{Delivery, Service}
 use Rattle.timetable.specs.Table.{rowsIn, callAt, serviceAt, stopNumberAt, withStop, resolved}
-use Rattle.timetable.specs.Questions.{refuse, timesNeeded, neededLast, rowOf}
+use Rattle.timetable.specs.Questions.{timesNeeded, rowOf}
 use Rattle.timetable.specs.declared.Call.{Call}
 use Rattle.rows.specs.declared.Row.{Row}
 
--- the i-th call of a stretch that begins at call a and has n legs: what it is refused for (no look at its stop, nor at the delivery: document 02,
--- No. 10), its needed times, its row
-unfoldable pub callFault : Service → ℕ → ℕ → ℕ → ℕ → Call → Option ℕ
-callFault s a n i before c =
-    refuse (not (timesNeeded n i before c)) 36
-    <|> refuse (ltb i n && not (eqb (covering (λ (r : CategoryRange). r .legs) (s .categories) (a + i)) 1)) 33
-
-unfoldable pub callsFault : Service → ℕ → ℕ → ℕ → ℕ → List Call → Option ℕ
-callsFault s a n i before [] = none
-callsFault s a n i before (c ∷ cs) = callFault s a n i before c <|> callsFault s a n (i + 1) (neededLast n i c) cs
-
+-- the i-th call of a stretch that begins at call a and has n legs: its needed times, its row
 unfoldable pub timesFine : ℕ → ℕ → ℕ → Call → Bool
 timesFine n i before c = timesNeeded n i before c
 

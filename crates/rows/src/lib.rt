@@ -16,11 +16,11 @@ ghost use Rattle.timetable.specs.Layout.{serviceHead, callSize, rowSize, latest
 ghost use Rattle.timetable.specs.Delivery.{CategoryRange};
 ghost use Rattle.timetable.specs.Legs.{covering};
 ghost use Rattle.timetable.specs.Table.{stops#, calls#, callAt, categoryPlace, serviceAt, tableOf, sizesSound, recordSound};
-ghost use Rattle.timetable.specs.Questions.{neededLast, categoryOn, rowFlags, rowsOf};
+ghost use Rattle.timetable.specs.Questions.{neededLast, callRefusal, callsRefusal, categoryOn, rowFlags, rowsOf};
 ghost use Rattle.words.specs.Words.{write};
 ghost use Rattle.table.specs.JustTable.{JustTable};
 ghost use Rattle.legs.specs.Run.{noted};
-ghost use Rattle.rows.specs.Rows.{callFault, callsFault, timesFine, timeFine, rowFor, rowWords, callsFrom, callShown, callsShown, serviceShown};
+ghost use Rattle.rows.specs.Rows.{timesFine, timeFine, rowFor, rowWords, callsFrom, callShown, callsShown, serviceShown};
 
 // A row of a walk.
 pub struct Row {
@@ -42,7 +42,7 @@ pub struct Row {
 pub fn calls_refusal(s: &[u32], start: u32, legs: u32) -> u32
     requires { ⌜ sizesSound (now s) ≡ true ⌝ }
     requires { ⌜ start + legs < calls# (now s) ⌝ }
-    ensures { λ r. ⌜ noted r ≡ callsFault (serviceAt (now (s .entry))) start legs 0 0 (callsFrom (now (s .entry)) start (legs + 1)) ⌝ }
+    ensures { λ r. ⌜ noted r ≡ callsRefusal (serviceAt (now (s .entry))) start legs 0 0 (callsFrom (now (s .entry)) start (legs + 1)) ⌝ }
 {
     let mut i: u32 = 0;
     let mut before: u32 = 0;
@@ -62,7 +62,7 @@ pub fn calls_refusal(s: &[u32], start: u32, legs: u32) -> u32
 fn call_refusal(s: &[u32], start: u32, legs: u32, i: u32, before: u32, call: Call) -> u32
     requires { ⌜ sizesSound (now s) ≡ true ⌝ }
     requires { ⌜ (start + legs < calls# (now s)) × (i ≤ legs) ⌝ }
-    ensures { λ r. ⌜ noted r ≡ callFault (serviceAt (now (s .entry))) start legs i before call ⌝ }
+    ensures { λ r. ⌜ noted r ≡ callRefusal (serviceAt (now (s .entry))) start legs i before call ⌝ }
 {
     if !times_needed(legs, i, before, call) {
         return 36;

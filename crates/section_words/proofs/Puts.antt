@@ -11,7 +11,7 @@ use Rattle.columns.specs.Columns.{columns, number}
 use Rattle.lines.specs.Lines.{linesAt, cutAt}
 use Rattle.lines.specs.declared.Cut.{Cut}
 use Rattle.lines.proofs.Laws.{cutting, lines-none, walk}
-use Rattle.bitfield.specs.BitField.{bitsIn}
+use Rattle.bitfield.specs.BitField.{bitWords, bitsIn}
 use Rattle.words.specs.Words.{write}
 use Rattle.words.proofs.Laws.{write-none, write-one, write-write}
 use Rattle.timetable.specs.Layout.{mostFileBytes, bitFieldSize, stopSize, interchangeSize, classSize}
@@ -26,11 +26,11 @@ use Rattle.section_words.proofs.Words.{words-skipped, words-broken, wor
 
 -- ---- a record
 
-pub bits-room : (t : List ℕ) (q n : ℕ) → q + bitFieldSize ≤ length t → q + 1 + 12 ≤ length (set t q n)
+pub bits-room : (t : List ℕ) (q n : ℕ) → q + bitFieldSize ≤ length t → q + 1 + bitWords ≤ length (set t q n)
 bits-room t q n h = rw length-set (omega arith)
 
 -- the number, and the twelve words behind it
-pub bits-written : (t r bits : List ℕ) (q n : ℕ) → q + bitFieldSize ≤ length t → length bits ≡ 12 → r ≡ write (set t q n) (q + 1) bits → r ≡ write t q (n ∷ bits)
+pub bits-written : (t r bits : List ℕ) (q n : ℕ) → q + bitFieldSize ≤ length t → length bits ≡ bitWords → r ≡ write (set t q n) (q + 1) bits → r ≡ write t q (n ∷ bits)
 bits-written t r bits q n h l e = e ∙ rw (write-one t q n (omega arith)) (write-write t q (n ∷ []) bits (omega arith))
 
 pub bits-kept : (t r : List ℕ) (q n : ℕ) → length r ≡ length (set t q n) → length r ≡ length t

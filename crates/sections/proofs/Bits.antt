@@ -14,7 +14,7 @@ use Rattle.columns.specs.Columns.{columns, number}
 use Rattle.lines.specs.Lines.{Line, skipped, linesOf, cutAt}
 use Rattle.lines.specs.declared.Cut.{Cut}
 use Rattle.lines.proofs.Laws.{walk}
-use Rattle.bitfield.specs.BitField.{bitsIn}
+use Rattle.bitfield.specs.BitField.{bitWords, bitsIn}
 use Rattle.forms.specs.Form.{formOf}
 use Rattle.forms.specs.Columns.{bitFieldColumns}
 use Rattle.forms.specs.declared.Form.{Form}
@@ -78,7 +78,7 @@ module _ (f m : List ℕ) (w : MapOf BitFields f m) where
   bits-mapped = record { count = w .count; chained = w .filled .chained }
 
   module _ (k : ℕ) (r : Found) (e : Finds k m r) where
-    pub bits-none : r ≡ Nowhere → replicate 12 0 ≡ wordsOf k (held-in bitFieldOf (linesOf f))
+    pub bits-none : r ≡ Nowhere → replicate bitWords 0 ≡ wordsOf k (held-in bitFieldOf (linesOf f))
     bits-none d =
         let q : false ≡ hasField k (held-in bitFieldOf (linesOf f)) = has-field false k (linesOf f) (seen-not BitFields (linesOf f) m (map-seen BitFields f m w) k r e d) in
         ap wordsBy (sym (find-none (λ (b : BitField). eqb (b .number) k) (held-in bitFieldOf (linesOf f)) (sym q)))

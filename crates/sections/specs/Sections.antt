@@ -8,7 +8,7 @@ use lib.Dec.{eqb}
 use Rattle.base.specs.Lists.{some-of, find, gathered}
 use Rattle.columns.specs.Columns.{columns, number}
 use Rattle.lines.specs.Lines.{Line, skipped}
-use Rattle.bitfield.specs.BitField.{bitsIn}
+use Rattle.bitfield.specs.BitField.{bitWords, bitsIn}
 use Rattle.forms.specs.Form.{formOf}
 use Rattle.forms.specs.Columns.{columnsOf}
 use Rattle.forms.specs.declared.Form.{Form}
@@ -83,7 +83,7 @@ lineOffence s n stops before l = numberedOffence (recordOffence s n stops before
 -- ---- the twelve words of a bit field that was found, zeros where there is none
 
 abbrev pub wordsBy : Option BitField → List ℕ
-wordsBy none = replicate 12 0
+wordsBy none = replicate bitWords 0
 wordsBy (some f) = f .words
 
 abbrev pub wordsOf : ℕ → List BitField → List ℕ

@@ -30,7 +30,7 @@ ghost use Rattle.reading.specs.Maps.{FieldMap, StopMap, ClassIndex};
 ghost use Rattle.reading.specs.Reading.{Boundary};
 ghost use Rattle.service.specs.Answers.{CheckedAs, Counted, serviceIn, draftFirst, checkBy, rowsBroken, rowsTorn, daysFirst, Sized};
 
-// What checking a service answers: the words that it takes and where the next service begins (the place and the number of its *Z line, or of
+// What checking a service answers: the words that it takes and where the next service begins (the place and the number of its opening line, or of
 // the file's end); or its first offence.
 pub enum ServiceCheck {
     Takes { words: u32, end: usize, no: u32 },
@@ -145,7 +145,7 @@ fn leg_checks(
     }
 }
 
-// ---- 17 to 19 of a service whose words are at the front of `words`, and its *Z line's number is `line`
+// ---- 17 to 19 of a service whose words are at the front of `words`, and its opening line's number is `line`
 
 fn legs_wrong(words: &[u32], line: u32, bitfeld: &[u8], fields: &[u32], days: u32) -> Verdict
     requires { ⌜ Sized (now words) ⌝ }

@@ -163,15 +163,15 @@ categoryOn s k = nameBy (find (λ (r : CategoryRange). covers k (r .legs)) (s .c
 
 -- "Each call of the stretch: 32 stop unknown, 36 .., 33 leaving leg without exactly one *G." Document 02, No. 10: "show that 32 can no longer occur, and
 -- retire it" (a table's calls point at its own stops: 21). The stretch begins at call a and has n legs; i counts its calls from 0, and `before` is
--- the needed time before. (Only 32 looked at the delivery d; it is kept here and in `callsRefusal` so that the contracts stay.)
-abbrev pub callRefusal : Delivery → Service → ℕ → ℕ → ℕ → ℕ → Call → Option ℕ
-callRefusal d s a n i before c =
+-- the needed time before.
+unfoldable pub callRefusal : Service → ℕ → ℕ → ℕ → ℕ → Call → Option ℕ
+callRefusal s a n i before c =
     refuse (not (timesNeeded n i before c)) 36
     <|> refuse (ltb i n && not (eqb (covering (λ (r : CategoryRange). r .legs) (s .categories) (a + i)) 1)) 33
 
-unfoldable pub callsRefusal : Delivery → Service → ℕ → ℕ → ℕ → ℕ → List Call → Option ℕ
-callsRefusal d s a n i before [] = none
-callsRefusal d s a n i before (c ∷ cs) = callRefusal d s a n i before c <|> callsRefusal d s a n (i + 1) (neededLast n i c) cs
+unfoldable pub callsRefusal : Service → ℕ → ℕ → ℕ → ℕ → List Call → Option ℕ
+callsRefusal s a n i before [] = none
+callsRefusal s a n i before (c ∷ cs) = callRefusal s a n i before c <|> callsRefusal s a n (i + 1) (neededLast n i c) cs
 
 -- "First row: .. flags 1 and 4 cleared. Last: .. flags 2 and 8 cleared"
 abbrev pub rowFlags : ℕ → ℕ → ℕ → ℕ
@@ -211,7 +211,7 @@ journeyBy none j = j
 
 abbrev pub stretchJourney : Delivery → Service → ℕ → Stretch → Journey
 stretchJourney d s delay t =
-    journeyBy (callsRefusal d s (t .start) (t .legs) 0 0 (stretchCalls s t)) (rows (rowsOf d s (t .start) (t .legs) delay 0 (stretchCalls s t)))
+    journeyBy (callsRefusal s (t .start) (t .legs) 0 0 (stretchCalls s t)) (rows (rowsOf d s (t .start) (t .legs) delay 0 (stretchCalls s t)))
 
 -- "No leg operated: "not running", no rows. 35 two stretches."
 abbrev pub onDay : Delivery → Service → ℕ → List Bool → Journey

@@ -65,11 +65,11 @@ module _ (d : Delivery) (s : Service) where
       (by-test (not (every (λ (r : DayRange). not (covers k (r .legs)) || fieldKnown (r .field) (d .fields)) (s .days))) 31 refl n))
       (by-leg ks n)
 
-  by-call : (a n i before : ℕ) (cs : List Call) → Refusals (callsRefusal d s a n i before cs)
-  unfolding callsRefusal isWalkRefusal some-of
+  by-call : (a n i before : ℕ) (cs : List Call) → Refusals (callsRefusal s a n i before cs)
+  unfolding callRefusal callsRefusal isWalkRefusal some-of
   by-call a n i before [] m e = apart (cc)
   by-call a n i before (c ∷ cs) m e =
-      one-of (callRefusal d s a n i before c) (callsRefusal d s a n (i + 1) (neededLast n i c) cs) e (λ e.
+      one-of (callRefusal s a n i before c) (callsRefusal s a n (i + 1) (neededLast n i c) cs) e (λ e.
       one-of _ _ e (by-test (not (timesNeeded n i before c)) 36 refl m)
       (by-test (ltb i n && not (eqb (covering (λ (r : CategoryRange). r .legs) (s .categories) (a + i)) 1)) 33 refl m))
       (by-call a n (i + 1) (neededLast n i c) cs m)
@@ -106,7 +106,7 @@ module _ (d : Delivery) (i : ℕ) (on : Dated) where
     stretch-meant e =
         let one = one-stretch bs e in
         let l = part-length d s r k a n one in
-        after (callsRefusal d s a n 0 0 (stretchCalls s (stretchOf bs))) (by-call d s a n 0 0 (stretchCalls s (stretchOf bs)))
+        after (callsRefusal s a n 0 0 (stretchCalls s (stretchOf bs))) (by-call d s a n 0 0 (stretchCalls s (stretchOf bs)))
         (a-stretch found day (one-unbroken d s r k a n one) (rows-size d s a n (lateness (s .opening) r) 0 (stretchCalls s (stretchOf bs)) ∙ ap (λ (m : ℕ). rowSize * m) l))
 
     day-meant : Meant d i on (onDay d s (lateness (s .opening) r) (operatedLegs (d .fields) s k))

@@ -71,7 +71,7 @@ module _ (d : Delivery) (s : Service) (h : Right d s) (known : Interchanges d) (
           let b = leb-false 2 (stretches false bs) w in
           let z = eqb-false (stretches false bs) 0 q in
           let one = one-stretch bs (omega (arith, z)) in
-          goes-on (Outcome d s r k) (leb 2 (stretches false bs)) (callsRefusal d s a n 0 0 (stretchCalls s (stretchOf bs))) (rows (rowsOf d s a n (lateness (s .opening) r) 0 (stretchCalls s (stretchOf bs)))) (refused 35)
+          goes-on (Outcome d s r k) (leb 2 (stretches false bs)) (callsRefusal s a n 0 0 (stretchCalls s (stretchOf bs))) (rows (rowsOf d s a n (lateness (s .opening) r) 0 (stretchCalls s (stretchOf bs)))) (refused 35)
           w
           (stretch-resolved d s h a n (inside d s r k a n one))
           (runs (stretched d s r k a n one h known))

@@ -62,7 +62,7 @@ load-as-before f room helper = rw (words-same (delivered f))
 -- ---- the test for 32 passes where each call's stop is known
 
 module _ (d : Delivery) (s : Service) where
-  calls-same : (a n i before : ℕ) (cs : List Call) → All (λ (c : Call). hasStop (c .stop) (d .stops) ≡ true) cs → oldCallsRefusal d s a n i before cs ≡ callsRefusal d s a n i before cs
+  calls-same : (a n i before : ℕ) (cs : List Call) → All (λ (c : Call). hasStop (c .stop) (d .stops) ≡ true) cs → oldCallsRefusal d s a n i before cs ≡ callsRefusal s a n i before cs
   unfolding oldCallsRefusal callsRefusal _<|>_
   calls-same a n i before [] nil = refl
   calls-same a n i before (c ∷ cs) (cons h t) = rw (h, calls-same a n (i + 1) (neededLast n i c) cs t)

@@ -58,7 +58,8 @@ legs-resolved d s h = no-refusal (legRefusal d s) (legCount s) 0 leg
 
 module _ (d : Delivery) (s : Service) (h : Right d s) (a n : ℕ) (inside : a + n < length (s .calls)) where
   -- the i-th call of the stretch, w and b being the times before it by the walk's rule and by the loader's
-  call-resolved : (i w b : ℕ) (c : Call) → i ≤ n → w ≤ b → timesStated (length (s .calls)) (a + i) c ≡ true → timesRise b c ≡ true → callRefusal d s a n i w c ≡ none
+  call-resolved : (i w b : ℕ) (c : Call) → i ≤ n → w ≤ b → timesStated (length (s .calls)) (a + i) c ≡ true → timesRise b c ≡ true → callRefusal s a n i w c ≡ none
+  unfolding callRefusal
   call-resolved i w b c l m t u =
       both-none (refuse (not (timesNeeded n i w c)) 36) (refuse (ltb i n && not once) 33)
       (granted (timesNeeded n i w c) 36 needed)
@@ -78,21 +79,21 @@ module _ (d : Delivery) (s : Service) (h : Right d s) (a n : ℕ) (inside : a + 
       leaving false q = refl
       leaving true q = let z = ltb-true i n q in granted once 33 (eq-eqb (covering (λ (r : CategoryRange). r .legs) (s .categories) (a + i)) 1 (h .categories (a + i) (omega arith)))
 
-  calls-resolved : (m i w b : ℕ) (cs : List Call) → i + m ≡ n → w ≤ b → Timely (length (s .calls)) (a + i) b cs → callsRefusal d s a n i w (take (suc m) cs) ≡ none
+  calls-resolved : (m i w b : ℕ) (cs : List Call) → i + m ≡ n → w ≤ b → Timely (length (s .calls)) (a + i) b cs → callsRefusal s a n i w (take (suc m) cs) ≡ none
   unfolding callsRefusal Timely
   calls-resolved m i w b [] e l t = refl
   calls-resolved zero i w b (c ∷ cs) e l t =
-      both-none (callRefusal d s a n i w c) none (call-resolved i w b c (omega arith) l (t .0) (t .1)) refl
+      both-none (callRefusal s a n i w c) none (call-resolved i w b c (omega arith) l (t .0) (t .1)) refl
   calls-resolved (suc m) i w b (c ∷ cs) e l t =
       let z : a + (i + 1) ≡ a + i + 1 = omega arith in
       let dep = departs (length (s .calls)) (a + i) c (t .0) (omega arith) in
-      both-none (callRefusal d s a n i w c) (callsRefusal d s a n (i + 1) (neededLast n i c) (take (suc m) cs))
+      both-none (callRefusal s a n i w c) (callsRefusal s a n (i + 1) (neededLast n i c) (take (suc m) cs))
       (call-resolved i w b c (omega arith) l (t .0) (t .1))
       (calls-resolved m (i + 1) (neededLast n i c) (lastStated b c) cs (omega arith)
       (last-law b (c .arrival) (c .departure) (eqb i n) (hasArrival c) (hasDeparture c) (ne-eqb i n (λ q. omega arith)) dep)
       (rw z (t .2)))
 
-  pub stretch-resolved : callsRefusal d s a n 0 0 (take (n + 1) (drop a (s .calls))) ≡ none
+  pub stretch-resolved : callsRefusal s a n 0 0 (take (n + 1) (drop a (s .calls))) ≡ none
   stretch-resolved =
       let m = timely-drop (length (s .calls)) 0 0 a (s .calls) (h .times) in
       let z : n + 1 ≡ suc n = omega arith in

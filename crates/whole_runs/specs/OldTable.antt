@@ -147,7 +147,7 @@ oldStopNameAsked w bahnhof stop language type =
 
 -- "Each call of the stretch: 32 stop unknown, 36 .., 33 .."
 abbrev pub oldCallRefusal : Delivery → Service → ℕ → ℕ → ℕ → ℕ → Call → Option ℕ
-oldCallRefusal d s a n i before c = refuse (not (hasStop (c .stop) (d .stops))) 32 <|> callRefusal d s a n i before c
+oldCallRefusal d s a n i before c = refuse (not (hasStop (c .stop) (d .stops))) 32 <|> callRefusal s a n i before c
 
 unfoldable pub oldCallsRefusal : Delivery → Service → ℕ → ℕ → ℕ → ℕ → List Call → Option ℕ
 oldCallsRefusal d s a n i before [] = none
