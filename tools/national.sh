@@ -50,17 +50,18 @@ plain=$out/national
 
 # counted PROGRAM LOADER FUNCTION: what valgrind sees from FUNCTION's start to its end, in $place/counted
 counted() {
-    valgrind --tool=callgrind --dump-instr=yes --toggle-collect="$3" --callgrind-out-file="$place/counted" \
+    valgrind --tool=callgrind --dump-instr=yes --compress-pos=no --toggle-collect="$3" --callgrind-out-file="$place/counted" \
         "$1" load "$2" "$place/delivery" >"$place/valgrind.log" 2>&1 || { cat "$place/valgrind.log" >&2; exit 1; }
 }
 
 # How often the function NAME was entered, by $place/counted: how often its first instruction ran. A name stands beside its number once, later the number
-# stands for it; NAME'2 is the same function.
+# stands for it; NAME'2 is the same function, whose instructions may stand under both. A line after `calls=` is the cost of a call.
 entered() {
     awk -v name="$1" '
         /^c?fn=/ { split($0, part, /[()]/); if (index($0, ") ")) names[part[2]] = substr($0, index($0, ") ") + 2) }
-        /^fn=/ { of = names[part[2]]; sub(/\047[0-9]+$/, "", of); starts = of == name }
-        /^[0-9+*-]/ && starts { times += $3; starts = 0 }
+        /^fn=/ { of = names[part[2]]; sub(/\047[0-9]+$/, "", of) }
+        /^0x/ && of == name && !call { if (first == "" || $1 < first) { first = $1; times = 0 } if ($1 == first) times += $3 }
+        { call = /^calls=/ }
         END { print times + 0 }' "$place/counted"
 }
 
