@@ -22,6 +22,13 @@ as_cargo_user() {
 
 planner_library
 compare_library
+
+# The cases take longest, so they run beside the rest.
+linked delivery compare/src/bin/delivery.rs
+run "$out/delivery" "$seed" "$count" "$first" >"$out/delivery.txt" 2>&1 &
+cases=$!
+trap 'kill "$cases" 2>/dev/null || true' EXIT
+
 linked trial_week planner/examples/trial_week.rs
 tests='dates days handles helper largest names refusals room rows runs table'
 for test in $tests; do linked "$test" "planner/tests/$test.rs" --test; done
@@ -31,7 +38,7 @@ linked desk_tests planner/src/bin/desk/main.rs --test
 # shellcheck disable=SC2016 # the marks of a block
 sed -n '/^```rust$/,/^```$/p' README.md | sed '/^```/d' >"$out/readme.rs"
 linked readme "$out/readme.rs"
-for tool in standard delivery; do linked "$tool" "compare/src/bin/$tool.rs"; done
+linked standard compare/src/bin/standard.rs
 
 # An emulator cannot run the crate's documentation. It reads the sample delivery from the crate's directory, as with cargo.
 if [ -z "$emulator" ]; then
@@ -68,5 +75,9 @@ run "$out/readme"
 run "$out/trial_week"
 run "$out/standard"
 tools/drift.sh
-run "$out/delivery" "$seed" "$count" "$first"
+trap - EXIT
+status=0
+wait "$cases" || status=$?
+cat "$out/delivery.txt"
+[ "$status" = 0 ] || die 'the archive and the reader differ'
 echo "planner.sh: ok"

@@ -51,7 +51,7 @@ pub fn head_end(f: &[u8]) -> Head
     while at < f.len() {
         let cut = reader::line_from(f, at, no);
         let stop = cut.stop;
-        if told::is_opening(forms::kind_of(&f[at..stop])) {
+        if timetable::is_opening(forms::kind_of(&f[at..stop])) {
             return Head::Clear(at, no);
         }
         if lines::skips(&f[at..stop]) {
@@ -179,7 +179,7 @@ fn next_line(fplan: &[u8], at: usize, no: u32) -> Next
     let cut = reader::line_from(fplan, at, no);
     let stop = cut.stop;
     let kind = forms::kind_of(&fplan[at..stop]);
-    if told::is_opening(kind) {
+    if timetable::is_opening(kind) {
         return Next::End;
     }
     Next::Line(told::told_of(kind, &fplan[at..stop]), cut.next, cut.no)

@@ -9,8 +9,9 @@ use Rattle.names.specs.Names.{isNameList}
 use Rattle.timetable.specs.Delivery.{StopRecord, Files}
 use Rattle.timetable.specs.Files.{nameField, namedStopOffence, periodFirst, bitFieldsFirst, stopsFirst, interchangesFirst, classesFirst}
 use Rattle.timetable.specs.Offences.{offenceAt, _<|>_}
-use Rattle.timetable.specs.Load.{Where, delivered, contentOffence}
+use Rattle.timetable.specs.Load.{Where, delivered, lengthOffence, contentOffence, loaded}
 use Rattle.timetable.specs.declared.Offence.{Offence}
+use Rattle.timetable.specs.declared.Loaded.the-variants.{Refused}
 
 -- document 02, No. 3: "39 after 4": whatever the stop's number
 pub named-first : (earlier : List StopRecord) (line : ℕ) (text : List ℕ) (s : StopRecord) → isNameList (nameField text) ≡ false → namedStopOffence earlier line text s ≡ some (offenceAt 39 line)
@@ -24,3 +25,8 @@ pub zugart-first : (f : Files) (o : Offence)
     → classesFirst (linesOf (f .zugart)) ≡ some o → contentOffence f ≡ some (record { file = 6; offence = o })
 unfolding contentOffence _<|>_
 zugart-first f o e₁ e₂ e₃ e₄ e₅ = rw (e₁, e₂, e₃, e₄, e₅) refl
+
+-- document 02, No. 13: "51, directly after 1": a file that is too long is told whatever helper words are lent
+pub long-first : (f : Files) (room helper : ℕ) (w : Where) → lengthOffence f ≡ some w → loaded f room helper ≡ Refused (w .offence .number) (w .file) (w .offence .line) (w .offence .column) 0
+unfolding loaded
+long-first f room helper w e = rw e refl

@@ -4,6 +4,7 @@ pub use bitfield::BIT_WORDS;
 pub use calendar::MOST_PERIOD_DAYS;
 use fields::Detail;
 use fields::RangeEnd;
+use forms::Kind;
 pub use forms::MOST_FILE_BYTES;
 ghost use mathlib.Core.Path.{_≡_};
 ghost use mathlib.Core.List.{[], _∷_};
@@ -14,7 +15,7 @@ ghost use Rattle.timetable.specs.Offences.{offenceAt, verdictBy};
 ghost use Rattle.timetable.specs.Layout.{headerSize, bitWords, bitFieldSize, stopSize, interchangeSize, classSize, serviceHead, callSize, categorySize, daySize, extraSize, rowSize, helperHead, helperLine};
 ghost use Rattle.timetable.specs.Layout.{mostFileBytes, mostPeriodDays, mostClass, mostCalls, mostCategories, mostDays, mostExtras, mostRepeats, mostRunning, latestTime, allFlags, kindZ, kindT};
 ghost use Rattle.timetable.specs.Ranges.{inOrder};
-ghost use Rattle.timetable.specs.Plan.{twoBytes, threeBytes};
+ghost use Rattle.timetable.specs.Plan.{twoBytes, threeBytes, attributePart, isOpening};
 ghost use Rattle.timetable.specs.Table.{callAt};
 
 // ---- what a line of FPLAN says
@@ -79,6 +80,30 @@ pub enum Told {
     Opens(Opening),
     Ranges(RangeLine),
     Calls(CallLine),
+}
+
+// Whether a line of a kind opens a service, whatever its form.
+pub fn is_opening(kind: Kind) -> bool
+    ensures { λ r. ⌜ r ≡ isOpening kind ⌝ }
+{
+    match kind {
+        Kind::Opening => true,
+        Kind::Frequency => true,
+        Kind::Category => false,
+        Kind::Attribute => false,
+        Kind::Schedule => false,
+        Kind::Other => false,
+    }
+}
+
+// "VE" as two bytes: operating days.
+const VE: u32 = b'V' as u32 * 256 + b'E' as u32;
+
+// Which ranges a line of *A has, by its code.
+pub fn attribute_part(code: u32) -> Part
+    ensures { λ r. ⌜ r ≡ attributePart code ⌝ }
+{
+    if code == VE { Part::Days } else { Part::Extra }
 }
 
 // Columns c and c + 1 as one number, the first byte highest: a code.

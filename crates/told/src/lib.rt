@@ -24,14 +24,11 @@ ghost use Rattle.fields.specs.Fields.{time, clock};
 ghost use Rattle.forms.specs.Form.{formOf, isTime};
 ghost use Rattle.forms.specs.Columns.{serviceColumns, frequencyColumns, categoryColumns, attributeColumns, callColumns};
 ghost use Rattle.forms.specs.Kinds.{kindOf};
-ghost use Rattle.timetable.specs.Plan.{openingIn, frequencyIn, categoryIn, attributePart, attributeIn, minutesOf, flagsOf, callIn, formed, toldBy, toldIn, isOpening};
+ghost use Rattle.timetable.specs.Plan.{openingIn, frequencyIn, categoryIn, attributeIn, minutesOf, flagsOf, callIn, formed, toldBy, toldIn};
 ghost use Rattle.timetable.specs.Layout.{mostFileBytes};
 ghost use Rattle.timetable.specs.declared.Told.the-variants.{Opens, Ranges, Calls};
 ghost use Rattle.told.specs.Marked.{markColumn, openingFits, repeatsFit, blankToEnd, endsFit, detailsFit, detailFits, fieldFits};
 ghost use Rattle.told.specs.Calls.{headFits, tailFits, endFits, callWith};
-
-// "VE" as two bytes: operating days.
-const VE: u32 = b'V' as u32 * 256 + b'E' as u32;
 
 // What a line says.
 pub fn told_in(text: &[u8]) -> Told
@@ -49,20 +46,6 @@ pub fn told_of(kind: Kind, text: &[u8]) -> Told
         return Told::Skip;
     }
     told_by(kind, text)
-}
-
-// Whether a line of a kind opens a service, whatever its form.
-pub fn is_opening(kind: Kind) -> bool
-    ensures { λ r. ⌜ r ≡ isOpening kind ⌝ }
-{
-    match kind {
-        Kind::Opening => true,
-        Kind::Frequency => true,
-        Kind::Category => false,
-        Kind::Attribute => false,
-        Kind::Schedule => false,
-        Kind::Other => false,
-    }
 }
 
 // What a line of a kind says.
@@ -301,17 +284,11 @@ fn attribute_in(text: &[u8]) -> RangeLine
         detail: fields::detail_in(text, 37, 42),
     };
     RangeLine {
-        part: attribute_part(code),
+        part: timetable::attribute_part(code),
         name: code,
         field: columns::number_in(text, 23, 28),
         ends: Ends { from, to },
     }
-}
-
-fn attribute_part(code: u32) -> Part
-    ensures { λ r. ⌜ r ≡ attributePart code ⌝ }
-{
-    if code == VE { Part::Days } else { Part::Extra }
 }
 
 // ---- the ends of a range that were read from a line
