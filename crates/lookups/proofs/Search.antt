@@ -16,7 +16,7 @@ use Rattle.base.proofs.Laws.{tests}
 use Rattle.timetable.specs.Table.{rowsIn}
 use Rattle.timetable.proofs.Rows.{stride-turn}
 use Rattle.table.proofs.Records.{first-word}
-use Rattle.lookups.specs.Lookups.{placeOf}
+use Rattle.lookups.specs.Lookups.{placeOf, readAt, isAt}
 use Rattle.lookups.specs.declared.Found.{Found}
 use Rattle.lookups.specs.declared.Found.the-variants.{At, Nothing}
 
@@ -57,15 +57,6 @@ module _ (w : List ℕ) (s p k : ℕ) (h : 0 < k) (j : 1 ≤ s) (v : p + s * k �
 pub ruleset turns = (tests, find-again, find-here, find-none, find-rest, find-in, find-scaled, find-next)
 
 -- ---- what stands at the place
-
--- what a reader f gives there
-abbrev pub readAt : {X : Type 0} → (List ℕ → X) → List ℕ → Found → Option X
-readAt f w Nothing = none
-readAt f w (At p) = some (f (drop p w))
-
-abbrev pub isAt : Found → Bool
-isAt Nothing = false
-isAt (At p) = true
 
 -- f reads records of a size whose number is their first word
 module _ {X : Type 0} (f : List ℕ → X) (number : X → ℕ) (first : (u : List ℕ) → number (f u) ≡ getD u 0 0) (w : List ℕ) (key s : ℕ) where

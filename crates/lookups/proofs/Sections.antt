@@ -24,13 +24,13 @@ use Rattle.timetable.proofs.Rows.{one-row}
 use Rattle.table.specs.JustTable.{JustTable, headerSound, stopsPlace, interchangesPlace, classesPlace}
 use Rattle.table.proofs.Records.{first-word}
 use Rattle.table.proofs.JustTable.{just-header, just-says, just-word, sections-fit, fields-are, stops-are, interchanges-are, classes-are}
-use Rattle.lookups.specs.Lookups.{placeOf, namePlace, nameIn, timesOf}
+use Rattle.lookups.specs.Lookups.{placeOf, readAt, isAt, namePlace, nameIn, timesOf}
 use Rattle.lookups.specs.declared.Found.{Found}
 use Rattle.lookups.specs.declared.Found.the-variants.{At, Nothing}
 use Rattle.lookups.specs.declared.StopName.{StopName}
 use Rattle.lookups.specs.declared.StopName.the-variants.{Place, Unknown}
 use Rattle.lookups.specs.declared.Times.{Times}
-use Rattle.lookups.proofs.Search.{readAt, isAt, find-there, some-there, place-inside}
+use Rattle.lookups.proofs.Search.{find-there, some-there, place-inside}
 
 -- ---- where the sections of just a table begin
 

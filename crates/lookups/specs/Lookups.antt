@@ -1,8 +1,9 @@
 -- Places in the words of a table, and what the look-ups answer of what the table holds. Assumes nothing.
 use Prim.Native.Nat.{ℕ, zero, suc, _+_}
 use mathlib.Core.List.{List}
-use mathlib.Core.Bool.{cond}
+use mathlib.Core.Bool.{Bool, true, false, cond}
 use mathlib.Core.Option.{Option, none, some}
+use lib.ListN.{drop}
 use lib.Dec.{eqb}
 use Rattle.timetable.specs.Delivery.{StopRecord, Interchange}
 use Rattle.timetable.specs.Table.{word, servicesPlace, tableOf, isTable}
@@ -19,6 +20,15 @@ use Rattle.lookups.specs.declared.Times.{Times}
 unfoldable pub placeOf : List ℕ → ℕ → ℕ → ℕ → ℕ → Found
 placeOf w key size p zero = Nothing
 placeOf w key size p (suc n) = cond (eqb (word w p) key) (At p) (placeOf w key size (p + size) n)
+
+-- what a reader f gives at a place that was found
+abbrev pub readAt : {X : Type 0} → (List ℕ → X) → List ℕ → Found → Option X
+readAt f w Nothing = none
+readAt f w (At p) = some (f (drop p w))
+
+abbrev pub isAt : Found → Bool
+isAt Nothing = false
+isAt (At p) = true
 
 -- the i-th record from place p on, each as long as its first word says
 unfoldable pub recordPlace : List ℕ → ℕ → ℕ → ℕ

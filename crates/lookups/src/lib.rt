@@ -258,7 +258,7 @@ pub fn service_words(w: &[u32], i: u32) -> &[u32]
 // ---- the search
 
 // The first of n records of a size from place `at` on that begins with the key.
-fn find(w: &[u32], at: usize, n: u32, size: usize, key: u32) -> Found
+pub fn find(w: &[u32], at: usize, n: u32, size: usize, key: u32) -> Found
     requires { ⌜ (1 ≤ size) × (at + size * n ≤ length (now w)) ⌝ }
     ensures { λ r. ⌜ r ≡ placeOf (now (w .entry)) key size at n ⌝ }
 {

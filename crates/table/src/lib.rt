@@ -91,7 +91,7 @@ pub fn size(x: u32) -> usize
 // ---- the header
 
 // Whether the header is sound.
-fn header_sound(w: &[u32]) -> bool
+pub fn header_sound(w: &[u32]) -> bool
     requires { ⌜ headerSize ≤ length (now w) ⌝ }
     ensures { λ r. ⌜ r ≡ headerSound (now (w .entry)) ⌝ }
 {
@@ -218,7 +218,7 @@ fn records_sound(w: &[u32], v: u32, stops: u32) -> bool
 }
 
 // Whether the record at the front of the words is sound.
-fn record_sound(w: &[u32], stops: u32) -> bool
+pub fn record_sound(w: &[u32], stops: u32) -> bool
     ensures { λ r. ⌜ r ≡ recordSound stops (now (w .entry)) ⌝ }
 {
     if !sizes_sound(w) {
