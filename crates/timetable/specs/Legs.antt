@@ -33,9 +33,12 @@ runsBy (some f) d = runsOn (f .words) d
 unfoldable pub fieldRuns : List BitField → ℕ → ℕ → Bool
 fieldRuns fields b d = eqb b 0 || runsBy (find (λ (f : BitField). eqb (f .number) b) fields) d
 
--- a leg is operated on a day where a range that covers it has a bit field that runs
+-- a leg is operated on a day where a range that covers it has a bit field that runs: by what says whether a number runs on a day
+abbrev pub operatedBy : (ℕ → ℕ → Bool) → List DayRange → ℕ → ℕ → Bool
+operatedBy runs rs d k = some-of (λ (r : DayRange). covers k (r .legs) && runs (r .field) d) rs
+
 abbrev pub operated : List BitField → List DayRange → ℕ → ℕ → Bool
-operated fields rs d k = some-of (λ (r : DayRange). covers k (r .legs) && fieldRuns fields (r .field) d) rs
+operated fields rs d k = operatedBy (fieldRuns fields) rs d k
 
 -- how many separate stretches: each begins with an operated leg at the start, or after one that is not operated
 unfoldable pub stretches : Bool → List Bool → ℕ
@@ -45,5 +48,8 @@ stretches on (b ∷ bs) = cond (b && not on) 1 0 + stretches b bs
 abbrev pub legCount : Service → ℕ
 legCount s = length (s .calls) - 1
 
+abbrev pub operatedLegsBy : (ℕ → ℕ → Bool) → Service → ℕ → List Bool
+operatedLegsBy runs s d = map (operatedBy runs (s .days) d) (below (legCount s))
+
 abbrev pub operatedLegs : List BitField → Service → ℕ → List Bool
-operatedLegs fields s d = map (operated fields (s .days) d) (below (legCount s))
+operatedLegs fields s d = operatedLegsBy (fieldRuns fields) s d

@@ -10,6 +10,8 @@ pub mod Checks
 pub mod Runs
 pub mod Table
 pub mod Load
+pub mod View
+pub mod Run
 pub mod Questions
 pub mod StopNames
 pub mod Trial

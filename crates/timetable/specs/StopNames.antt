@@ -6,19 +6,15 @@ use mathlib.Core.List.{List}
 use mathlib.Core.Bool.{Bool, cond}
 use mathlib.Core.Option.{Option, none, some}
 use lib.ListN.{length, take, drop}
-use lib.Dec.{leb, eqb}
-use Rattle.base.specs.Lists.{find}
+use lib.Dec.{leb}
 use Rattle.names.specs.Names.{askable, wantedBy, nameFor}
 use Rattle.names.specs.declared.Name.{Name}
 use Rattle.names.specs.declared.Wanted.{Wanted}
 use Rattle.timetable.specs.Delivery.{StopRecord}
-use Rattle.timetable.specs.Table.{tableOf, isTable}
+use Rattle.timetable.specs.View.{View}
+use Rattle.timetable.specs.Questions.{asked}
 use Rattle.timetable.specs.declared.NameAnswer.{NameAnswer}
 use Rattle.timetable.specs.declared.NameAnswer.the-variants.{Part, Refused}
-
--- "Lookups take the first match."
-abbrev pub stopNumbered : ℕ → List StopRecord → Option StopRecord
-stopNumbered n stops = find (λ (s : StopRecord). eqb (s .number) n) stops
 
 -- "inside the bytes given": place and length are exact numbers
 abbrev pub nameInside : List ℕ → StopRecord → Bool
@@ -43,8 +39,9 @@ stopName bahnhof wanted none = Refused 27
 stopName bahnhof wanted (some s) = nameWithin bahnhof wanted s
 
 -- "in the question, in order, 21, 40 language or type outside the standard's list, 27, 41 name not inside the bytes given, 39"
+unfoldable pub stopNameIn : View → List ℕ → ℕ → ℕ → ℕ → NameAnswer
+stopNameIn v bahnhof stop language type =
+    cond (askable language type) (stopName bahnhof (wantedBy language type) (v .named stop)) (Refused 40)
+
 unfoldable pub stopNameAsked : List ℕ → List ℕ → ℕ → ℕ → ℕ → NameAnswer
-stopNameAsked w bahnhof stop language type =
-    cond (isTable w)
-    (cond (askable language type) (stopName bahnhof (wantedBy language type) (stopNumbered stop (tableOf w .stops))) (Refused 40))
-    (Refused 21)
+stopNameAsked w bahnhof stop language type = asked Refused (λ (v : View). stopNameIn v bahnhof stop language type) w

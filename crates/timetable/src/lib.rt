@@ -238,6 +238,13 @@ pub enum NameAnswer {
     Refused(u32),
 }
 
+// What a service does on a day: the stretch that it runs along, by its first call and its number of legs; that it does not run; or the number of the refusal.
+pub enum Course {
+    Along { start: u32, legs: u32 },
+    NotRunning,
+    Refused(u32),
+}
+
 // What a walk answers: how many rows it lists, that the service is not running, or the refusal and the words needed (0 unless 29).
 pub enum Walked {
     Listed(u32),
