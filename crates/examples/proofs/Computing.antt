@@ -19,7 +19,9 @@ use Rattle.timetable.specs.Plan.{toldIn, opens, tolds, saidOn}
 use Rattle.timetable.specs.Ranges.{places, lastPlace, fromPlace, toPlace, legsOf}
 use Rattle.timetable.specs.Service.{headLines, blocks, holding, calledOn, serviceOf}
 use Rattle.timetable.specs.Table.{rowsIn, serviceAt, servicesIn, tableOf, recordSound, recordsSound, headSound, isTable}
-use Rattle.timetable.specs.Questions.{dayAsked, interchangeAtStop, interchangeAsked, firstRefusal, idleLegs, leadingLegs, callRefusal, callsRefusal, rowsOf, journey, walkOf}
+use Rattle.timetable.specs.View.{interchangeAtStop}
+use Rattle.timetable.specs.Run.{firstRefusal, idleLegs, leadingLegs, callRefusal, callsRefusal}
+use Rattle.timetable.specs.Questions.{dayAsked, interchangeAsked, rowsOf, journey, walkOf}
 use Rattle.examples.specs.Trial.{routeR, weekAlong, trial, fridayRows, changingR, changing, plannedListing, dial}
 use Rattle.examples.proofs.Naming.{naming}
 use Rattle.examples.proofs.Classing.{classing}

@@ -22,7 +22,9 @@ use Rattle.timetable.specs.Layout.{headerSize, serviceHead, firstService, mostP
 use Rattle.timetable.specs.Table.{stopPlace, withStop, pointing, serviceSize, serviceWords, tableWords}
 use Rattle.timetable.specs.Table.{recordWords, calls#, categories#, days#, extras#, usedWords, firstDay, periodDays, bitFields#, stops#, interchanges#, services#, servicesPlace, classes#}
 use Rattle.timetable.specs.Table.{tableOf, headSound, classSound, isTable}
-use Rattle.timetable.specs.Questions.{dateOf, dayBy, dayAsked, minutesFor, interchangeAtStop, interchangeAsked, journey, walkOf}
+use Rattle.timetable.specs.View.{View, viewOf}
+use Rattle.timetable.specs.Questions.{asked, dayIn, dayAsked, interchangeIn, interchangeAsked, refused, journey, walkOf}
+use Rattle.timetable.specs.declared.DayAnswer.the-variants.{Refused as DayRefused}
 use Rattle.timetable.specs.declared.InterchangeAnswer.the-variants.{Minutes, Refused as InterchangeRefused}
 use Rattle.timetable.specs.declared.Loaded.{Loaded}
 use Rattle.timetable.specs.declared.Loaded.the-variants.{Accepted, Refused}
@@ -266,28 +268,36 @@ module _ (f : Files) (t : List ℕ) (helper u : ℕ) (e : loaded f (length t) he
 
 -- ---- questions of words that are a table and hold a delivery are questions of that delivery
 
+module _ {X : Type 0} (refusal : ℕ → X) (question : View → X) where
+  pub asked-held : (w : List ℕ) (d : Delivery) → isTable w ≡ true → tableOf w ≡ d → asked refusal question w ≡ question (viewOf d)
+  asked-held w d is holds = rw (is, holds)
+
+  -- of an accepted delivery's table
+  pub asked-accepted : (f : Files) (t : List ℕ) (helper u : ℕ) → loaded f (length t) helper ≡ Accepted u → asked refusal question (written f t helper) ≡ question (viewOf (delivered f))
+  asked-accepted f t helper u e = asked-held (written f t helper) (delivered f) (table-is f t helper u e) (table-holds f t helper u e)
+
 module _ (w : List ℕ) (d : Delivery) (is : isTable w ≡ true) (holds : tableOf w ≡ d) where
-  pub walk-held : (i r day month year : ℕ) → walkOf w i r day month year ≡ journey d i r day month year
+  pub walk-held : (i r day month year : ℕ) → walkOf w i r day month year ≡ journey (viewOf d) i r day month year
   unfolding walkOf
-  walk-held i r day month year = rw (is, holds)
+  walk-held i r day month year = asked-held refused (λ (v : View). journey v i r day month year) w d is holds
 
-  pub day-held : (day month year b : ℕ) → dayAsked w day month year b ≡ dayBy d b (dateOf d day month year)
+  pub day-held : (day month year b : ℕ) → dayAsked w day month year b ≡ dayIn (viewOf d) day month year b
   unfolding dayAsked
-  day-held day month year b = rw (is, holds)
+  day-held day month year b = asked-held DayRefused (λ (v : View). dayIn v day month year b) w d is holds
 
-  pub interchange-held : (n a b : ℕ) → interchangeAsked w n a b ≡ cond (leb a 13 && leb b 13) (cond (hasStop n (d .stops)) (Minutes (minutesFor (interchangeAtStop d n) a b)) (InterchangeRefused 27)) (InterchangeRefused 26)
+  pub interchange-held : (n a b : ℕ) → interchangeAsked w n a b ≡ interchangeIn (viewOf d) n a b
   unfolding interchangeAsked
-  interchange-held n a b = rw (is, holds)
+  interchange-held n a b = asked-held InterchangeRefused (λ (v : View). interchangeIn v n a b) w d is holds
 
 -- of an accepted delivery's table
 module _ (f : Files) (t : List ℕ) (helper u : ℕ) (e : loaded f (length t) helper ≡ Accepted u) where
-  pub walk-accepted : (i r day month year : ℕ) → walkOf (written f t helper) i r day month year ≡ journey (delivered f) i r day month year
+  pub walk-accepted : (i r day month year : ℕ) → walkOf (written f t helper) i r day month year ≡ journey (viewOf (delivered f)) i r day month year
   walk-accepted = walk-held (written f t helper) (delivered f) (table-is f t helper u e) (table-holds f t helper u e)
 
-  pub day-accepted : (day month year b : ℕ) → dayAsked (written f t helper) day month year b ≡ dayBy (delivered f) b (dateOf (delivered f) day month year)
+  pub day-accepted : (day month year b : ℕ) → dayAsked (written f t helper) day month year b ≡ dayIn (viewOf (delivered f)) day month year b
   day-accepted = day-held (written f t helper) (delivered f) (table-is f t helper u e) (table-holds f t helper u e)
 
-  pub interchange-accepted : (n a b : ℕ) → interchangeAsked (written f t helper) n a b ≡ cond (leb a 13 && leb b 13) (cond (hasStop n (delivered f .stops)) (Minutes (minutesFor (interchangeAtStop (delivered f) n) a b)) (InterchangeRefused 27)) (InterchangeRefused 26)
+  pub interchange-accepted : (n a b : ℕ) → interchangeAsked (written f t helper) n a b ≡ interchangeIn (viewOf (delivered f)) n a b
   interchange-accepted = interchange-held (written f t helper) (delivered f) (table-is f t helper u e) (table-holds f t helper u e)
 
 -- ---- No. 13: "Table and answers stay the same": with helper words enough a load answers by the first offence of all, then 20, as it did without them

@@ -17,8 +17,11 @@ use Rattle.timetable.specs.Layout.{rowSize}
 use Rattle.timetable.specs.Delivery.{Period, CategoryRange, DayRange, Service, Delivery}
 use Rattle.timetable.specs.Legs.{covers, covering, fieldKnown, operated, stretches, legCount, operatedLegs}
 use Rattle.timetable.specs.Table.{tableOf, isTable}
-use Rattle.timetable.specs.Questions.{refuse, Dated, undated, dated, datedBy, dateOf, legRefusal, firstRefusal, idleLegs, leadingLegs, stretchOf, stretchCalls, timesNeeded, neededLast, callRefusal, callsRefusal}
-use Rattle.timetable.specs.Questions.{Journey, refused, idle, rows, journeyBy, stretchJourney, onDay, serviceJourney, indexed, datedJourney, journey, walkOf, walkedBy, walked}
+use Rattle.timetable.specs.Run.{refuse, legRefusal, firstRefusal, idleLegs, leadingLegs, stretchOf, stretchCalls, timesNeeded, neededLast, callRefusal, callsRefusal}
+use Rattle.timetable.specs.View.{viewOf, serviceBy}
+use Rattle.timetable.specs.Questions.{Dated, undated, dated, datedBy, dateOf}
+use Rattle.timetable.specs.Questions.{Journey, refused, idle, rows, journey, walkOf, walkedBy, walked}
+use Rattle.timetable.proofs.Stages.{journeyBy, stretchJourney, onDay, serviceJourney, indexed, datedJourney, journey-stages}
 use Rattle.timetable.specs.declared.Call.{Call}
 use Rattle.timetable.specs.declared.Walked.{Walked}
 use Rattle.timetable.specs.declared.Walked.the-variants.{Listed, Refused}
@@ -56,11 +59,11 @@ date-refusal p (Day k) n e = go (leb (p .start) k && ltb k (p .start + p .n)) e
     go false e = let z : _≡_ {A = ℕ} 23 n = cc in subst Refusal z refl
 
 module _ (d : Delivery) (s : Service) where
-  by-leg : (ks : List ℕ) → Refusals (firstRefusal (legRefusal d s) ks)
+  by-leg : (ks : List ℕ) → Refusals (firstRefusal (legRefusal (viewOf d) s) ks)
   unfolding firstRefusal isWalkRefusal some-of
   by-leg [] n e = apart (cc)
   by-leg (k ∷ ks) n e =
-      one-of (legRefusal d s k) (firstRefusal (legRefusal d s) ks) e (λ e.
+      one-of (legRefusal (viewOf d) s k) (firstRefusal (legRefusal (viewOf d) s) ks) e (λ e.
       one-of _ _ e (by-test (not (eqb (covering (λ (r : DayRange). r .legs) (s .days) k) 1)) 34 refl n)
       (by-test (not (every (λ (r : DayRange). not (covers k (r .legs)) || fieldKnown (r .field) (d .fields)) (s .days))) 31 refl n))
       (by-leg ks n)
@@ -101,7 +104,7 @@ module _ (d : Delivery) (i : ℕ) (on : Dated) where
     n : ℕ
     n = leadingLegs (drop a bs)
 
-    stretch-meant : stretches false bs ≡ 1 → Meant d i on (stretchJourney d s (lateness (s .opening) r) (stretchOf bs))
+    stretch-meant : stretches false bs ≡ 1 → Meant d i on (stretchJourney (viewOf d) s (lateness (s .opening) r) (stretchOf bs))
     unfolding a n bs
     stretch-meant e =
         let one = one-stretch bs e in
@@ -109,34 +112,34 @@ module _ (d : Delivery) (i : ℕ) (on : Dated) where
         after (callsRefusal s a n 0 0 (stretchCalls s (stretchOf bs))) (by-call d s a n 0 0 (stretchCalls s (stretchOf bs)))
         (a-stretch found day (one-unbroken d s r k a n one) (rows-size d s a n (lateness (s .opening) r) 0 (stretchCalls s (stretchOf bs)) ∙ ap (λ (m : ℕ). rowSize * m) l))
 
-    day-meant : Meant d i on (onDay d s (lateness (s .opening) r) (operatedLegs (d .fields) s k))
+    day-meant : Meant d i on (onDay (viewOf d) s (lateness (s .opening) r) (operatedLegs (d .fields) s k))
     unfolding bs isWalkRefusal some-of
     day-meant =
         let t = stretches false bs in
-        by-eqb (λ b. Meant d i on (cond b idle (cond (leb 2 t) (refused 35) (stretchJourney d s (lateness (s .opening) r) (stretchOf bs))))) t 0
+        by-eqb (λ b. Meant d i on (cond b idle (cond (leb 2 t) (refused 35) (stretchJourney (viewOf d) s (lateness (s .opening) r) (stretchOf bs))))) t 0
         (λ e. not-running found day (runs-nowhere d s k e))
-        (λ z. by-leb (λ b. Meant d i on (cond b (refused 35) (stretchJourney d s (lateness (s .opening) r) (stretchOf bs)))) 2 t
+        (λ z. by-leb (λ b. Meant d i on (cond b (refused 35) (stretchJourney (viewOf d) s (lateness (s .opening) r) (stretchOf bs)))) 2 t
         (λ h. not-given 35 refl)
         (λ h. stretch-meant (omega (arith, z))))
 
-    service-meant : Meant d i on (serviceJourney d s r k)
+    service-meant : Meant d i on (serviceJourney (viewOf d) s r k)
     unfolding isWalkRefusal some-of
     service-meant =
         go (not (hasRun (s .opening) r))
       where
-        go : (t : Bool) → Meant d i on (cond t (refused 25) (journeyBy (firstRefusal (legRefusal d s) (below (legCount s))) (onDay d s (lateness (s .opening) r) (operatedLegs (d .fields) s k))))
+        go : (t : Bool) → Meant d i on (cond t (refused 25) (journeyBy (firstRefusal (legRefusal (viewOf d) s) (below (legCount s))) (onDay (viewOf d) s (lateness (s .opening) r) (operatedLegs (d .fields) s k))))
         go true = not-given 25 refl
-        go false = after (firstRefusal (legRefusal d s) (below (legCount s))) (by-leg d s (below (legCount s))) day-meant
+        go false = after (firstRefusal (legRefusal (viewOf d) s) (below (legCount s))) (by-leg d s (below (legCount s))) day-meant
 
-any-journey : (d : Delivery) (i r day m y : ℕ) → Meant d i (dateOf d day m y) (journey d i r day m y)
-unfolding journey isWalkRefusal some-of
-any-journey d i r day m y = go (dateOf d day m y) refl
+any-journey : (d : Delivery) (i r day m y : ℕ) → Meant d i (dateOf (viewOf d) day m y) (journey (viewOf d) i r day m y)
+unfolding isWalkRefusal some-of
+any-journey d i r day m y = subst (Meant d i (dateOf (viewOf d) day m y)) (journey-stages (viewOf d) i r day m y) (go (dateOf (viewOf d) day m y) refl)
   where
-    indexed-meant : (k : ℕ) → dateOf d day m y ≡ dated k → (o : Option Service) → getElem? (d .services) i ≡ o → Meant d i (dateOf d day m y) (indexed d o r k)
+    indexed-meant : (k : ℕ) → dateOf (viewOf d) day m y ≡ dated k → (o : Option Service) → getElem? (d .services) i ≡ o → Meant d i (dateOf (viewOf d) day m y) (indexed (viewOf d) (serviceBy o) r k)
     indexed-meant k q none e = not-given 24 refl
-    indexed-meant k q (some s) e = service-meant d i (dateOf d day m y) s r k e q
+    indexed-meant k q (some s) e = service-meant d i (dateOf (viewOf d) day m y) s r k e q
 
-    go : (t : Dated) → dateOf d day m y ≡ t → Meant d i (dateOf d day m y) (datedJourney d i r t)
+    go : (t : Dated) → dateOf (viewOf d) day m y ≡ t → Meant d i (dateOf (viewOf d) day m y) (datedJourney (viewOf d) i r t)
     go (undated n) q = not-given n (date-refusal (d .period) (dayOf day m y) n q)
     go (dated k) q = indexed-meant k q (getElem? (d .services) i) refl
 
@@ -150,11 +153,11 @@ answered {d} {i} {on} (a-stretch {legs = legs} {ws = ws} s k u z) room =
     (λ l. rw z (short s k u (omega arith)))
     (λ l. let n : length ws / rowSize ≡ legs + 1 = omega arith in rw n (lists s k u (omega arith)))
 
-pub any-walk : (w : List ℕ) (i r d m y room : ℕ) → AnyWalk (tableOf w) i (dateOf (tableOf w) d m y) room (walked w i r d m y room)
+pub any-walk : (w : List ℕ) (i r d m y room : ℕ) → AnyWalk (tableOf w) i (dateOf (viewOf (tableOf w)) d m y) room (walked w i r d m y room)
 unfolding walkOf isWalkRefusal some-of
 any-walk w i r d m y room = go (isTable w)
   where
-    go : (t : Bool) → AnyWalk (tableOf w) i (dateOf (tableOf w) d m y) room (walkedBy (cond t (journey (tableOf w) i r d m y) (refused 21)) room)
+    go : (t : Bool) → AnyWalk (tableOf w) i (dateOf (viewOf (tableOf w)) d m y) room (walkedBy (cond t (journey (viewOf (tableOf w)) i r d m y) (refused 21)) room)
     go true = answered (any-journey (tableOf w) i r d m y) room
     go false = refuses 21 refl
 
@@ -162,7 +165,7 @@ any-walk w i r d m y room = go (isTable w)
 pub two-rows : (w : List ℕ) (i r d m y room : ℕ) → TwoRows (walked w i r d m y room)
 two-rows w i r d m y room = go (any-walk w i r d m y room)
   where
-    go : {a : Walked} → AnyWalk (tableOf w) i (dateOf (tableOf w) d m y) room a → TwoRows a
+    go : {a : Walked} → AnyWalk (tableOf w) i (dateOf (viewOf (tableOf w)) d m y) room a → TwoRows a
     go (lists s k u h) = let l = u .some-leg in omega arith
     go (short s k u h) = tt
     go (nowhere s k u) = tt

@@ -28,7 +28,7 @@ use Rattle.timetable.specs.Legs.{covers}
 use Rattle.timetable.specs.Checks.{categoryListed, toldOffence, ownOffence}
 use Rattle.timetable.specs.Load.{delivered}
 use Rattle.timetable.specs.Table.{classSound}
-use Rattle.timetable.specs.Questions.{classBy, classFor}
+use Rattle.timetable.specs.View.{classBy, classFor}
 use Rattle.timetable.specs.declared.Call.{Call}
 use Rattle.timetable.specs.declared.Offence.{Offence}
 use Rattle.timetable.specs.declared.Part.{Part}

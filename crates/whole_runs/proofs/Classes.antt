@@ -16,7 +16,8 @@ use Rattle.timetable.specs.Layout.{mostClass}
 use Rattle.timetable.specs.Delivery.{Files, CategoryClass, Service}
 use Rattle.timetable.specs.Files.{hasStop, hasClass}
 use Rattle.timetable.specs.Load.{delivered, loaded, written}
-use Rattle.timetable.specs.Questions.{minutesFor, interchangeAtStop, interchangeAsked, classFor, betweenAsked}
+use Rattle.timetable.specs.View.{interchangeAtStop, classFor}
+use Rattle.timetable.specs.Questions.{minutesFor, interchangeIn, interchangeAsked, betweenIn, betweenAsked}
 use Rattle.timetable.specs.declared.InterchangeAnswer.{InterchangeAnswer}
 use Rattle.timetable.specs.declared.InterchangeAnswer.the-variants.{Minutes, Refused}
 use Rattle.timetable.specs.declared.Loaded.the-variants.{Accepted}
@@ -31,7 +32,7 @@ is-listed f code x = let e = x .once in counted-some (λ (c : CategoryClass). eq
 
 module _ (f : Files) (t : List ℕ) (helper u : ℕ) (e : loaded f (length t) helper ≡ Accepted u) where
   pub between-accepted : (n a b : ℕ) → betweenAsked (written f t helper) n a b ≡ cond (hasStop n (delivered f .stops)) (cond (hasClass a (delivered f .classes) && hasClass b (delivered f .classes)) (Minutes (minutesFor (interchangeAtStop (delivered f) n) (classFor (delivered f) a) (classFor (delivered f) b))) (Refused 38)) (Refused 27)
-  unfolding betweenAsked
+  unfolding betweenAsked betweenIn
   between-accepted n a b = rw (table-is f t helper u e, table-holds f t helper u e)
 
   module _ (n : ℕ) (known : hasStop n (delivered f .stops) ≡ true) where
@@ -45,7 +46,7 @@ module _ (f : Files) (t : List ℕ) (helper u : ℕ) (e : loaded f (length t) he
 
     -- as the question between their two classes is
     pub between-classes : (a b : ℕ) (x : OwnClass f a) (y : OwnClass f b) → betweenAsked (written f t helper) n a b ≡ interchangeAsked (written f t helper) n (x .class) (y .class)
-    unfolding between-answered
+    unfolding between-answered interchangeIn interchangeAtStop
     between-classes a b x y =
         between-answered a b x y .answer
         ∙ sym (interchange-accepted f t helper u e n (x .class) (y .class) ∙ rw (le-leb (x .class) mostClass (x .most), le-leb (y .class) mostClass (y .most), known) refl)

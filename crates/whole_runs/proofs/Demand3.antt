@@ -21,7 +21,10 @@ use Rattle.timetable.specs.Legs.{covers, operated, fieldRuns, stretches, legCou
 use Rattle.timetable.specs.Load.{delivered, offence, onto, loaded, written}
 use Rattle.timetable.specs.Table.{tableWords}
 use Rattle.timetable.specs.Table.{tableOf, isTable}
-use Rattle.timetable.specs.Questions.{dated, datedBy, legRefusal, firstRefusal, idleLegs, leadingLegs, stretchOf, stretchCalls, callsRefusal, rowsOf, Journey, refused, idle, rows, journeyBy, stretchJourney, onDay, serviceJourney, indexed, datedJourney, journey, walkOf, walkedBy, walked, rowsBy, walkRows}
+use Rattle.timetable.specs.Run.{legRefusal, firstRefusal, idleLegs, leadingLegs, stretchOf, stretchCalls, callsRefusal}
+use Rattle.timetable.specs.View.{viewOf, serviceBy}
+use Rattle.timetable.specs.Questions.{dated, datedBy, rowsOf, Journey, refused, idle, rows, journey, walkOf, walkedBy, walked, rowsBy, walkRows}
+use Rattle.timetable.proofs.Stages.{journeyBy, stretchJourney, onDay, serviceJourney, indexed, datedJourney, journey-stages}
 use Rattle.timetable.specs.Layout.{rowSize}
 use Rattle.timetable.specs.declared.Loaded.{Loaded}
 use Rattle.timetable.specs.declared.Loaded.the-variants.{Accepted}
@@ -52,7 +55,7 @@ goes-on P false (some o) j x p q h = apart (cc)
 goes-on P true o j x p q h = clash (sym p)
 
 module _ (d : Delivery) (s : Service) (h : Right d s) (known : Interchanges d) (r k : ℕ) where
-  day-outcome : k < d .period .n → Outcome d s r k (onDay d s (lateness (s .opening) r) (operatedLegs (d .fields) s k))
+  day-outcome : k < d .period .n → Outcome d s r k (onDay (viewOf d) s (lateness (s .opening) r) (operatedLegs (d .fields) s k))
   day-outcome l = go (eqb (stretches false bs) 0) refl
     where
       bs : List Bool
@@ -64,21 +67,21 @@ module _ (d : Delivery) (s : Service) (h : Right d s) (known : Interchanges d) (
       n : ℕ
       n = leadingLegs (drop a bs)
 
-      go : (t : Bool) → eqb (stretches false bs) 0 ≡ t → Outcome d s r k (cond t idle (cond (leb 2 (stretches false bs)) (refused 35) (stretchJourney d s (lateness (s .opening) r) (stretchOf bs))))
+      go : (t : Bool) → eqb (stretches false bs) 0 ≡ t → Outcome d s r k (cond t idle (cond (leb 2 (stretches false bs)) (refused 35) (stretchJourney (viewOf d) s (lateness (s .opening) r) (stretchOf bs))))
       go true q = not-running (runs-nowhere d s k (eqb-true (stretches false bs) 0 q))
       go false q =
           let w = h .whole k l in
           let b = leb-false 2 (stretches false bs) w in
           let z = eqb-false (stretches false bs) 0 q in
           let one = one-stretch bs (omega (arith, z)) in
-          goes-on (Outcome d s r k) (leb 2 (stretches false bs)) (callsRefusal s a n 0 0 (stretchCalls s (stretchOf bs))) (rows (rowsOf d s a n (lateness (s .opening) r) 0 (stretchCalls s (stretchOf bs)))) (refused 35)
+          goes-on (Outcome d s r k) (leb 2 (stretches false bs)) (callsRefusal s a n 0 0 (stretchCalls s (stretchOf bs))) (rows (rowsOf (viewOf d) s a n (lateness (s .opening) r) 0 (stretchCalls s (stretchOf bs)))) (refused 35)
           w
           (stretch-resolved d s h a n (inside d s r k a n one))
           (runs (stretched d s r k a n one h known))
 
-  service-outcome : hasRun (s .opening) r ≡ true → k < d .period .n → Outcome d s r k (serviceJourney d s r k)
+  service-outcome : hasRun (s .opening) r ≡ true → k < d .period .n → Outcome d s r k (serviceJourney (viewOf d) s r k)
   service-outcome l m =
-      goes-on (Outcome d s r k) (not (hasRun (s .opening) r)) (firstRefusal (legRefusal d s) (below (legCount s))) (onDay d s (lateness (s .opening) r) (operatedLegs (d .fields) s k)) (refused 25)
+      goes-on (Outcome d s r k) (not (hasRun (s .opening) r)) (firstRefusal (legRefusal (viewOf d) s) (below (legCount s))) (onDay (viewOf d) s (lateness (s .opening) r) (operatedLegs (d .fields) s k)) (refused 25)
       (ap not l) (legs-resolved d s h) (day-outcome m)
 
 -- ---- what an outcome excludes
@@ -103,11 +106,11 @@ module _ {d : Delivery} {s : Service} {r k : ℕ} where
 date-in : (p : Period) (o : Date) (day : ℕ) → o ≡ Day day → p .start ≤ day → day < p .start + p .n → datedBy p o ≡ dated (day - p .start)
 date-in p o day e a b = rw (e, le-leb (p .start) day a, lt-ltb day (p .start + p .n) b)
 
-journey-is : (f : Files) (i r d m y day : ℕ) (s : Service) → Asked f i r d m y s day → journey (delivered f) i r d m y ≡ serviceJourney (delivered f) s r (day - delivered f .period .start)
-unfolding journey
+journey-is : (f : Files) (i r d m y day : ℕ) (s : Service) → Asked f i r d m y s day → journey (viewOf (delivered f)) i r d m y ≡ serviceJourney (viewOf (delivered f)) s r (day - delivered f .period .start)
 journey-is f i r d m y day s a =
-    ap (datedJourney (delivered f) i r) (date-in (delivered f .period) (dayOf d m y) day (a .date) (a .from) (a .until))
-    ∙ ap (λ (o : Option Service). indexed (delivered f) o r (day - delivered f .period .start)) (a .service)
+    sym (journey-stages (viewOf (delivered f)) i r d m y)
+    ∙ ap (datedJourney (viewOf (delivered f)) i r) (date-in (delivered f .period) (dayOf d m y) day (a .date) (a .from) (a .until))
+    ∙ ap (λ (o : Option Service). indexed (viewOf (delivered f)) (serviceBy o) r (day - delivered f .period .start)) (a .service)
 
 -- a leg operates exactly when the bit field of its one range runs
 leg-day : (d : Delivery) (s : Service) → Right d s → (k j : ℕ) → j < legCount s

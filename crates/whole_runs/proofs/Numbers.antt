@@ -40,7 +40,8 @@ use Rattle.timetable.specs.Legs.{fieldKnown, fieldRuns, legCount}
 use Rattle.timetable.specs.Checks.{most, categoryListed, toldOffence, isNone, eachOnce, torn, timesStated, timesRise, lastStated, timesFirst, endsFirst, legsFirst, serviceChecks, serviceFirst, servicesFirst, planFirst}
 use Rattle.timetable.specs.Load.{delivered, Where, inFile, tooLong, lengthOffence, contentOffence, helperNeeded, refusedOr, shortOr, onto, loaded, helpedBy, helped}
 use Rattle.timetable.specs.Layout.{mostFileBytes, mostClass, mostCalls}
-use Rattle.timetable.specs.Questions.{minutesFor, interchangeAtStop, dateOf, Dated, undated, dated, dayBy, dayAsked, interchangeAsked, classFor, betweenAsked, walked}
+use Rattle.timetable.specs.View.{viewOf, interchangeAtStop, classFor}
+use Rattle.timetable.specs.Questions.{minutesFor, dateOf, Dated, undated, dated, dayBy, dayIn, dayAsked, interchangeIn, interchangeAsked, betweenIn, betweenAsked, walked}
 use Rattle.timetable.specs.declared.Call.{Call}
 use Rattle.timetable.specs.declared.RangeLine.{RangeLine}
 use Rattle.timetable.specs.declared.Told.{Told}
@@ -369,7 +370,7 @@ module _ (f : Files) (h : List ℕ) where
   helper-accepted room u e = let a = accepted f room (length h) u e in zeros (a .short-files) (le-ltb (length h) (helperNeeded f) (a .helper-room))
 
 pub day-numbered : (w : List ℕ) (d m y b number : ℕ) → dayAsked w d m y b ≡ DayRefused number → 1 ≤ number
-unfolding dayAsked
+unfolding dayAsked dayIn
 day-numbered w d m y b number e = go (isTable w) e
   where
     known : (t u : Bool) → cond t (cond u Runs Idle) (DayRefused 28) ≡ DayRefused number → 1 ≤ number
@@ -377,16 +378,16 @@ day-numbered w d m y b number e = go (isTable w) e
     known true false e = apart (cc)
     known false u e = let z : _≡_ {A = ℕ} 28 number = cc in omega (arith, z)
 
-    on : (t : Dated) → dateOf (tableOf w) d m y ≡ t → dayBy (tableOf w) b t ≡ DayRefused number → 1 ≤ number
+    on : (t : Dated) → dateOf (viewOf (tableOf w)) d m y ≡ t → dayBy (viewOf (tableOf w)) b t ≡ DayRefused number → 1 ≤ number
     on (undated n) q e = let z : n ≡ number = cc in let p = refusal-numbered n (date-refusal (tableOf w .period) (dayOf d m y) n q) in omega (arith, z, p)
     on (dated k) q e = known (fieldKnown b (tableOf w .fields)) (fieldRuns (tableOf w .fields) b k) e
 
-    go : (t : Bool) → cond t (dayBy (tableOf w) b (dateOf (tableOf w) d m y)) (DayRefused 21) ≡ DayRefused number → 1 ≤ number
-    go true e = on (dateOf (tableOf w) d m y) refl e
+    go : (t : Bool) → cond t (dayBy (viewOf (tableOf w)) b (dateOf (viewOf (tableOf w)) d m y)) (DayRefused 21) ≡ DayRefused number → 1 ≤ number
+    go true e = on (dateOf (viewOf (tableOf w)) d m y) refl e
     go false e = let z : _≡_ {A = ℕ} 21 number = cc in omega (arith, z)
 
 pub interchange-numbered : (w : List ℕ) (n a b number : ℕ) → interchangeAsked w n a b ≡ InterchangeRefused number → 1 ≤ number
-unfolding interchangeAsked
+unfolding interchangeAsked interchangeIn
 interchange-numbered w n a b number e = go (isTable w) (leb a mostClass && leb b mostClass) (hasStop n (tableOf w .stops)) e
   where
     go : (t u v : Bool)
@@ -398,7 +399,7 @@ interchange-numbered w n a b number e = go (isTable w) (leb a mostClass && leb b
     go false u v e = let z : _≡_ {A = ℕ} 21 number = cc in omega (arith, z)
 
 pub between-numbered : (w : List ℕ) (n a b number : ℕ) → betweenAsked w n a b ≡ InterchangeRefused number → 1 ≤ number
-unfolding betweenAsked
+unfolding betweenAsked betweenIn
 between-numbered w n a b number e = go (isTable w) (hasStop n (tableOf w .stops)) (hasClass a (tableOf w .classes) && hasClass b (tableOf w .classes)) e
   where
     go : (t u v : Bool)
@@ -412,7 +413,7 @@ between-numbered w n a b number e = go (isTable w) (hasStop n (tableOf w .stops)
 pub walk-numbered : (w : List ℕ) (i r d m y room number needed : ℕ) → walked w i r d m y room ≡ WalkRefused number needed → 1 ≤ number
 walk-numbered w i r d m y room number needed e = go (any-walk w i r d m y room) e
   where
-    go : {a : Walked} → AnyWalk (tableOf w) i (dateOf (tableOf w) d m y) room a → a ≡ WalkRefused number needed → 1 ≤ number
+    go : {a : Walked} → AnyWalk (tableOf w) i (dateOf (viewOf (tableOf w)) d m y) room a → a ≡ WalkRefused number needed → 1 ≤ number
     go (lists s k u h) e = apart (cc)
     go (short s k u h) e = let z : _≡_ {A = ℕ} 29 number = cc in omega (arith, z)
     go (nowhere s k u) e = apart (cc)

@@ -20,9 +20,13 @@ use Rattle.timetable.specs.Legs.{stretches, legCount, operatedLegs}
 use Rattle.timetable.specs.Load.{onto, loaded, writtenBy, written, delivered}
 use Rattle.timetable.specs.Runs.{hasRun, lateness}
 use Rattle.timetable.specs.Table.{stopPlace, withStop, pointing, serviceWords, tableWords, stopAt, stops#, stopsAt, tableOf, isTable}
-use Rattle.timetable.specs.Questions.{Dated, undated, dated, dateOf, dayAsked, interchangeAsked, betweenAsked, legRefusal, firstRefusal, idleLegs, leadingLegs, neededLast, callsRefusal, rowsOf}
-use Rattle.timetable.specs.Questions.{Journey, refused, idle, rows, journeyBy, serviceJourney, indexed, datedJourney, journey, walkOf, walkedBy, walked, rowsBy}
 use Rattle.timetable.specs.StopNames.{stopNameAsked}
+use Rattle.timetable.specs.View.{View, viewOf, serviceBy}
+use Rattle.timetable.specs.Run.{legRefusal, firstRefusal, idleLegs, leadingLegs, neededLast, callsRefusal, courseBy, stretchCourse, dayCourse, courseOn, serviceCourse, runAlong, runBy, runOf}
+use Rattle.timetable.specs.Questions.{Dated, undated, dated, dateOf, dayAsked, interchangeAsked, betweenAsked}
+use Rattle.timetable.specs.Questions.{Journey, rowsAlong, datedRun, journey, walkOf, walkedBy, walked, rowsBy}
+use Rattle.timetable.specs.declared.Course.{Course}
+use Rattle.timetable.specs.declared.Course.the-variants.{Along, NotRunning as Idle, Refused as Barred}
 use Rattle.timetable.specs.declared.Call.{Call}
 use Rattle.timetable.specs.declared.Loaded.{Loaded}
 use Rattle.timetable.specs.declared.Loaded.the-variants.{Accepted}
@@ -31,7 +35,7 @@ use Rattle.timetable.specs.declared.Walked.the-variants.{Refused}
 use Rattle.timetable.proofs.Records.{service-length}
 use Rattle.timetable.proofs.Rows.{length-rows}
 use Rattle.whole_runs.specs.OldTable.{oldTableWords, oldTableOf, oldIsTable, oldLoaded, oldWritten, oldDayAsked, oldInterchangeAsked, oldBetweenAsked, oldStopNameAsked}
-use Rattle.whole_runs.specs.OldTable.{oldCallsRefusal, oldIndexed, oldDatedJourney, oldServiceJourney, oldJourney, oldWalkOf, pointsBelow, AsBefore, TwoTables}
+use Rattle.whole_runs.specs.OldTable.{oldCallsRefusal, oldRunBy, oldDatedRun, oldServiceCourse, oldJourney, oldWalkOf, pointsBelow, AsBefore, TwoTables}
 use Rattle.whole_runs.specs.Promise.{isWalkRefusal, AnyWalk, lists, short, nowhere, refuses}
 use Rattle.whole_runs.proofs.Lists.{all-drop, all-elem}
 use Rattle.whole_runs.proofs.Places.{StopsKnown, services-found, pointed, words-pointed, table-by-places}
@@ -72,29 +76,30 @@ module _ (d : Delivery) (s : Service) where
   all-take (suc k) [] h = nil
   all-take (suc k) (c ∷ cs) (cons h t) = cons h (all-take k cs t)
 
-  service-same : (r k : ℕ) → StopsKnown (d .stops) s → oldServiceJourney d s r k ≡ serviceJourney d s r k
-  service-same r k h =
+  course-same : (r k : ℕ) → StopsKnown (d .stops) s → oldServiceCourse d s r (operatedLegs (d .fields) s k) ≡ serviceCourse (viewOf d) s r k
+  unfolding serviceCourse courseOn dayCourse stretchCourse
+  course-same r k h =
       let bs = operatedLegs (d .fields) s k in
       let a = idleLegs bs in
       let n = leadingLegs (drop a bs) in
       let cs = take (n + 1) (drop a (s .calls)) in
       let known = all-take (n + 1) (drop a (s .calls)) (all-drop (λ (c : Call). hasStop (c .stop) (d .stops) ≡ true) a (s .calls) h) in
       ap
-      (λ (o : Option ℕ). cond (not (hasRun (s .opening) r)) (refused 25)
-      (journeyBy (firstRefusal (legRefusal d s) (below (legCount s)))
-      (cond (eqb (stretches false bs) 0) idle (cond (leb 2 (stretches false bs)) (refused 35) (journeyBy o (rows (rowsOf d s a n (lateness (s .opening) r) 0 cs)))))))
+      (λ (o : Option ℕ). cond (not (hasRun (s .opening) r)) (Barred 25)
+      (courseBy (firstRefusal (legRefusal (viewOf d) s) (below (legCount s)))
+      (cond (eqb (stretches false bs) 0) Idle (cond (leb 2 (stretches false bs)) (Barred 35) (courseBy o (Along a n))))))
       (calls-same a n 0 0 cs known)
 
 module _ (d : Delivery) (known : All (StopsKnown (d .stops)) (d .services)) where
-  pub journey-same : (i r day month year : ℕ) → oldJourney d i r day month year ≡ journey d i r day month year
-  unfolding oldJourney journey
-  journey-same i r day month year = on (dateOf d day month year)
+  pub journey-same : (i r day month year : ℕ) → oldJourney d i r day month year ≡ journey (viewOf d) i r day month year
+  unfolding oldJourney journey runOf
+  journey-same i r day month year = ap (rowsAlong (viewOf d)) (on (dateOf (viewOf d) day month year))
     where
-      found : (k : ℕ) (o : Option Service) → getElem? (d .services) i ≡ o → oldIndexed d o r k ≡ indexed d o r k
+      found : (k : ℕ) (o : Option Service) → getElem? (d .services) i ≡ o → oldRunBy d o r k ≡ runBy (viewOf d) (serviceBy o) r k
       found k none e = refl
-      found k (some s) e = service-same d s r k (all-elem (StopsKnown (d .stops)) (d .services) i s known e)
+      found k (some s) e = ap (runAlong s (lateness (s .opening) r)) (course-same d s r k (all-elem (StopsKnown (d .stops)) (d .services) i s known e))
 
-      on : (t : Dated) → oldDatedJourney d i r t ≡ datedJourney d i r t
+      on : (t : Dated) → oldDatedRun d i r t ≡ datedRun (viewOf d) i r t
       on (undated n) = refl
       on (dated k) = found k (getElem? (d .services) i) refl
 
@@ -111,7 +116,7 @@ module _ (w : List ℕ) (e : isTable w ≡ true) where
       services-found stops (oldTableOf w .services) (rw n places)
 
   -- So with the test for 32 every walk would be the same.
-  pub test-passes : (i r day month year : ℕ) → oldJourney (tableOf w) i r day month year ≡ journey (tableOf w) i r day month year
+  pub test-passes : (i r day month year : ℕ) → oldJourney (tableOf w) i r day month year ≡ journey (viewOf (tableOf w)) i r day month year
   test-passes = journey-same (tableOf w) stops-found
 
 -- "show that 32 can no longer occur": not on any words, with any room
@@ -119,7 +124,7 @@ pub no-32 : (w : List ℕ) (i r day month year room needed : ℕ) → walked w i
 unfolding isWalkRefusal some-of
 no-32 w i r day month year room needed = go (any-walk w i r day month year room)
   where
-    go : {a : Walked} → AnyWalk (tableOf w) i (dateOf (tableOf w) day month year) room a → a ≡ Refused 32 needed → ⊥
+    go : {a : Walked} → AnyWalk (tableOf w) i (dateOf (viewOf (tableOf w)) day month year) room a → a ≡ Refused 32 needed → ⊥
     go (lists s k u h) e = apart (cc)
     go (short s k u h) e = let z : _≡_ {A = ℕ} 29 32 = cc in omega (arith, z)
     go (nowhere s k u) e = apart (cc)

@@ -16,7 +16,7 @@ use Rattle.timetable.specs.Offences.{first}
 use Rattle.timetable.specs.Files.{Held, skip, broken, held, listed, held-in, heldOffence, bitFieldOf, bitFieldOffence, bitFieldsFirst, stopOf, namedStopOffence, stopsFirst, hasInterchange, interchangeOf, interchangeOffence, interchangesFirst, classOf, tariffOf, classOffence, classesFirst}
 use Rattle.timetable.specs.Legs.{fieldRuns}
 use Rattle.timetable.specs.Load.{delivered}
-use Rattle.timetable.specs.Questions.{interchangeBy, interchangeAtStop}
+use Rattle.timetable.specs.View.{interchangeBy, interchangeAtStop}
 use Rattle.timetable.specs.declared.Offence.{Offence}
 use Rattle.timetable.proofs.Offences.{then-none, given-none}
 use Rattle.whole_runs.proofs.Lists.{all-append, all-to}

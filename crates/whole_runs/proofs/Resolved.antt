@@ -16,7 +16,8 @@ use Rattle.timetable.specs.Offences.{_<|>_}
 use Rattle.timetable.specs.Ranges.{hasArrival, hasDeparture}
 use Rattle.timetable.specs.Legs.{fieldKnown, covers, covering, legCount}
 use Rattle.timetable.specs.Checks.{timesStated, timesRise, lastStated}
-use Rattle.timetable.specs.Questions.{refuse, legRefusal, firstRefusal, timesNeeded, neededLast, callRefusal, callsRefusal}
+use Rattle.timetable.specs.View.{viewOf}
+use Rattle.timetable.specs.Run.{refuse, legRefusal, firstRefusal, timesNeeded, neededLast, callRefusal, callsRefusal}
 use Rattle.timetable.specs.declared.Call.{Call}
 use Rattle.whole_runs.proofs.Lists.{or-second, all-to, every-all}
 use Rattle.whole_runs.proofs.Lines.{FieldKnown}
@@ -42,13 +43,13 @@ no-refusal f (suc n) k h = both-none (f k) (firstRefusal f (upto n (k + 1))) (h 
 
 -- ---- 34 and 31
 
-pub legs-resolved : (d : Delivery) (s : Service) → Right d s → firstRefusal (legRefusal d s) (below (legCount s)) ≡ none
-legs-resolved d s h = no-refusal (legRefusal d s) (legCount s) 0 leg
+pub legs-resolved : (d : Delivery) (s : Service) → Right d s → firstRefusal (legRefusal (viewOf d) s) (below (legCount s)) ≡ none
+legs-resolved d s h = no-refusal (legRefusal (viewOf d) s) (legCount s) 0 leg
   where
     known : ℕ → DayRange → Bool
     known j r = not (covers j (r .legs)) || fieldKnown (r .field) (d .fields)
 
-    leg : (j : ℕ) → 0 ≤ j → j < 0 + legCount s → legRefusal d s j ≡ none
+    leg : (j : ℕ) → 0 ≤ j → j < 0 + legCount s → legRefusal (viewOf d) s j ≡ none
     leg j p q =
         both-none (refuse (not (eqb (covering (λ (r : DayRange). r .legs) (s .days) j) 1)) 34) (refuse (not (every (known j) (s .days))) 31)
         (granted (eqb (covering (λ (r : DayRange). r .legs) (s .days) j) 1) 34 (eq-eqb (covering (λ (r : DayRange). r .legs) (s .days) j) 1 (h .days j (omega arith))))

@@ -19,7 +19,9 @@ use Rattle.timetable.specs.Delivery.{Interchange, CategoryRange, Service, Deliv
 use Rattle.timetable.specs.Ranges.{hasArrival}
 use Rattle.timetable.specs.Legs.{covers, operated, operatedLegs, legCount}
 use Rattle.timetable.specs.Table.{word}
-use Rattle.timetable.specs.Questions.{interchangeBy, interchangeAtStop, nameBy, categoryOn, rowOf, rowsOf}
+use Rattle.timetable.specs.View.{viewOf, interchangeBy, interchangeAtStop}
+use Rattle.timetable.specs.Run.{nameBy, categoryOn}
+use Rattle.timetable.specs.Questions.{rowOf, rowsOf}
 use Rattle.timetable.specs.declared.Call.{Call}
 use Rattle.whole_runs.specs.OldTable.{oldCallSound}
 use Rattle.whole_runs.specs.Rows.{Unbroken, rowWord, flag, Row, timeAt, Stated, noCall, callNo, Stretched}
@@ -33,27 +35,27 @@ use Rattle.whole_runs.proofs.Times.{Called, called}
 -- ---- rows by their index
 
 module _ (d : Delivery) (s : Service) (a n delay : ℕ) where
-  pub rows-size : (i : ℕ) (cs : List Call) → length (rowsOf d s a n delay i cs) ≡ rowSize * length cs
+  pub rows-size : (i : ℕ) (cs : List Call) → length (rowsOf (viewOf d) s a n delay i cs) ≡ rowSize * length cs
   unfolding rowsOf
   rows-size i [] = omega arith
   rows-size i (c ∷ cs) = omega (arith, rows-size (i + 1) cs)
 
-  rows-word : (i : ℕ) (cs : List Call) (q j : ℕ) → q < length cs → j < rowSize → rowWord (rowsOf d s a n delay i cs) q j ≡ word (rowOf d s a n delay (i + q) (getD cs q noCall)) j
+  rows-word : (i : ℕ) (cs : List Call) (q j : ℕ) → q < length cs → j < rowSize → rowWord (rowsOf (viewOf d) s a n delay i cs) q j ≡ word (rowOf (viewOf d) s a n delay (i + q) (getD cs q noCall)) j
   unfolding rowsOf
   rows-word i [] q j h l = absurd (omega arith)
   rows-word i (c ∷ cs) zero j h l =
       let z : i + zero ≡ i = omega arith in
       let y : rowSize * zero + j ≡ j = omega arith in
-      ap (λ (m : ℕ). word (rowOf d s a n delay i c ++ rowsOf d s a n delay (i + 1) cs) m) y
-      ∙ (List·getD-append (rowOf d s a n delay i c) (rowsOf d s a n delay (i + 1) cs) 0 j l
-      ∙ ap (λ (m : ℕ). word (rowOf d s a n delay m c) j) (sym z))
+      ap (λ (m : ℕ). word (rowOf (viewOf d) s a n delay i c ++ rowsOf (viewOf d) s a n delay (i + 1) cs) m) y
+      ∙ (List·getD-append (rowOf (viewOf d) s a n delay i c) (rowsOf (viewOf d) s a n delay (i + 1) cs) 0 j l
+      ∙ ap (λ (m : ℕ). word (rowOf (viewOf d) s a n delay m c) j) (sym z))
   rows-word i (c ∷ cs) (suc q) j h l =
       let z : rowSize * suc q + j ≡ rowSize + (rowSize * q + j) = omega arith in
       let y : i + suc q ≡ i + 1 + q = omega arith in
-      ap (λ (m : ℕ). word (rowOf d s a n delay i c ++ rowsOf d s a n delay (i + 1) cs) m) z
-      ∙ (getD-append-add (rowOf d s a n delay i c) (rowsOf d s a n delay (i + 1) cs) (rowSize * q + j) 0
+      ap (λ (m : ℕ). word (rowOf (viewOf d) s a n delay i c ++ rowsOf (viewOf d) s a n delay (i + 1) cs) m) z
+      ∙ (getD-append-add (rowOf (viewOf d) s a n delay i c) (rowsOf (viewOf d) s a n delay (i + 1) cs) (rowSize * q + j) 0
       ∙ (rows-word (i + 1) cs q j (omega arith) l
-      ∙ ap (λ (m : ℕ). word (rowOf d s a n delay m (getD cs q noCall)) j) (sym y)))
+      ∙ ap (λ (m : ℕ). word (rowOf (viewOf d) s a n delay m (getD cs q noCall)) j) (sym y)))
 
 -- ---- the flags of a row, of a call whose flags are f: t and u say whether it is the first and the last
 
@@ -174,16 +176,16 @@ module _ (d : Delivery) (s : Service) (r k a n : ℕ) (one : Only (operatedLegs 
   delay = lateness (s .opening) r
 
   ws : List ℕ
-  ws = rowsOf d s a n delay 0 part
+  ws = rowsOf (viewOf d) s a n delay 0 part
 
-  word-is : (q j : ℕ) → q ≤ n → j < rowSize → rowWord ws q j ≡ word (rowOf d s a n delay q (callNo s (a + q))) j
+  word-is : (q j : ℕ) → q ≤ n → j < rowSize → rowWord ws q j ≡ word (rowOf (viewOf d) s a n delay q (callNo s (a + q))) j
   unfolding ws part
   word-is q j l m =
       let p = part-length in
       let z : 0 + q ≡ q = omega arith in
       rows-word d s a n delay 0 part q j (omega arith) m
-      ∙ (ap (λ (i : ℕ). word (rowOf d s a n delay i (getD part q noCall)) j) z
-      ∙ ap (λ (c : Call). word (rowOf d s a n delay q c) j) (part-at q l))
+      ∙ (ap (λ (i : ℕ). word (rowOf (viewOf d) s a n delay i (getD part q noCall)) j) z
+      ∙ ap (λ (c : Call). word (rowOf (viewOf d) s a n delay q c) j) (part-at q l))
 
   arrival-is : (q : ℕ) → 1 ≤ q → q ≤ n → rowWord ws q 1 ≡ callNo s (a + q) .arrival + delay
   arrival-is q l m = word-is q 1 m (omega arith) ∙ kept q 0 (callNo s (a + q) .arrival + delay) (λ e. omega arith)
@@ -307,7 +309,7 @@ module _ (d : Delivery) (s : Service) (r k a n : ℕ) (one : Only (operatedLegs 
     never-fall : (p m : ℕ) → p ≤ m → 1 ≤ p → m ≤ 2 * n → timeAt ws p ≤ timeAt ws m
     never-fall p m l f t = let z : p + (m - p) ≡ m = omega arith in rw z at (later-time p (m - p) f (omega arith))
 
-    pub stretched : Stretched d s r k (rowsOf d s a n (lateness (s .opening) r) 0 (take (n + 1) (drop a (s .calls))))
+    pub stretched : Stretched d s r k (rowsOf (viewOf d) s a n (lateness (s .opening) r) 0 (take (n + 1) (drop a (s .calls))))
     unfolding ws part delay
     stretched = record {
       start = a;

@@ -23,7 +23,8 @@ use Rattle.timetable.specs.Delivery.{Files, StopRecord}
 use Rattle.timetable.specs.Files.{held, hasStop, stopOf, nameLength, nameField, stopLineOffence, stopsFirst}
 use Rattle.timetable.specs.Load.{delivered, loaded, written}
 use Rattle.timetable.specs.Table.{tableOf, isTable}
-use Rattle.timetable.specs.StopNames.{stopNumbered, nameInside, nameBytes, partFrom, nameWithin, stopName, stopNameAsked}
+use Rattle.timetable.specs.View.{stopNumbered}
+use Rattle.timetable.specs.StopNames.{nameInside, nameBytes, partFrom, nameWithin, stopName, stopNameIn, stopNameAsked}
 use Rattle.timetable.specs.declared.Loaded.the-variants.{Accepted}
 use Rattle.timetable.specs.declared.NameAnswer.the-variants.{Part, Refused}
 use Rattle.whole_runs.specs.StopNames.{InBytes, OwnName, NameRefused, outside-list, unknown-stop}
@@ -40,7 +41,7 @@ module _ (w b : List ℕ) (stop language type : ℕ) where
 
   -- The answer is a name inside the bytes given.
   pub name-in-bytes : InBytes b (stopNameAsked w b stop language type)
-  unfolding stopNameAsked
+  unfolding stopNameAsked stopNameIn
   name-in-bytes = go (isTable w) (askable language type) (stopNumbered stop (tableOf w .stops))
     where
       found : (s : StopRecord) (t : Bool) → nameInside b s ≡ t → (o : Option Name) → nameFor wanted (nameBytes b s) ≡ o → InBytes b (cond t (partFrom (s .offset) o) (Refused 41))
@@ -59,7 +60,7 @@ module _ (w b : List ℕ) (stop language type : ℕ) where
       go true true (some s) = found s (nameInside b s) refl (nameFor wanted (nameBytes b s)) refl
 
   pub name-numbered : (number : ℕ) → stopNameAsked w b stop language type ≡ Refused number → 1 ≤ number
-  unfolding stopNameAsked
+  unfolding stopNameAsked stopNameIn
   name-numbered number e = go (isTable w) (askable language type) (stopNumbered stop (tableOf w .stops)) e
     where
       found : (s : StopRecord) (t : Bool) (o : Option Name) → cond t (partFrom (s .offset) o) (Refused 41) ≡ Refused number → 1 ≤ number
@@ -77,7 +78,7 @@ module _ (w b : List ℕ) (stop language type : ℕ) where
 
 module _ (f : Files) (t : List ℕ) (helper u : ℕ) (e : loaded f (length t) helper ≡ Accepted u) (stop language type : ℕ) where
   asked-of : stopNameAsked (written f t helper) (f .bahnhof) stop language type ≡ cond (askable language type) (stopName (f .bahnhof) (wantedBy language type) (stopNumbered stop (delivered f .stops))) (Refused 40)
-  unfolding stopNameAsked
+  unfolding stopNameAsked stopNameIn
   asked-of = rw (table-is f t helper u e, table-holds f t helper u e)
 
   -- by the line that the stop's record stands on

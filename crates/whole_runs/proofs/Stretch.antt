@@ -7,7 +7,7 @@ use native.Mathlib.Omega.{arith}
 use lib.ListN.{length, getD, drop}
 use Rattle.base.specs.Lists.{upto, below}
 use Rattle.timetable.specs.Legs.{stretches}
-use Rattle.timetable.specs.Questions.{idleLegs, leadingLegs}
+use Rattle.timetable.specs.Run.{idleLegs, leadingLegs}
 
 pub still : (bs : List Bool) → stretches false bs ≡ 0 → (j : ℕ) → getD bs j false ≡ false
 unfolding stretches

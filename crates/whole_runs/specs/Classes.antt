@@ -13,7 +13,8 @@ use Rattle.timetable.specs.Layout.{mostClass}
 use Rattle.timetable.specs.Delivery.{Files, CategoryClass, Delivery}
 use Rattle.timetable.specs.Files.{held, hasStop, classOf, hasClass}
 use Rattle.timetable.specs.Load.{delivered}
-use Rattle.timetable.specs.Questions.{minutesFor, interchangeAtStop, classFor}
+use Rattle.timetable.specs.View.{interchangeAtStop, classFor}
+use Rattle.timetable.specs.Questions.{minutesFor}
 use Rattle.timetable.specs.declared.InterchangeAnswer.{InterchangeAnswer}
 use Rattle.timetable.specs.declared.InterchangeAnswer.the-variants.{Minutes}
 

@@ -22,9 +22,13 @@ use Rattle.timetable.specs.Table.{bitFieldWords, stopWords, interchangeWords, c
 use Rattle.timetable.specs.Table.{recordWords, usedWords, firstDay, periodDays, bitFields#, stops#, interchanges#, services#, servicesPlace, classes#, used}
 use Rattle.timetable.specs.Table.{legsSound, sizesSound, headSound, classSound, tableOf, isTable}
 use Rattle.timetable.specs.Load.{lengthOffence, contentOffence, helperNeeded, refusedOr, shortOr, loaded, writtenBy, written, delivered}
-use Rattle.timetable.specs.Questions.{refuse, Dated, undated, dated, dateOf, dayBy, dayAsked, minutesFor, interchangeAtStop, interchangeAsked, classFor, betweenAsked}
-use Rattle.timetable.specs.Questions.{legRefusal, firstRefusal, Stretch, stretchOf, stretchCalls, neededLast, callRefusal, rowsOf, Journey, refused, idle, rows, journeyBy, walkedBy, walked, rowsBy, walkRows}
-use Rattle.timetable.specs.StopNames.{stopNumbered, stopName, stopNameAsked}
+use Rattle.timetable.specs.View.{View, viewOf}
+use Rattle.timetable.specs.Run.{refuse, legRefusal, firstRefusal, Stretch, stretchOf, stretchCalls, neededLast, callRefusal, courseBy, RunFound, barred, runAlong}
+use Rattle.timetable.specs.Questions.{Dated, undated, dated, dateOf, dayIn, dayAsked, interchangeIn, interchangeAsked, betweenIn, betweenAsked}
+use Rattle.timetable.specs.Questions.{Journey, refused, rowsAlong, walkedBy, walked, rowsBy, walkRows}
+use Rattle.timetable.specs.StopNames.{stopNameIn, stopNameAsked}
+use Rattle.timetable.specs.declared.Course.{Course}
+use Rattle.timetable.specs.declared.Course.the-variants.{Along, NotRunning as Idle, Refused as Barred}
 use Rattle.timetable.specs.declared.Call.{Call}
 use Rattle.timetable.specs.declared.DayAnswer.{DayAnswer}
 use Rattle.timetable.specs.declared.DayAnswer.the-variants.{Refused as DayRefused}
@@ -118,33 +122,23 @@ oldWritten f t helper = writtenBy (oldLoaded f (length t) helper) (oldTableWords
 
 -- ---- the questions
 
+-- 21, then the question of what these words hold, as it stands today
+abbrev pub oldAsked : {X : Type 0} → (ℕ → X) → (View → X) → List ℕ → X
+oldAsked refusal question w = cond (oldIsTable w) (question (viewOf (oldTableOf w))) (refusal 21)
+
 unfoldable pub oldDayAsked : List ℕ → ℕ → ℕ → ℕ → ℕ → DayAnswer
-oldDayAsked w day month year b = cond (oldIsTable w) (dayBy (oldTableOf w) b (dateOf (oldTableOf w) day month year)) (DayRefused 21)
+oldDayAsked w day month year b = oldAsked DayRefused (λ (v : View). dayIn v day month year b) w
 
 unfoldable pub oldInterchangeAsked : List ℕ → ℕ → ℕ → ℕ → InterchangeAnswer
-oldInterchangeAsked w n a b =
-    cond (oldIsTable w)
-    (cond (leb a mostClass && leb b mostClass)
-    (cond (hasStop n (oldTableOf w .stops)) (Minutes (minutesFor (interchangeAtStop (oldTableOf w) n) a b)) (InterchangeRefused 27))
-    (InterchangeRefused 26))
-    (InterchangeRefused 21)
+oldInterchangeAsked w n a b = oldAsked InterchangeRefused (λ (v : View). interchangeIn v n a b) w
 
 unfoldable pub oldBetweenAsked : List ℕ → ℕ → ℕ → ℕ → InterchangeAnswer
-oldBetweenAsked w n a b =
-    cond (oldIsTable w)
-    (cond (hasStop n (oldTableOf w .stops))
-    (cond (hasClass a (oldTableOf w .classes) && hasClass b (oldTableOf w .classes))
-    (Minutes (minutesFor (interchangeAtStop (oldTableOf w) n) (classFor (oldTableOf w) a) (classFor (oldTableOf w) b)))
-    (InterchangeRefused 38))
-    (InterchangeRefused 27))
-    (InterchangeRefused 21)
+oldBetweenAsked w n a b = oldAsked InterchangeRefused (λ (v : View). betweenIn v n a b) w
 
 unfoldable pub oldStopNameAsked : List ℕ → List ℕ → ℕ → ℕ → ℕ → NameAnswer
-oldStopNameAsked w bahnhof stop language type =
-    cond (oldIsTable w)
-    (cond (askable language type) (stopName bahnhof (wantedBy language type) (stopNumbered stop (oldTableOf w .stops))) (NameRefused 40))
-    (NameRefused 21)
+oldStopNameAsked w bahnhof stop language type = oldAsked NameRefused (λ (v : View). stopNameIn v bahnhof stop language type) w
 
+-- the walk: the same course, but for the calls' test for 32
 -- "Each call of the stretch: 32 stop unknown, 36 .., 33 .."
 abbrev pub oldCallRefusal : Delivery → Service → ℕ → ℕ → ℕ → ℕ → Call → Option ℕ
 oldCallRefusal d s a n i before c = refuse (not (hasStop (c .stop) (d .stops))) 32 <|> callRefusal s a n i before c
@@ -153,29 +147,25 @@ unfoldable pub oldCallsRefusal : Delivery → Service → ℕ → ℕ → ℕ �
 oldCallsRefusal d s a n i before [] = none
 oldCallsRefusal d s a n i before (c ∷ cs) = oldCallRefusal d s a n i before c <|> oldCallsRefusal d s a n (i + 1) (neededLast n i c) cs
 
-abbrev pub oldStretchJourney : Delivery → Service → ℕ → Stretch → Journey
-oldStretchJourney d s delay t =
-    journeyBy (oldCallsRefusal d s (t .start) (t .legs) 0 0 (stretchCalls s t)) (rows (rowsOf d s (t .start) (t .legs) delay 0 (stretchCalls s t)))
+abbrev pub oldStretchCourse : Delivery → Service → Stretch → Course
+oldStretchCourse d s t = courseBy (oldCallsRefusal d s (t .start) (t .legs) 0 0 (stretchCalls s t)) (Along (t .start) (t .legs))
 
-abbrev pub oldOnDay : Delivery → Service → ℕ → List Bool → Journey
-oldOnDay d s delay bs =
-    cond (eqb (stretches false bs) 0) idle (cond (leb 2 (stretches false bs)) (refused 35) (oldStretchJourney d s delay (stretchOf bs)))
+abbrev pub oldServiceCourse : Delivery → Service → ℕ → List Bool → Course
+oldServiceCourse d s r bs =
+    cond (not (hasRun (s .opening) r)) (Barred 25)
+    (courseBy (firstRefusal (legRefusal (viewOf d) s) (below (legCount s)))
+    (cond (eqb (stretches false bs) 0) Idle (cond (leb 2 (stretches false bs)) (Barred 35) (oldStretchCourse d s (stretchOf bs)))))
 
-abbrev pub oldServiceJourney : Delivery → Service → ℕ → ℕ → Journey
-oldServiceJourney d s r k =
-    cond (not (hasRun (s .opening) r)) (refused 25)
-    (journeyBy (firstRefusal (legRefusal d s) (below (legCount s))) (oldOnDay d s (lateness (s .opening) r) (operatedLegs (d .fields) s k)))
+abbrev pub oldRunBy : Delivery → Option Service → ℕ → ℕ → RunFound
+oldRunBy d none r k = barred 24
+oldRunBy d (some s) r k = runAlong s (lateness (s .opening) r) (oldServiceCourse d s r (operatedLegs (d .fields) s k))
 
-abbrev pub oldIndexed : Delivery → Option Service → ℕ → ℕ → Journey
-oldIndexed d none r k = refused 24
-oldIndexed d (some s) r k = oldServiceJourney d s r k
-
-abbrev pub oldDatedJourney : Delivery → ℕ → ℕ → Dated → Journey
-oldDatedJourney d i r (undated number) = refused number
-oldDatedJourney d i r (dated k) = oldIndexed d (getElem? (d .services) i) r k
+abbrev pub oldDatedRun : Delivery → ℕ → ℕ → Dated → RunFound
+oldDatedRun d i r (undated number) = barred number
+oldDatedRun d i r (dated k) = oldRunBy d (getElem? (d .services) i) r k
 
 unfoldable pub oldJourney : Delivery → ℕ → ℕ → ℕ → ℕ → ℕ → Journey
-oldJourney d i r day month year = oldDatedJourney d i r (dateOf d day month year)
+oldJourney d i r day month year = rowsAlong (viewOf d) (oldDatedRun d i r (dateOf (viewOf d) day month year))
 
 unfoldable pub oldWalkOf : List ℕ → ℕ → ℕ → ℕ → ℕ → ℕ → Journey
 oldWalkOf w i r day month year = cond (oldIsTable w) (oldJourney (oldTableOf w) i r day month year) (refused 21)
