@@ -15,6 +15,7 @@ use Rattle.timetable.specs.Delivery.{Service}
 use Rattle.timetable.specs.Load.{delivered, onto, helperNeeded, loaded, written, helped}
 use Rattle.timetable.specs.Runs.{hasRun}
 use Rattle.timetable.specs.Table.{tableWords}
+use Rattle.timetable.specs.View.{viewOf}
 use Rattle.timetable.specs.Questions.{idle, rows, journey, walkOf, walkedBy, walked, rowsBy, walkRows}
 use Rattle.timetable.specs.declared.Loaded.the-variants.{Accepted, Refused as LoadRefused}
 use Rattle.timetable.specs.declared.Walked.{Walked}
@@ -67,11 +68,11 @@ week-helper t h lent enough =
 
 -- ---- the walks
 
-friday-journey : journey (delivered trial) 0 0 5 12 2025 ≡ rows fridayRows
+friday-journey : journey (viewOf (delivered trial)) 0 0 5 12 2025 ≡ rows fridayRows
 unfolding computing
 friday-journey = refl
 
-saturday-journey : journey (delivered trial) 0 0 6 12 2025 ≡ idle
+saturday-journey : journey (viewOf (delivered trial)) 0 0 6 12 2025 ≡ idle
 unfolding computing
 saturday-journey = refl
 
