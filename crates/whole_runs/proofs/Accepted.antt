@@ -6,8 +6,8 @@ use mathlib.Core.Bool.{Bool, true, false, cond, _&&_}
 use mathlib.Core.Option.{Option, none, some}
 use Prim.Native.Nat.{ℕ, zero, suc, _+_, _≤_}
 use native.Mathlib.Omega.{arith}
-use lib.ListN.{length, drop, length-append, length-map}
-use lib.Seq.{drop-at}
+use lib.ListN.{length, take, take-append-drop, drop, length-append, length-map}
+use lib.Seq.{take-at, drop-at}
 use lib.Dec.{ltb, leb, eqb}
 use borrow.Author.Tests.{le-leb, le-ltb, ltb-false, eqb-false, eq-eqb}
 use Rattle.base.specs.Lists.{All, nil, cons, every, gathered}
@@ -275,6 +275,20 @@ module _ {X : Type 0} (refusal : ℕ → X) (question : View → X) where
   -- of an accepted delivery's table
   pub asked-accepted : (f : Files) (t : List ℕ) (helper u : ℕ) → loaded f (length t) helper ≡ Accepted u → asked refusal question (written f t helper) ≡ question (viewOf (delivered f))
   asked-accepted f t helper u e = asked-held (written f t helper) (delivered f) (table-is f t helper u e) (table-holds f t helper u e)
+
+-- "and its table unaltered": of any words whose first ones, as many as are used, are those that load left, every question is answered as of these
+module _ (f : Files) (t : List ℕ) (helper u : ℕ) (e : loaded f (length t) helper ≡ Accepted u) (w : List ℕ) (same : take u w ≡ take u (written f t helper)) where
+  unaltered-is : w ≡ tableWords (delivered f) ++ drop u w
+  unaltered-is =
+      let front : take u (written f t helper) ≡ tableWords (delivered f) = ap (take u) (written-is f t helper u e) ∙ take-at (tableWords (delivered f)) (drop (length (tableWords (delivered f))) t) u (sym (used-words f t helper u e)) in
+      sym (take-append-drop u w) ∙ ap (λ (x : List ℕ). x ++ drop u w) (same ∙ front)
+
+  pub unaltered-asked : {X : Type 0} (refusal : ℕ → X) (question : View → X) → asked refusal question w ≡ asked refusal question (written f t helper)
+  unaltered-asked refusal question =
+      let c = no-offence f t helper u e in
+      ap (asked refusal question) unaltered-is
+      ∙ asked-held refusal question (tableWords (delivered f) ++ drop u w) (delivered f) (words-table f c (drop u w)) (words-hold f c (drop u w))
+      ∙ sym (asked-accepted refusal question f t helper u e)
 
 module _ (w : List ℕ) (d : Delivery) (is : isTable w ≡ true) (holds : tableOf w ≡ d) where
   pub walk-held : (i r day month year : ℕ) → walkOf w i r day month year ≡ journey (viewOf d) i r day month year
