@@ -7,6 +7,7 @@ pub mod Sound
 pub mod Clear
 pub mod Period
 pub mod Lines
+pub mod Blocks
 pub mod Right
 pub mod ClassLines
 pub mod Accepted

@@ -175,11 +175,19 @@ pub record NoneDropped (ls : List Line) : Type 0 where
   pub days : length (serviceOf ls .days) ≡ length (partLines Days ls)
   pub extras : length (serviceOf ls .extras) ≡ length (partLines Extra ls)
 
+ranges-found : (d : Delivery) (ls : List Line) → Fair d ls → All (Found (callsOf ls)) (rangesOf ls)
+ranges-found d ls h = subst (All (Found (callsOf ls))) (said-on asRange ls) (found-on (callsOf ls) (saidOn asRange ls) (h .ranges))
+
+-- of one kind
+pub part-found : (d : Delivery) (ls : List Line) → Fair d ls → (p : Part) → All (λ (r : RangeLine). isNone (legsOn (callsOf ls) r) ≡ false) (partLines p ls)
+part-found d ls h p =
+    all-to (λ (r : RangeLine). Found (callsOf ls) r × (r .part ≡ p)) (Found (callsOf ls)) (λ r f. f .0) (partLines p ls) (all-part (Found (callsOf ls)) p ls (ranges-found d ls h))
+
 pub nothing-dropped : (d : Delivery) (ls : List Line) → Fair d ls → NoneDropped ls
 unfolding serviceOf
 nothing-dropped d ls h =
     let cs = callsOf ls in
-    let found : All (Found cs) (rangesOf ls) = subst (All (Found cs)) (said-on asRange ls) (found-on cs (saidOn asRange ls) (h .ranges)) in
+    let found = ranges-found d ls h in
     record {
       categories = one-each cs (categoryRange cs) (λ r f. with-one _ (legsOn cs r) f) Category ls found;
       days = one-each cs (dayRange cs) (λ r f. with-one _ (legsOn cs r) f) Days ls found;

@@ -14,8 +14,9 @@ use Rattle.base.proofs.Laws.{apart}
 use Rattle.base.proofs.Loops.{and-true}
 use Rattle.lines.specs.Lines.{Line, linesOf}
 use Rattle.timetable.specs.Layout.{mostCalls, mostCategories, mostDays, mostExtras}
-use Rattle.timetable.specs.Delivery.{Files, Legs, CategoryRange, DayRange, Service, Delivery}
-use Rattle.timetable.specs.Service.{blocks, calledOn, callsOf, serviceOf}
+use Rattle.timetable.specs.Delivery.{Files, Legs, CategoryRange, DayRange, ExtraRange, Service, Delivery}
+use Rattle.timetable.specs.Service.{blocks, openingOf, calledOn, callsOf, serviceOf}
+use Rattle.timetable.specs.Plan.{partLines}
 use Rattle.timetable.specs.Checks.{timesStated, timesRise, lastStated, timesFirst, eachOnce}
 use Rattle.timetable.specs.Legs.{covering, stretches, legCount, operatedLegs}
 use Rattle.timetable.specs.Load.{delivered}
@@ -23,11 +24,12 @@ use Rattle.timetable.specs.declared.Call.{Call}
 use Rattle.timetable.specs.declared.Part.the-variants.{Category, Days, Extra}
 use Rattle.timetable.proofs.Offences.{then-none, given-none}
 use Rattle.whole_runs.specs.OldTable.{oldCallSound, oldServiceSound}
-use Rattle.whole_runs.specs.Text.{FromText}
+use Rattle.whole_runs.specs.Text.{Opened, FromText}
 use Rattle.whole_runs.proofs.Lists.{every-below, none-below}
 use Rattle.whole_runs.proofs.Sound.{calls-sound, service-sound}
 use Rattle.whole_runs.proofs.Clear.{Fair, Clear}
-use Rattle.whole_runs.proofs.Lines.{limits, StopKnown, FieldKnown, lines-read, stops-known, fields-known, nothing-dropped}
+use Rattle.whole_runs.proofs.Blocks.{block-opened, calls-say, each-last}
+use Rattle.whole_runs.proofs.Lines.{limits, StopKnown, FieldKnown, lines-read, part-found, stops-known, fields-known, nothing-dropped}
 
 -- ---- 15: the times, call by call, from the i-th of n on
 
@@ -95,18 +97,42 @@ services-right f h = all-right (delivered f) (h .services)
 
 -- ---- the i-th service is what the lines of FPLAN's i-th block say
 
-text-of : (d : Delivery) (ls : List Line) (bs : List (List Line)) (i : ℕ) → Fair d ls → getElem? bs i ≡ some ls → FromText bs i (serviceOf ls)
-text-of d ls bs i h e =
+text-of : (d : Delivery) (ls : List Line) (bs : List (List Line)) (i : ℕ) → Fair d ls → getElem? bs i ≡ some ls → Opened ls (openingOf ls .kind) → FromText bs i (serviceOf ls)
+unfolding serviceOf
+text-of d ls bs i h e o =
     let n = nothing-dropped d ls h in
-    record { lines = ls; block = e; read = refl; categories = n .categories; days = n .days; extras = n .extras; lines-read = lines-read d ls h }
+    let cs = callsOf ls in
+    record {
+      lines = ls;
+      block = e;
+      read = refl;
+      categories = n .categories;
+      days = n .days;
+      extras = n .extras;
+      opened = o;
+      calls = calls-say ls;
+      category-ends = each-last (λ (x : CategoryRange). x .legs) (λ r g. record { name = r .name; legs = g }) (λ r g. refl) cs (partLines Category ls) (part-found d ls h Category);
+      day-ends = each-last (λ (x : DayRange). x .legs) (λ r g. record { field = r .field; legs = g }) (λ r g. refl) cs (partLines Days ls) (part-found d ls h Days);
+      extra-ends = each-last (λ (x : ExtraRange). x .legs) (λ r g. record { code = r .name; field = r .field; legs = g }) (λ r g. refl) cs (partLines Extra ls) (part-found d ls h Extra);
+      lines-read = lines-read d ls h;
+    }
 
-text-in : (d : Delivery) (bs : List (List Line)) (i : ℕ) (s : Service) → All (Fair d) bs → getElem? (map serviceOf bs) i ≡ some s → FromText bs i s
-text-in d [] i s h e = apart (cc)
-text-in d (b ∷ bs) zero s (cons p q) e = let z : serviceOf b ≡ s = cc in subst (FromText (b ∷ bs) zero) z (text-of d b (b ∷ bs) zero p refl)
-text-in d (b ∷ bs) (suc i) s (cons p q) e =
-    let t = text-in d bs i s q e in
-    record { lines = t .lines; block = t .block; read = t .read; categories = t .categories; days = t .days; extras = t .extras; lines-read = t .lines-read }
+-- the block that a service is read from
+pub record FairBlock (d : Delivery) (bs : List (List Line)) (i : ℕ) (s : Service) : Type 0 where
+  pub lines : List Line
+  pub block : getElem? bs i ≡ some lines
+  pub fair : Fair d lines
+  pub read : serviceOf lines ≡ s
+
+block-in : (d : Delivery) (bs : List (List Line)) (i : ℕ) (s : Service) → All (Fair d) bs → getElem? (map serviceOf bs) i ≡ some s → FairBlock d bs i s
+block-in d [] i s h e = apart (cc)
+block-in d (b ∷ bs) zero s (cons p q) e = let z : serviceOf b ≡ s = cc in record { lines = b; block = refl; fair = p; read = z }
+block-in d (b ∷ bs) (suc i) s (cons p q) e = let t = block-in d bs i s q e in record { lines = t .lines; block = t .block; fair = t .fair; read = t .read }
 
 pub from-text : (f : Files) → Clear f → (i : ℕ) (s : Service) → getElem? (delivered f .services) i ≡ some s → FromText (blocks (linesOf (f .fplan))) i s
 unfolding delivered
-from-text f h i s e = text-in (delivered f) (blocks (linesOf (f .fplan))) i s (h .services) e
+from-text f h i s e =
+    let d = delivered f in
+    let bs = blocks (linesOf (f .fplan)) in
+    let b = block-in d bs i s (h .services) e in
+    subst (FromText bs i) (b .read) (text-of d (b .lines) bs i (b .fair) (b .block) (block-opened (linesOf (f .fplan)) i (b .lines) (b .block) (lines-read d (b .lines) (b .fair))))

@@ -2,7 +2,8 @@
 -- Every line of every file was read, so no record is dropped unseen, and what is looked up by a line's number is that line's own.
 -- Proved in proofs/Text.antt: `own-text`. Assumes nothing.
 use mathlib.Core.Path.{_≡_}
-use mathlib.Core.List.{List, [], _∷_, _++_}
+use mathlib.Core.Logic.{_⊎_}
+use mathlib.Core.List.{List, [], _∷_, _++_, map}
 use mathlib.Core.Bool.{true, false, cond}
 use mathlib.Core.Option.{Option, none, some}
 use Prim.Native.Nat.{ℕ, _+_, _-_, _<_, _≤_}
@@ -12,16 +13,24 @@ use Rattle.base.specs.Lists.{All, find, gathered}
 use Rattle.bitfield.specs.BitField.{runsOn}
 use Rattle.calendar.specs.Calendar.{dateIn}
 use Rattle.calendar.specs.declared.Date.the-variants.{Day}
+use Rattle.fields.specs.declared.StopNumber.{StopNumber}
+use Rattle.fields.specs.declared.RangeEnd.the-variants.{Stop}
+use Rattle.fields.specs.declared.Detail.the-variants.{Plain}
+use Rattle.forms.specs.Kinds.{kindOf}
+use Rattle.forms.specs.declared.Kind.the-variants.{Opening as OpeningKind, Frequency}
 use Rattle.forms.specs.Form.{fits}
 use Rattle.forms.specs.Columns.{dateColumns}
 use Rattle.lines.specs.Lines.{Line, linesOf, skipped}
-use Rattle.timetable.specs.Delivery.{Files, Period, BitField, StopRecord, Interchange, CategoryClass, Service}
+use Rattle.timetable.specs.Layout.{kindZ, kindT}
+use Rattle.timetable.specs.Delivery.{Files, Period, BitField, StopRecord, Interchange, CategoryClass, Legs, CategoryRange, DayRange, ExtraRange, Service}
 use Rattle.timetable.specs.Files.{Held, held, bitFieldOf, stopOf, interchangeOf, classOf}
-use Rattle.timetable.specs.Plan.{tolds, asCall, partLines}
+use Rattle.timetable.specs.Plan.{opens, tolds, asCall, partLines}
 use Rattle.timetable.specs.Service.{headLines, blocks, openingOf, serviceOf}
 use Rattle.timetable.specs.Legs.{fieldRuns}
 use Rattle.timetable.specs.Load.{delivered}
+use Rattle.timetable.specs.declared.Call.{Call}
 use Rattle.timetable.specs.declared.CallLine.{CallLine}
+use Rattle.timetable.specs.declared.RangeLine.{RangeLine}
 use Rattle.timetable.specs.declared.Part.the-variants.{Category, Days, Extra}
 use Rattle.timetable.specs.declared.Told.{Told}
 use Rattle.timetable.specs.declared.Told.the-variants.{Other, Broken}
@@ -43,7 +52,36 @@ pub data Records {X : Type 0} (of : Line → Held X) : List Line → List X → 
   skips : {l : Line} {ls : List Line} {xs : List X} → skipped (l .text) ≡ true → Records of ls xs → Records of (l ∷ ls) xs
   gives : {l : Line} {ls : List Line} {x : X} {xs : List X} → skipped (l .text) ≡ false → of l ≡ held x → Records of ls xs → Records of (l ∷ ls) (x ∷ xs)
 
--- FPLAN: the i-th service is what the lines of the i-th block say; every line was read, and each line of a range gives one range
+-- FPLAN, the block of a service: its first line opens a service and no other line of it does; "its kind (0 for *Z, 1 for *T ..)" is that line's
+pub record Opened (lines : List Line) (kind : ℕ) : Type 0 where
+  pub first : Line
+  pub others : List Line
+  pub are : lines ≡ first ∷ others
+  pub no-other : All (λ (l : Line). opens l ≡ false) others
+  pub of-kind : ((kindOf (first .text) ≡ OpeningKind) × (kind ≡ kindZ)) ⊎ ((kindOf (first .text) ≡ Frequency) × (kind ≡ kindT))
+
+-- what a call holds of its own schedule line: stop, times and flags (the number and the administration that hold there: `Announces`)
+abbrev pub callSays : Call → List ℕ
+callSays c = c .stop ∷ c .arrival ∷ c .departure ∷ c .flags ∷ []
+
+abbrev pub lineSays : CallLine → List ℕ
+lineSays l = l .stop ∷ l .arrival ∷ l .departure ∷ l .flags ∷ []
+
+-- 01's first slip, "Searching a *to* stop from the front": a *to* that names a stop, its detail blank, is "the last" appearance: the call has that
+-- stop, and no later call has
+pub record LastThere (cs : List Call) (stop to : ℕ) : Type 0 where
+  pub call : Call
+  pub there : getElem? cs to ≡ some call
+  pub at-stop : call .stop ≡ stop
+  pub none-later : (q : ℕ) (c : Call) → to < q → getElem? cs q ≡ some c → c .stop ≡ stop → ⊥
+
+-- the q-th line of a range and the legs that it gave
+abbrev pub EndsLast : List Call → List RangeLine → List Legs → Type 0
+EndsLast cs rs gs =
+    (q : ℕ) (r : RangeLine) (g : Legs) → getElem? rs q ≡ some r → getElem? gs q ≡ some g
+    → (stop : StopNumber) → r .ends .to .place ≡ Stop stop → r .ends .to .detail ≡ Plain → LastThere cs (stop .0) (g .to)
+
+-- the i-th service is what the lines of the i-th block say; every line was read, and each line of a range gives one range
 pub record FromText (bs : List (List Line)) (i : ℕ) (s : Service) : Type 0 where
   pub lines : List Line
   pub block : getElem? bs i ≡ some lines
@@ -51,6 +89,11 @@ pub record FromText (bs : List (List Line)) (i : ℕ) (s : Service) : Type 0 whe
   pub categories : length (s .categories) ≡ length (partLines Category lines)
   pub days : length (s .days) ≡ length (partLines Days lines)
   pub extras : length (s .extras) ≡ length (partLines Extra lines)
+  pub opened : Opened lines (s .opening .kind)
+  pub calls : map callSays (s .calls) ≡ map lineSays (gathered asCall (tolds lines))
+  pub category-ends : EndsLast (s .calls) (partLines Category lines) (map (λ (r : CategoryRange). r .legs) (s .categories))
+  pub day-ends : EndsLast (s .calls) (partLines Days lines) (map (λ (r : DayRange). r .legs) (s .days))
+  pub extra-ends : EndsLast (s .calls) (partLines Extra lines) (map (λ (r : ExtraRange). r .legs) (s .extras))
   pub lines-read : All (λ (t : Told). (t ≡ Other → ⊥) × ((c : ℕ) → t ≡ Broken c → ⊥)) (tolds lines)
 
 -- ---- document 02, No. 5: "Conductors announce the number that holds from a call on." "A blank field repeats the call before; the first call's
