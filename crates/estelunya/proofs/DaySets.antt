@@ -1,5 +1,5 @@
 -- What a caller of the arithmetic on operating days holds in hand: a number of 0 says that the result holds the field, the only other is 42, and then
--- the words are as they were lent; and the promises leave no slack. Assumes nothing.
+-- the words are as they were lent; the promises leave no slack: Slack. Assumes nothing.
 use mathlib.Core.Path.{_≡_, refl, sym, _∙_}
 use mathlib.Core.List.{List}
 use mathlib.Core.Bool.{Bool, true, false, cond}
@@ -42,11 +42,6 @@ module _ (op : Operation) (n : ℕ) (first second lent : List ℕ) where
   unfolding combineAsked combineWritten
   combine-ended = ended (pairTaken n first second lent) (combined op n first second) lent
 
-  pub combine-no-slack : {a b : DaySetResult} {t u : List ℕ}
-      → a ≡ daySetResult (combineAsked n first second lent) → t ≡ combineWritten op n first second lent
-      → b ≡ daySetResult (combineAsked n first second lent) → u ≡ combineWritten op n first second lent → (a ≡ b) × (t ≡ u)
-  combine-no-slack a t b u = (a ∙ sym b, t ∙ sym u)
-
 -- ---- complement
 
 module _ (n : ℕ) (field lent : List ℕ) where
@@ -54,17 +49,9 @@ module _ (n : ℕ) (field lent : List ℕ) where
   unfolding complementAsked complementWritten
   complement-ended = ended (oneTaken n field lent) (complement n field) lent
 
-  pub complement-no-slack : {a b : DaySetResult} {t u : List ℕ}
-      → a ≡ daySetResult (complementAsked n field lent) → t ≡ complementWritten n field lent
-      → b ≡ daySetResult (complementAsked n field lent) → u ≡ complementWritten n field lent → (a ≡ b) × (t ≡ u)
-  complement-no-slack a t b u = (a ∙ sym b, t ∙ sym u)
-
 -- ---- count
 
 module _ (n : ℕ) (field : List ℕ) where
   pub count-ended : Counted (isField n field) (dayCount n field) (dayCountResult (countAsked n field))
   unfolding countAsked
   count-ended = counted (isField n field) (dayCount n field)
-
-  pub count-no-slack : {a b : DayCountResult} → a ≡ dayCountResult (countAsked n field) → b ≡ dayCountResult (countAsked n field) → a ≡ b
-  count-no-slack a b = a ∙ sym b

@@ -5,11 +5,12 @@ use mathlib.Core.Logic.{_⊎_, ⊎-elim}
 use mathlib.Core.List.{List}
 use Prim.Native.Nat.{ℕ, _-_, _*_, _≤_}
 use native.Mathlib.Omega.{arith}
-use lib.ListN.{length, replicate}
+use lib.ListN.{length, take, replicate}
 use Rattle.timetable.specs.Delivery.{Files, Service, Delivery}
-use Rattle.timetable.specs.Load.{delivered, onto, helperNeeded, loaded, helped}
+use Rattle.timetable.specs.Load.{delivered, onto, helperNeeded, loaded, written, helped}
 use Rattle.timetable.specs.Layout.{rowSize}
-use Rattle.timetable.specs.Questions.{dayAsked, interchangeAsked, betweenAsked, walked}
+use Rattle.timetable.specs.View.{View}
+use Rattle.timetable.specs.Questions.{asked, dayAsked, interchangeAsked, betweenAsked, Journey, refused, journey, walkOf, walkedBy, walked, rowsBy}
 use Rattle.timetable.specs.declared.DayAnswer.{DayAnswer}
 use Rattle.timetable.specs.declared.DayAnswer.the-variants.{Refused as DayRefused}
 use Rattle.timetable.specs.declared.InterchangeAnswer.{InterchangeAnswer}
@@ -22,6 +23,7 @@ use Rattle.whole_runs.specs.Rows.{RunsNowhere}
 use Rattle.whole_runs.specs.Promise.{Walk, not-running, short, runs, TwoRows}
 use Rattle.whole_runs.proofs.Any.{two-rows}
 use Rattle.whole_runs.proofs.Slack.{never-both}
+use Rattle.whole_runs.proofs.Accepted.{unaltered-asked}
 use Rattle.whole_runs.proofs.Demand3.{demand3-promised}
 use Rattle.whole_runs.proofs.Numbers.{load-numbered, load-columned, helper-stays, helper-zeros, helper-accepted, day-numbered, interchange-numbered, between-numbered, walk-numbered}
 use Rattle.estelunya.specs.declared.LoadResult.{LoadResult}
@@ -103,10 +105,20 @@ module _ {d : Delivery} {s : Service} {r k : ℕ} {lent : List ℕ} where
   none-run (short x l) w = absurd (never-both d s k w (x .unbroken))
   none-run (runs x l) w = absurd (never-both d s k w (x .unbroken))
 
+-- of the words that load left, and of any that are unaltered: every question is answered alike
+pub unaltered : (f : Files) (t : List ℕ) (helper : ℕ) (a : LoadResult) (left : List ℕ) → a ≡ loadResult (loaded f (length t) helper) → left ≡ written f t helper → a .number ≡ 0
+    → (w : List ℕ) → take (a .words) w ≡ take (a .words) left → {X : Type 0} (refusal : ℕ → X) (question : View → X) → asked refusal question w ≡ asked refusal question (written f t helper)
+unaltered f t helper a left b q e w same refusal question =
+    let n : loadResult (loaded f (length t) helper) .words ≡ a .words = ap (λ (c : LoadResult). c .words) (sym b) in
+    unaltered-asked f t helper (loadResult (loaded f (length t) helper) .words) (accepted f (length t) helper (sym (ap (λ (c : LoadResult). c .number) b) ∙ e)) w
+    (rw (n, sym q) same) refusal question
+
 pub demand3-exported : WholeRuns
-demand3-exported f t helper a w b q e i r d m y day s h lent x v z k =
-    let promised = demand3-promised f t helper refl q (loadResult (loaded f (length t) helper) .words) (accepted f (length t) helper (sym (ap (λ (c : LoadResult). c .number) b) ∙ e)) i r d m y day s h lent refl k in
-    let answered = subst (λ (y : WalkResult). Answered (delivered f) s r (day - delivered f .period .start) lent y v) (sym z) (in-numbers (promised .1)) in
+unfolding walkOf
+demand3-exported f t helper a left b q e w same i r d m y day s h lent x v z k =
+    let j : walkOf w i r d m y ≡ walkOf (written f t helper) i r d m y = unaltered f t helper a left b q e w same refused (λ (o : View). journey o i r d m y) in
+    let promised = demand3-promised f t helper refl refl (loadResult (loaded f (length t) helper) .words) (accepted f (length t) helper (sym (ap (λ (c : LoadResult). c .number) b) ∙ e)) i r d m y day s h lent refl (k ∙ ap (λ (y : Journey). rowsBy y lent) j) in
+    let answered = subst (λ (y : WalkResult). Answered (delivered f) s r (day - delivered f .period .start) lent y v) (sym (z ∙ ap (λ (y : Journey). walkResult (walkedBy y (length lent))) j)) (in-numbers (promised .1)) in
     record {
       answered = answered;
       own = promised .0;

@@ -3,3 +3,4 @@ pub mod Slack
 pub mod DaySets
 pub mod StopNames
 pub mod Between
+pub mod Contracts

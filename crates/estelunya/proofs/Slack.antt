@@ -1,43 +1,71 @@
--- No slack at the boundary: two results that the promise of an exported function allows coincide, and so do the words that it leaves.
--- Assumes nothing.
+-- No slack: two outcomes that the contract of an exported function allows coincide, its answer and all words that it leaves. Stated of the contract itself (`Learnt`
+-- is what a caller learns of a call, from its `ensures`), so that a clause that goes is missed here. Assumes nothing.
 use mathlib.Core.Path.{_≡_, sym, _∙_}
 use mathlib.Core.List.{List}
 use Prim.Native.Nat.{ℕ}
-use lib.ListN.{length}
-use Rattle.timetable.specs.Delivery.{Files}
-use Rattle.timetable.specs.Load.{loaded, written, helped}
-use Rattle.timetable.specs.Questions.{dayAsked, interchangeAsked, betweenAsked, walked, walkRows}
-use Rattle.timetable.specs.StopNames.{stopNameAsked}
-use Rattle.estelunya.specs.declared.LoadResult.{LoadResult}
-use Rattle.estelunya.specs.declared.DayResult.{DayResult}
-use Rattle.estelunya.specs.declared.InterchangeResult.{InterchangeResult}
-use Rattle.estelunya.specs.declared.NameResult.{NameResult}
-use Rattle.estelunya.specs.declared.WalkResult.{WalkResult}
-use Rattle.estelunya.specs.Answers.{loadResult, dayResult, interchangeResult, nameResult, walkResult}
+use Rattle.estelunya.proofs.estelunya_version.Reads.{Learnt as version-allows}
+use Rattle.estelunya.proofs.estelunya_room.Reads.{Learnt as room-allows}
+use Rattle.estelunya.proofs.estelunya_load.Reads.{Learnt as load-allows}
+use Rattle.estelunya.proofs.estelunya_day.Reads.{Learnt as day-allows}
+use Rattle.estelunya.proofs.estelunya_interchange.Reads.{Learnt as interchange-allows}
+use Rattle.estelunya.proofs.estelunya_interchange_between.Reads.{Learnt as between-allows}
+use Rattle.estelunya.proofs.estelunya_stop_name.Reads.{Learnt as name-allows}
+use Rattle.estelunya.proofs.estelunya_walk.Reads.{Learnt as walk-allows}
+use Rattle.estelunya.proofs.estelunya_days_union.Reads.{Learnt as union-allows}
+use Rattle.estelunya.proofs.estelunya_days_intersection.Reads.{Learnt as intersection-allows}
+use Rattle.estelunya.proofs.estelunya_days_difference.Reads.{Learnt as difference-allows}
+use Rattle.estelunya.proofs.estelunya_days_complement.Reads.{Learnt as complement-allows}
+use Rattle.estelunya.proofs.estelunya_days_count.Reads.{Learnt as count-allows}
 
--- load: its result, all words of the table afterwards, and all helper words
-pub load-no-slack : (f : Files) (lent helper : List ℕ) {a b : LoadResult} {t u g h : List ℕ}
-    → a ≡ loadResult (loaded f (length lent) (length helper)) → t ≡ written f lent (length helper) → g ≡ helped f helper
-    → b ≡ loadResult (loaded f (length lent) (length helper)) → u ≡ written f lent (length helper) → h ≡ helped f helper → (a ≡ b) × (t ≡ u) × (g ≡ h)
-load-no-slack f lent helper a t g b u h = (a ∙ sym b, t ∙ sym u, g ∙ sym h)
+-- What a contract allows: of the lent arguments a, an answer, and what the arguments hold at exit (κ are their lifetimes). Two answers that it allows are one.
+abbrev pub OneAnswer : {K : Type 0} {A X S : K → Type 0} → ((κ : K) → A κ → X κ → S κ → Type 0) → Type 0
+OneAnswer {K} {A} {X} {S} allows = (κ : K) (a : A κ) (x y : X κ) (s t : S κ) → allows κ a x s → allows κ a y t → x ≡ y
 
--- walk: its result, and all words of the rows afterwards
-pub walk-no-slack : (w : List ℕ) (i r d m y : ℕ) (lent : List ℕ) {a b : WalkResult} {t u : List ℕ}
-    → a ≡ walkResult (walked w i r d m y (length lent)) → t ≡ walkRows w i r d m y lent
-    → b ≡ walkResult (walked w i r d m y (length lent)) → u ≡ walkRows w i r d m y lent → (a ≡ b) × (t ≡ u)
-walk-no-slack w i r d m y lent a t b u = (a ∙ sym b, t ∙ sym u)
+-- and two contents of the words that it leaves: `left` picks them
+abbrev pub OneOutcome : {K : Type 0} {A X S : K → Type 0} → ((κ : K) → A κ → X κ → S κ → Type 0) → ((κ : K) → S κ → List ℕ) → Type 0
+OneOutcome {K} {A} {X} {S} allows left = (κ : K) (a : A κ) (x y : X κ) (s t : S κ) → allows κ a x s → allows κ a y t → (x ≡ y) × (left κ s ≡ left κ t)
 
-pub day-no-slack : (w : List ℕ) (d m y field : ℕ) {a b : DayResult} → a ≡ dayResult (dayAsked w d m y field) → b ≡ dayResult (dayAsked w d m y field) → a ≡ b
-day-no-slack w d m y field a b = a ∙ sym b
+pub version-no-slack : OneAnswer version-allows
+version-no-slack κ a x y s t p q = p ∙ sym q
 
-pub interchange-no-slack : (w : List ℕ) (n x y : ℕ) {a b : InterchangeResult}
-    → a ≡ interchangeResult (interchangeAsked w n x y) → b ≡ interchangeResult (interchangeAsked w n x y) → a ≡ b
-interchange-no-slack w n x y a b = a ∙ sym b
+-- its answer, and that it is enough
+pub room-no-slack : OneAnswer room-allows
+room-no-slack κ a x y s t p q = p .0 ∙ sym (q .0)
 
-pub between-no-slack : (w : List ℕ) (n x y : ℕ) {a b : InterchangeResult}
-    → a ≡ interchangeResult (betweenAsked w n x y) → b ≡ interchangeResult (betweenAsked w n x y) → a ≡ b
-between-no-slack w n x y a b = a ∙ sym b
+-- the table, and the helper words
+pub load-table-no-slack : OneOutcome load-allows (λ κ s. s .1 .1 .1 .1 .1 .1 .0 .now)
+load-table-no-slack κ a x y s t p q = (p .0 ∙ sym (q .0), p .1 .0 ∙ sym (q .1 .0))
 
-pub name-no-slack : (w bahnhof : List ℕ) (stop language type : ℕ) {a b : NameResult}
-    → a ≡ nameResult (stopNameAsked w bahnhof stop language type) → b ≡ nameResult (stopNameAsked w bahnhof stop language type) → a ≡ b
-name-no-slack w bahnhof stop language type a b = a ∙ sym b
+pub load-helper-no-slack : OneOutcome load-allows (λ κ s. s .1 .1 .1 .1 .1 .1 .1 .0 .now)
+load-helper-no-slack κ a x y s t p q = (p .0 ∙ sym (q .0), p .1 .1 ∙ sym (q .1 .1))
+
+
+pub day-no-slack : OneAnswer day-allows
+day-no-slack κ a x y s t p q = p ∙ sym q
+
+pub interchange-no-slack : OneAnswer interchange-allows
+interchange-no-slack κ a x y s t p q = p ∙ sym q
+
+pub between-no-slack : OneAnswer between-allows
+between-no-slack κ a x y s t p q = p ∙ sym q
+
+pub name-no-slack : OneAnswer name-allows
+name-no-slack κ a x y s t p q = p ∙ sym q
+
+pub walk-no-slack : OneOutcome walk-allows (λ κ s. s .1 .1 .1 .1 .1 .1 .0 .now)
+walk-no-slack κ a x y s t p q = (p .0 ∙ sym (q .0), p .1 ∙ sym (q .1))
+
+pub union-no-slack : OneOutcome union-allows (λ κ s. s .1 .1 .1 .0 .now)
+union-no-slack κ a x y s t p q = (p .0 ∙ sym (q .0), p .1 ∙ sym (q .1))
+
+pub intersection-no-slack : OneOutcome intersection-allows (λ κ s. s .1 .1 .1 .0 .now)
+intersection-no-slack κ a x y s t p q = (p .0 ∙ sym (q .0), p .1 ∙ sym (q .1))
+
+pub difference-no-slack : OneOutcome difference-allows (λ κ s. s .1 .1 .1 .0 .now)
+difference-no-slack κ a x y s t p q = (p .0 ∙ sym (q .0), p .1 ∙ sym (q .1))
+
+pub complement-no-slack : OneOutcome complement-allows (λ κ s. s .1 .1 .0 .now)
+complement-no-slack κ a x y s t p q = (p .0 ∙ sym (q .0), p .1 ∙ sym (q .1))
+
+pub count-no-slack : OneAnswer count-allows
+count-no-slack κ a x y s t p q = p ∙ sym q

@@ -3,7 +3,7 @@
 use mathlib.Core.Path.{_≡_}
 use mathlib.Core.List.{List}
 use Prim.Native.Nat.{ℕ, _+_, _-_, _*_, _<_, _≤_}
-use lib.ListN.{length}
+use lib.ListN.{length, take}
 use Rattle.timetable.specs.Layout.{rowSize}
 use Rattle.timetable.specs.Delivery.{Files, Service, Delivery}
 use Rattle.timetable.specs.Load.{delivered, loaded, written, onto}
@@ -36,13 +36,14 @@ pub record Walks (f : Files) (i : ℕ) (s : Service) (r k : ℕ) (lent : List �
   pub idle-only : x .number ≡ 0 → x .rows ≡ 0 → RunsNowhere (delivered f) s k
   pub idle-always : RunsNowhere (delivered f) s k → (x .number ≡ 0) × (x .rows ≡ 0)
 
--- Demand 3, whole. "Take a delivery that was accepted": `estelunya_load`, lent any number of helper words, answered a with number 0; "and its table
--- unaltered": the words w that it left.
+-- Demand 3, whole. "Take a delivery that was accepted": `estelunya_load`, lent any number of helper words, answered a with number 0 and left the words `left`;
+-- "and its table unaltered": any words w whose first ones, as many as a says are used, are those; what stands behind them, if anything, does not matter.
 -- "For any service in it, any repeat the service has and any date in the period" (`Asked`), "a walk of that run" with any rows lent: x is what `estelunya_walk`
 -- answers, and v are the rows afterwards.
 abbrev pub WholeRuns : Type 0
 WholeRuns =
-    (f : Files) (t : List ℕ) (helper : ℕ) (a : LoadResult) (w : List ℕ) → a ≡ loadResult (loaded f (length t) helper) → w ≡ written f t helper → a .number ≡ 0
+    (f : Files) (t : List ℕ) (helper : ℕ) (a : LoadResult) (left : List ℕ) → a ≡ loadResult (loaded f (length t) helper) → left ≡ written f t helper → a .number ≡ 0
+    → (w : List ℕ) → take (a .words) w ≡ take (a .words) left
     → (i r d m y day : ℕ) (s : Service) → Asked f i r d m y s day
     → (lent : List ℕ) (x : WalkResult) (v : List ℕ) → x ≡ walkResult (walked w i r d m y (length lent)) → v ≡ walkRows w i r d m y lent
     → Walks f i s r (day - delivered f .period .start) lent x v

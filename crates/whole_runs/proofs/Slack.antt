@@ -1,5 +1,5 @@
--- No slack: two outcomes that a promise allows coincide. First the promises of the entry points, which are equations; then demand 3 itself, which
--- leaves a walk one answer and one content of the rows, without a word of how it is computed. Assumes nothing.
+-- No slack: demand 3 leaves a walk one answer and one content of the rows, without a word of how it is computed. (That the contracts of the exported
+-- functions leave none: estelunya/proofs/Slack.) Assumes nothing.
 use mathlib.Core.Path.{_≡_, refl, sym, ap, subst, _∙_}
 use mathlib.Core.List.{List, [], _∷_}
 use mathlib.Core.Bool.{Bool, true, false, cond}
@@ -27,27 +27,6 @@ use Rattle.timetable.specs.declared.Walked.the-variants.{Listed, Refused}
 use Rattle.whole_runs.specs.Rows.{RunsNowhere, Unbroken, rowWord, flag, Row, callNo, Stretched}
 use Rattle.whole_runs.specs.Promise.{Walk, not-running, short, runs}
 use Rattle.whole_runs.proofs.Lists.{every-below}
-
--- ---- the entry points
-
--- load: its answer, all words of the table afterwards, and all helper words
-pub load-no-slack : (f : Files) (lent helper : List ℕ) {a b : Loaded} {t u g h : List ℕ} → a ≡ loaded f (length lent) (length helper) → t ≡ written f lent (length helper) → g ≡ helped f helper → b ≡ loaded f (length lent) (length helper) → u ≡ written f lent (length helper) → h ≡ helped f helper → (a ≡ b) × (t ≡ u) × (g ≡ h)
-load-no-slack f lent helper a t g b u h = (a ∙ sym b, t ∙ sym u, g ∙ sym h)
-
--- walk: its answer, and all words of the rows afterwards
-pub walk-no-slack : (w : List ℕ) (i r d m y : ℕ) (lent : List ℕ) {a b : Walked} {t u : List ℕ} → a ≡ walked w i r d m y (length lent) → t ≡ walkRows w i r d m y lent → b ≡ walked w i r d m y (length lent) → u ≡ walkRows w i r d m y lent → (a ≡ b) × (t ≡ u)
-walk-no-slack w i r d m y lent a t b u = (a ∙ sym b, t ∙ sym u)
-
-pub day-no-slack : (w : List ℕ) (d m y field : ℕ) {a b : DayAnswer} → a ≡ dayAsked w d m y field → b ≡ dayAsked w d m y field → a ≡ b
-day-no-slack w d m y field a b = a ∙ sym b
-
-pub interchange-no-slack : (w : List ℕ) (n x y : ℕ) {a b : InterchangeAnswer} → a ≡ interchangeAsked w n x y → b ≡ interchangeAsked w n x y → a ≡ b
-interchange-no-slack w n x y a b = a ∙ sym b
-
-pub between-no-slack : (w : List ℕ) (n x y : ℕ) {a b : InterchangeAnswer} → a ≡ betweenAsked w n x y → b ≡ betweenAsked w n x y → a ≡ b
-between-no-slack w n x y a b = a ∙ sym b
-
--- ---- demand 3
 
 level : (a b : ℕ) → (a < b → ⊥) → (b < a → ⊥) → a ≡ b
 level a b f g = by-ltb (λ t. a ≡ b) a b (λ h. absurd (f h)) (λ h. by-ltb (λ t. a ≡ b) b a (λ k. absurd (g k)) (λ k. omega arith))
