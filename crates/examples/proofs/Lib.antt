@@ -9,3 +9,4 @@ pub mod Places
 pub mod Dial
 pub mod Classes
 pub mod Edges
+pub mod Loads

@@ -4,3 +4,4 @@ pub mod Names
 pub mod Classes
 pub mod Edges
 pub mod Places
+pub mod Loads
