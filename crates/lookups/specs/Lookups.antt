@@ -1,4 +1,4 @@
--- Places in the words of a table, and what the look-ups answer of what the table holds. Assumes nothing.
+-- Places in words, and what the look-ups answer of what stands there. Assumes nothing.
 use Prim.Native.Nat.{ℕ, zero, suc, _+_}
 use mathlib.Core.List.{List}
 use mathlib.Core.Bool.{Bool, true, false, cond}
@@ -6,8 +6,8 @@ use mathlib.Core.Option.{Option, none, some}
 use lib.ListN.{drop}
 use lib.Dec.{eqb}
 use Rattle.timetable.specs.Delivery.{StopRecord, Interchange}
-use Rattle.timetable.specs.Table.{word, servicesPlace, tableOf, isTable}
-use Rattle.timetable.specs.Questions.{Dated, undated, dated, dateOf}
+use Rattle.timetable.specs.Table.{word, servicesPlace}
+use Rattle.timetable.specs.Questions.{Dated, undated, dated}
 use Rattle.lookups.specs.declared.Found.{Found}
 use Rattle.lookups.specs.declared.Found.the-variants.{At, Nothing}
 use Rattle.lookups.specs.declared.PeriodDay.{PeriodDay}
@@ -48,10 +48,7 @@ nameIn (some s) = namePlace s
 abbrev pub timesOf : Interchange → Times
 timesOf c = record { first = c .firstTime; second = c .secondTime }
 
--- "21, 22 no such date, 23 outside the period"
+-- "22 no such date .., 23 outside the period"
 abbrev pub periodDay : Dated → PeriodDay
 periodDay (undated number) = Refused number
 periodDay (dated k) = On k
-
-unfoldable pub datedAsked : List ℕ → ℕ → ℕ → ℕ → PeriodDay
-datedAsked w day month year = cond (isTable w) (periodDay (dateOf (tableOf w) day month year)) (Refused 21)

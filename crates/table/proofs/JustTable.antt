@@ -18,7 +18,7 @@ use Rattle.table.proofs.Says.{HeadOf, table-parts, table-says, table-wo
 -- ---- the words used
 
 -- a sound header is sound for the words used alone
-head-alone : (lent m first n b s u at k : ℕ) → headSound lent m first n b s u at k ≡ true → headSound m m first n b s u at k ≡ true
+pub head-alone : (lent m first n b s u at k : ℕ) → headSound lent m first n b s u at k ≡ true → headSound m m first n b s u at k ≡ true
 unfolding headSound
 head-alone lent m first n b s u at k e =
     let (a, e1) = and-true (leb headerSize m) _ e in
