@@ -9,7 +9,8 @@ use Rattle.calendar.specs.Calendar.{yearsBefore, monthsBefore, exists, dayOf}
 use Rattle.timetable.specs.Legs.{fieldRuns}
 use Rattle.timetable.specs.Runs.{openingSound}
 use Rattle.timetable.specs.Table.{rowsIn, serviceAt, servicesIn, stopsAt, tableOf, recordSound, recordsSound, headSound, isTable}
-use Rattle.timetable.specs.Questions.{dayAsked, interchangeAtStop, interchangeAsked, classFor, betweenAsked}
+use Rattle.timetable.specs.View.{interchangeAtStop, classFor}
+use Rattle.timetable.specs.Questions.{dayIn, dayAsked, interchangeIn, interchangeAsked, betweenIn, betweenAsked}
 use Rattle.timetable.specs.declared.DayAnswer.the-variants.{Runs, Idle, Refused as DayRefused}
 use Rattle.timetable.specs.declared.InterchangeAnswer.the-variants.{Minutes, Refused as InterchangeRefused}
 use Rattle.timetable.specs.Trial.{trialWords as words}
@@ -25,7 +26,7 @@ pub days : (dayAsked words 1 12 2025 1 ≡ Runs)
     × (dayAsked words 8 12 2025 0 ≡ DayRefused 23)
     × (dayAsked words 31 11 2025 1 ≡ DayRefused 22)
     × (dayAsked (take 81 words) 31 11 2025 1 ≡ DayRefused 21)
-unfolding dayAsked isTable headSound recordsSound recordSound serviceAt servicesIn rowsIn every tableOf fieldRuns find some-of dayOf exists yearsBefore monthsBefore bit openingSound
+unfolding dayAsked dayIn isTable headSound recordsSound recordSound serviceAt servicesIn rowsIn every tableOf fieldRuns find some-of dayOf exists yearsBefore monthsBefore bit openingSound
 days = (refl, refl, refl, refl, refl, refl, refl, refl, refl, refl)
 
 -- the trial week with a second interchange record: 1000022, 5, 6
@@ -45,7 +46,7 @@ pub interchanges : (interchangeAsked words 1000022 1 1 ≡ Minutes 2)
     × (interchangeAsked words 7 14 0 ≡ InterchangeRefused 26)
     × (interchangeAsked words 7 0 14 ≡ InterchangeRefused 26)
     × (interchangeAsked (take 81 words) 7 14 14 ≡ InterchangeRefused 21)
-unfolding interchangeAsked interchangeAtStop isTable headSound recordsSound recordSound serviceAt servicesIn rowsIn every stopsAt tableOf find some-of openingSound
+unfolding interchangeAsked interchangeIn interchangeAtStop isTable headSound recordsSound recordSound serviceAt servicesIn rowsIn every stopsAt tableOf find some-of openingSound
 interchanges = (refl, refl, refl, refl, refl, refl, refl, refl, refl, refl, refl, refl)
 
 -- the same with four categories more: 65 of class 2, 66 of class 1, 67 of class 3, and 66 again, of class 13
@@ -65,5 +66,5 @@ pub categories : (betweenAsked words 1000022 4342100 4342100 ≡ Minutes 3)
     × (betweenAsked listing 9999999 65 66 ≡ InterchangeRefused 27)
     × (betweenAsked listing 7 68 68 ≡ InterchangeRefused 27)
     × (betweenAsked (set listing 38 14) 7 68 68 ≡ InterchangeRefused 21)
-unfolding betweenAsked classFor interchangeAtStop isTable headSound recordsSound recordSound serviceAt servicesIn rowsIn every stopsAt tableOf find some-of openingSound
+unfolding betweenAsked betweenIn classFor interchangeAtStop isTable headSound recordsSound recordSound serviceAt servicesIn rowsIn every stopsAt tableOf find some-of openingSound
 categories = (refl, refl, refl, refl, refl, refl, refl, refl, refl, refl, refl, refl)

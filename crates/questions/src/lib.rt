@@ -1,5 +1,5 @@
-// The questions on any words that go by no service: whether a bit field runs on a date, and how long an interchange takes, between two classes or two
-// categories.
+// The questions that go by no service: whether a bit field runs on a date, and how long an interchange takes, between two classes or two categories. Each of any words,
+// and (`day_by`, `interchange_by`, `between_by`, which the quick questions share) of words and an index that look-ups may go by.
 use lookups::PeriodDay;
 use lookups::Times;
 use timetable::DayAnswer;
@@ -9,32 +9,42 @@ ghost use mathlib.Core.Path.{_≡_};
 ghost use mathlib.Core.Bool.{cond, _&&_};
 ghost use Prim.Native.Nat.{_<_};
 ghost use lib.Dec.{leb};
-ghost use Rattle.timetable.specs.Files.{hasClass};
-ghost use Rattle.timetable.specs.Layout.{mostClass};
-ghost use Rattle.timetable.specs.Table.{periodDays, tableOf};
-ghost use Rattle.timetable.specs.Questions.{dated, dayBy, dayAsked, firstTimeClass, minutesFor, interchangeAtStop, interchangeAsked, classFor, betweenAsked};
-ghost use Rattle.table.specs.JustTable.{JustTable};
+ghost use Rattle.timetable.specs.Layout.{mostClass, mostPeriodDays};
+ghost use Rattle.timetable.specs.Questions.{dated, dayBy, dayIn, dayAsked, firstTimeClass, minutesFor, interchangeIn, interchangeAsked, betweenIn, betweenAsked};
+ghost use Rattle.index.specs.Index.{Ready, viewIn};
 
 // Two services of classes up to this one take the first time.
 const FIRST_TIME_CLASS: u32 = 2;
+
+// ---- day
 
 // Whether a bit field runs on a date: 21 to 23, 28 no such bit field.
 pub fn day(w: &[u32], day: u32, month: u32, year: u32, field: u32) -> DayAnswer
     ensures { λ r. ⌜ r ≡ dayAsked (now (w .entry)) day month year field ⌝ }
 {
-    let on = lookups::dated(w, day, month, year);
+    if !table::is_table(w) {
+        return DayAnswer::Refused(21);
+    }
+    day_by(table::used_words(w), &w[0..0], day, month, year, field)
+}
+
+pub fn day_by(w: &[u32], x: &[u32], day: u32, month: u32, year: u32, field: u32) -> DayAnswer
+    requires { ⌜ Ready (now w) (now x) ⌝ }
+    ensures { λ r. ⌜ r ≡ dayIn (viewIn (now (w .entry)) (now (x .entry))) day month year field ⌝ }
+{
+    let on = index::dated(w, x, day, month, year);
     match on {
         PeriodDay::Refused(number) => DayAnswer::Refused(number),
-        PeriodDay::On(k) => field_day(table::used_words(w), field, k),
+        PeriodDay::On(k) => field_day(w, x, field, k),
     }
 }
 
-// Whether a bit field runs on day k of the period.
-fn field_day(w: &[u32], field: u32, k: u32) -> DayAnswer
-    requires { ⌜ JustTable (now w) × (k < periodDays (now w)) ⌝ }
-    ensures { λ r. ⌜ r ≡ dayBy (tableOf (now (w .entry))) field (dated k) ⌝ }
+// On day k of the period.
+fn field_day(w: &[u32], x: &[u32], field: u32, k: u32) -> DayAnswer
+    requires { ⌜ Ready (now w) (now x) × (k < mostPeriodDays) ⌝ }
+    ensures { λ r. ⌜ r ≡ dayBy (viewIn (now (w .entry)) (now (x .entry))) field (dated k) ⌝ }
 {
-    let f = lookups::field_words(w, field);
+    let f = index::field_words(w, x, field);
     if !f.known {
         return DayAnswer::Refused(28);
     }
@@ -44,6 +54,8 @@ fn field_day(w: &[u32], field: u32, k: u32) -> DayAnswer
     DayAnswer::Idle
 }
 
+// ---- interchange between two classes
+
 // The minutes of an interchange between services of two classes: 21, 26 class over 13, 27 stop unknown.
 pub fn interchange(w: &[u32], stop: u32, a: u32, b: u32) -> InterchangeAnswer
     ensures { λ r. ⌜ r ≡ interchangeAsked (now (w .entry)) stop a b ⌝ }
@@ -51,14 +63,20 @@ pub fn interchange(w: &[u32], stop: u32, a: u32, b: u32) -> InterchangeAnswer
     if !table::is_table(w) {
         return InterchangeAnswer::Refused(21);
     }
-    let u = table::used_words(w);
+    interchange_by(table::used_words(w), &w[0..0], stop, a, b)
+}
+
+pub fn interchange_by(w: &[u32], x: &[u32], stop: u32, a: u32, b: u32) -> InterchangeAnswer
+    requires { ⌜ Ready (now w) (now x) ⌝ }
+    ensures { λ r. ⌜ r ≡ interchangeIn (viewIn (now (w .entry)) (now (x .entry))) stop a b ⌝ }
+{
     if !classes_known(a, b) {
         return InterchangeAnswer::Refused(26);
     }
-    if !lookups::stop_known(u, stop) {
+    if !index::stop_known(w, x, stop) {
         return InterchangeAnswer::Refused(27);
     }
-    InterchangeAnswer::Minutes(minutes(lookups::interchange_at(u, stop), a, b))
+    InterchangeAnswer::Minutes(minutes(index::interchange_at(w, x, stop), a, b))
 }
 
 fn classes_known(a: u32, b: u32) -> bool
@@ -70,6 +88,8 @@ fn classes_known(a: u32, b: u32) -> bool
     b <= MOST_CLASS
 }
 
+// ---- interchange between two categories
+
 // The minutes of an interchange between services of two categories: 21, 27 stop unknown, 38 a category not listed.
 pub fn between(w: &[u32], stop: u32, a: u32, b: u32) -> InterchangeAnswer
     ensures { λ r. ⌜ r ≡ betweenAsked (now (w .entry)) stop a b ⌝ }
@@ -77,33 +97,39 @@ pub fn between(w: &[u32], stop: u32, a: u32, b: u32) -> InterchangeAnswer
     if !table::is_table(w) {
         return InterchangeAnswer::Refused(21);
     }
-    let used = table::used_words(w);
-    if lookups::stop_known(used, stop) {
-        if both_listed(used, a, b) {
-            return InterchangeAnswer::Minutes(minutes_between(used, stop, a, b));
+    between_by(table::used_words(w), &w[0..0], stop, a, b)
+}
+
+pub fn between_by(w: &[u32], x: &[u32], stop: u32, a: u32, b: u32) -> InterchangeAnswer
+    requires { ⌜ Ready (now w) (now x) ⌝ }
+    ensures { λ r. ⌜ r ≡ betweenIn (viewIn (now (w .entry)) (now (x .entry))) stop a b ⌝ }
+{
+    if index::stop_known(w, x, stop) {
+        if both_listed(w, x, a, b) {
+            return InterchangeAnswer::Minutes(minutes_between(w, x, stop, a, b));
         }
         return InterchangeAnswer::Refused(38);
     }
     InterchangeAnswer::Refused(27)
 }
 
-fn both_listed(w: &[u32], a: u32, b: u32) -> bool
-    requires { ⌜ JustTable (now w) ⌝ }
-    ensures { λ r. ⌜ r ≡ (hasClass a (tableOf (now (w .entry)) .classes) && hasClass b (tableOf (now (w .entry)) .classes)) ⌝ }
+fn both_listed(w: &[u32], x: &[u32], a: u32, b: u32) -> bool
+    requires { ⌜ Ready (now w) (now x) ⌝ }
+    ensures { λ r. ⌜ r ≡ (viewIn (now (w .entry)) (now (x .entry)) .listed a && viewIn (now (w .entry)) (now (x .entry)) .listed b) ⌝ }
 {
-    if !lookups::class_known(w, a) {
+    if !index::class_known(w, x, a) {
         return false;
     }
-    lookups::class_known(w, b)
+    index::class_known(w, x, b)
 }
 
 // The time at a stop for the classes of two categories.
-fn minutes_between(w: &[u32], stop: u32, a: u32, b: u32) -> u32
-    requires { ⌜ JustTable (now w) ⌝ }
-    ensures { λ r. ⌜ r ≡ minutesFor (interchangeAtStop (tableOf (now (w .entry))) stop) (classFor (tableOf (now (w .entry))) a) (classFor (tableOf (now (w .entry))) b) ⌝ }
+fn minutes_between(w: &[u32], x: &[u32], stop: u32, a: u32, b: u32) -> u32
+    requires { ⌜ Ready (now w) (now x) ⌝ }
+    ensures { λ r. ⌜ r ≡ minutesFor (viewIn (now (w .entry)) (now (x .entry)) .times stop) (viewIn (now (w .entry)) (now (x .entry)) .class a) (viewIn (now (w .entry)) (now (x .entry)) .class b) ⌝ }
 {
-    let times = lookups::interchange_at(w, stop);
-    minutes(times, lookups::class_for(w, a), lookups::class_for(w, b))
+    let times = index::interchange_at(w, x, stop);
+    minutes(times, index::class_for(w, x, a), index::class_for(w, x, b))
 }
 
 // The time for two classes.

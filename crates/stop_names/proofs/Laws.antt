@@ -1,4 +1,4 @@
--- The needs of the question for a name: those of `name_within` (for `search parts`), `stop_name` (`search stops`) and `name` (`search questions`).
+-- The needs of the question for a name: those of `name_within` (for `search parts`), `stop_name` (`search stops`), `name_by` (`search names`) and `name` (`search plain`).
 -- Assumes nothing.
 use mathlib.Core.Path.{_≡_, refl, ap, _∙_, sym}
 use mathlib.Core.List.{List}
@@ -8,7 +8,7 @@ use Prim.Native.Nat.{ℕ, _+_, _-_, _^_, _≤_, _<_}
 use native.Mathlib.Nat.{add-sub-cancel-left}
 use native.Mathlib.Omega.{arith}
 use lib.ListN.{length, take, drop, length-take, length-drop}
-use borrow.Author.Tests.{not-true, not-false, le-leb, lt-leb}
+use borrow.Author.Tests.{le-leb, lt-leb}
 use Rattle.base.proofs.Laws.{tests, apart}
 use Rattle.names.specs.Names.{askable, wantedBy, nameFor}
 use Rattle.names.specs.Answers.{chosenBy, askedBy}
@@ -20,15 +20,16 @@ use Rattle.names.specs.declared.Chosen.{Chosen}
 use Rattle.names.specs.declared.Chosen.the-variants.{Is, NoList}
 use Rattle.names.proofs.Inside.{answer-is-part}
 use Rattle.timetable.specs.Delivery.{StopRecord}
-use Rattle.timetable.specs.Table.{used, tableOf, isTable}
-use Rattle.timetable.specs.StopNames.{stopNumbered, partFrom, nameWithin, stopName, stopNameAsked}
+use Rattle.timetable.specs.Table.{used, isTable}
+use Rattle.timetable.specs.View.{View}
+use Rattle.timetable.specs.StopNames.{partFrom, nameWithin, stopName, stopNameIn, stopNameAsked}
 use Rattle.timetable.specs.declared.NameAnswer.{NameAnswer}
 use Rattle.timetable.specs.declared.NameAnswer.the-variants.{Part, Refused}
-use Rattle.table.specs.JustTable.{JustTable}
-use Rattle.table.proofs.JustTable.{used-just, used-same}
 use Rattle.lookups.specs.Lookups.{nameIn}
 use Rattle.lookups.specs.declared.StopName.{StopName}
 use Rattle.lookups.specs.declared.StopName.the-variants.{Place, Unknown}
+use Rattle.index.specs.Index.{viewIn}
+use Rattle.index.proofs.Quick.{asked-refused, asked-on, plain-words}
 
 -- ---- a name in so many bytes from a place on; c is what the name list there answered
 
@@ -73,7 +74,7 @@ module _ (b : List ℕ) (wanted : Wanted) (offset size : ℕ) where
 
 pub ruleset parts = (tests, name-outside, name-no-list, name-part, name-fits)
 
--- ---- a stop of a table; f is what its record says of its name
+-- ---- a stop; f is what its record says of its name
 
 module _ (b : List ℕ) (wanted : Wanted) where
   by-record : (o : Option StopRecord) (offset size : ℕ) → nameIn o ≡ Place offset size → stopName b wanted o ≡ nameWithin b wanted (at offset size)
@@ -87,51 +88,49 @@ module _ (b : List ℕ) (wanted : Wanted) where
   by-none none e = refl
   by-none (some s) e = apart (cc)
 
-  module _ (w : List ℕ) (stop : ℕ) (f : StopName) (e : f ≡ nameIn (stopNumbered stop (tableOf w .stops))) where
-    pub stop-unknown : f ≡ Unknown → Refused 27 ≡ stopName b wanted (stopNumbered stop (tableOf w .stops))
-    stop-unknown g = sym (by-none (stopNumbered stop (tableOf w .stops)) (sym e ∙ g))
+  -- o is its record
+  module _ (o : Option StopRecord) (f : StopName) (e : f ≡ nameIn o) where
+    pub stop-unknown : f ≡ Unknown → Refused 27 ≡ stopName b wanted o
+    stop-unknown g = sym (by-none o (sym e ∙ g))
 
-    pub stop-placed : (offset size : ℕ) → f ≡ Place offset size → (r : NameAnswer) → r ≡ nameWithin b wanted (at offset size) → r ≡ stopName b wanted (stopNumbered stop (tableOf w .stops))
-    stop-placed offset size g r k = k ∙ sym (by-record (stopNumbered stop (tableOf w .stops)) offset size (sym e ∙ g))
+    pub stop-placed : (offset size : ℕ) → f ≡ Place offset size → (r : NameAnswer) → r ≡ nameWithin b wanted (at offset size) → r ≡ stopName b wanted o
+    stop-placed offset size g r k = k ∙ sym (by-record o offset size (sym e ∙ g))
 
 pub ruleset stops = (tests, stop-unknown, stop-placed)
 
--- ---- any words; x says whether they are a table, a what is asked for
+-- ---- a view; a is what is asked for
 
-module _ (w b : List ℕ) (stop language kind : ℕ) (x : Bool) (e : x ≡ isTable w) where
-  pub no-table : not x ≡ true → Refused 21 ≡ stopNameAsked w b stop language kind
+module _ (v : View) (b : List ℕ) (stop language kind : ℕ) (a : Asked) (f : a ≡ askedBy language kind) where
+  abbrev here : Wanted → NameAnswer
+  here y = stopName b y (v .named stop)
+
+  outside : (t : Bool) (y : Wanted) → cond t (For y) Outside ≡ Outside → cond t (here y) (Refused 40) ≡ Refused 40
+  outside true y g = apart (cc)
+  outside false y g = refl
+
+  inside : (t : Bool) (y wanted : Wanted) → cond t (For y) Outside ≡ For wanted → cond t (here y) (Refused 40) ≡ here wanted
+  inside true y wanted g = let z : y ≡ wanted = cc in rw z
+  inside false y wanted g = apart (cc)
+
+  pub not-asked : a ≡ Outside → Refused 40 ≡ stopNameIn v b stop language kind
+  unfolding stopNameIn
+  not-asked g = sym (outside (askable language kind) (wantedBy language kind) (sym f ∙ g))
+
+  pub name-asked : (wanted : Wanted) → a ≡ For wanted → (r : NameAnswer) → r ≡ stopName b wanted (v .named stop) → r ≡ stopNameIn v b stop language kind
+  unfolding stopNameIn
+  name-asked wanted g r k = k ∙ sym (inside (askable language kind) (wantedBy language kind) wanted (sym f ∙ g))
+
+pub ruleset names = (tests, not-asked, name-asked)
+
+-- ---- any words; t says whether they are a table
+
+module _ (w b : List ℕ) (stop language kind : ℕ) (t : Bool) (e : t ≡ isTable w) where
+  pub name-bare : not t ≡ true → Refused 21 ≡ stopNameAsked w b stop language kind
   unfolding stopNameAsked
-  no-table n = rw (sym e ∙ not-true x n)
+  name-bare n = asked-refused w t e Refused (λ (v : View). stopNameIn v b stop language kind) n
 
-  module _ (n : not x ≡ false) (a : Asked) (f : a ≡ askedBy language kind) where
-    abbrev here : Wanted → NameAnswer
-    here y = stopName b y (stopNumbered stop (tableOf w .stops))
+  pub name-plain : not t ≡ false → (u : List ℕ) → u ≡ used w → (x : List ℕ) → length x ≡ 0 → (r : NameAnswer) → r ≡ stopNameIn (viewIn u x) b stop language kind → r ≡ stopNameAsked w b stop language kind
+  unfolding stopNameAsked
+  name-plain n u p x z r f = f ∙ asked-on w t e n u p x z Refused (λ (v : View). stopNameIn v b stop language kind)
 
-    outside : (t : Bool) (y : Wanted) → cond t (For y) Outside ≡ Outside → cond t (here y) (Refused 40) ≡ Refused 40
-    outside true y g = apart (cc)
-    outside false y g = refl
-
-    inside : (t : Bool) (y wanted : Wanted) → cond t (For y) Outside ≡ For wanted → cond t (here y) (Refused 40) ≡ here wanted
-    inside true y wanted g = let z : y ≡ wanted = cc in rw z
-    inside false y wanted g = apart (cc)
-
-    pub not-asked : a ≡ Outside → Refused 40 ≡ stopNameAsked w b stop language kind
-    unfolding stopNameAsked
-    not-asked g = rw (sym e ∙ not-false x n) (sym (outside (askable language kind) (wantedBy language kind) (sym f ∙ g)))
-
-    module _ (wanted : Wanted) (g : a ≡ For wanted) (u : List ℕ) (p : u ≡ used w) where
-      pub name-asked : (r : NameAnswer) → r ≡ stopName b wanted (stopNumbered stop (tableOf u .stops)) → r ≡ stopNameAsked w b stop language kind
-      unfolding stopNameAsked
-      name-asked r k =
-          let t : isTable w ≡ true = sym e ∙ not-false x n in
-          let z : r ≡ here wanted = k ∙ rw (p, used-same w t) in
-          rw t (z ∙ sym (inside (askable language kind) (wantedBy language kind) wanted (sym f ∙ g)))
-
-module _ (w : List ℕ) (x : Bool) (e : x ≡ isTable w) (n : not x ≡ false) where
-  pub name-table : isTable w ≡ true
-  name-table = sym e ∙ not-false x n
-
-  pub name-just : (u : List ℕ) → u ≡ used w → JustTable u
-  name-just u p = rw p (used-just w name-table)
-
-pub ruleset questions = (tests, no-table, not-asked, name-asked, name-table, name-just)
+pub ruleset plain = (tests, plain-words, name-bare, name-plain)

@@ -1,13 +1,13 @@
-// The question for the name of a stop in a language and of a type (request No. 3), on any words and any bytes of BAHNHOF.
+// The question for the name of a stop in a language and of a type (request No. 3), on any bytes of BAHNHOF: of any words (`name`), and of words and an index that
+// look-ups may go by (`name_by`, which the quick question shares).
 use lookups::StopName;
 use names::Asked;
 use names::Chosen;
 use names::Wanted;
 use timetable::NameAnswer;
 ghost use mathlib.Core.Path.{_≡_};
-ghost use Rattle.timetable.specs.Table.{tableOf};
-ghost use Rattle.timetable.specs.StopNames.{stopNumbered, nameWithin, stopName, stopNameAsked};
-ghost use Rattle.table.specs.JustTable.{JustTable};
+ghost use Rattle.timetable.specs.StopNames.{nameWithin, stopName, stopNameIn, stopNameAsked};
+ghost use Rattle.index.specs.Index.{Ready, viewIn};
 
 // The part of BAHNHOF that holds the name: 21, 40 language or type outside the standard's list, 27 stop unknown, 41, 39.
 pub fn name(w: &[u32], bahnhof: &[u8], stop: u32, language: u32, kind: u32) -> NameAnswer
@@ -16,19 +16,40 @@ pub fn name(w: &[u32], bahnhof: &[u8], stop: u32, language: u32, kind: u32) -> N
     if !table::is_table(w) {
         return NameAnswer::Refused(21);
     }
+    name_by(
+        table::used_words(w),
+        &w[0..0],
+        bahnhof,
+        stop,
+        language,
+        kind,
+    )
+}
+
+pub fn name_by(
+    w: &[u32],
+    x: &[u32],
+    bahnhof: &[u8],
+    stop: u32,
+    language: u32,
+    kind: u32,
+) -> NameAnswer
+    requires { ⌜ Ready (now w) (now x) ⌝ }
+    ensures { λ r. ⌜ r ≡ stopNameIn (viewIn (now (w .entry)) (now (x .entry))) (now (bahnhof .entry)) stop language kind ⌝ }
+{
     let asked = names::asked_for(language, kind);
     let Asked::For(wanted) = asked else {
         return NameAnswer::Refused(40);
     };
-    stop_name(table::used_words(w), bahnhof, stop, wanted)
+    stop_name(w, x, bahnhof, stop, wanted)
 }
 
-// The name of a stop of a table.
-fn stop_name(w: &[u32], bahnhof: &[u8], stop: u32, wanted: Wanted) -> NameAnswer
-    requires { ⌜ JustTable (now w) ⌝ }
-    ensures { λ r. ⌜ r ≡ stopName (now (bahnhof .entry)) wanted (stopNumbered stop (tableOf (now (w .entry)) .stops)) ⌝ }
+// The name of a stop.
+fn stop_name(w: &[u32], x: &[u32], bahnhof: &[u8], stop: u32, wanted: Wanted) -> NameAnswer
+    requires { ⌜ Ready (now w) (now x) ⌝ }
+    ensures { λ r. ⌜ r ≡ stopName (now (bahnhof .entry)) wanted (viewIn (now (w .entry)) (now (x .entry)) .named stop) ⌝ }
 {
-    let found = lookups::stop_name(w, stop);
+    let found = index::stop_name(w, x, stop);
     match found {
         StopName::Place { offset, size } => name_within(bahnhof, offset, size, wanted),
         StopName::Unknown => NameAnswer::Refused(27),

@@ -1,33 +1,30 @@
-use Rattle.questions.proofs.Laws.{categories}
+use Rattle.questions.proofs.Laws.{plain}
 use Rattle.questions.proofs.between.Statement.{statement}
 use Rattle.questions.proofs.between.Tie as tie
 
 is-table-requires : tie.Need-is-table-requires
-is-table-requires c κs = search categories
+is-table-requires c κs = search plain
 
 returns : tie.Need-returns
-returns c = search categories
+returns c = search plain
 
 used-words-requires : tie.Need-used-words-requires
-used-words-requires c κs = search categories
+used-words-requires c κs = search plain
 
-stop-known-requires : tie.Need-stop-known-requires
-stop-known-requires c κs = search categories
+sub-between-by : tie.Need-sub-between-by
+sub-between-by c = search plain
 
-both-listed-requires : tie.Need-both-listed-requires
-both-listed-requires c κs = search categories
+part-between-by-start : tie.Need-part-between-by-start
+part-between-by-start c = search plain
 
-minutes-between-requires : tie.Need-minutes-between-requires
-minutes-between-requires c κs = search categories
+part-between-by-end : tie.Need-part-between-by-end
+part-between-by-end c = search plain
+
+between-by-requires : tie.Need-between-by-requires
+between-by-requires c κs = search plain
 
 returns-2 : tie.Need-returns-2
-returns-2 c = search categories
-
-returns-3 : tie.Need-returns-3
-returns-3 c = search categories
-
-returns-4 : tie.Need-returns-4
-returns-4 c = search categories
+returns-2 c = search plain
 
 pub between-spec : {M : Type 1} → statement M
 between-spec =
@@ -36,9 +33,8 @@ between-spec =
     is-table-requires
     returns
     used-words-requires
-    stop-known-requires
-    both-listed-requires
-    minutes-between-requires
-    returns-2
-    returns-3
-    returns-4)
+    sub-between-by
+    part-between-by-start
+    part-between-by-end
+    between-by-requires
+    returns-2)

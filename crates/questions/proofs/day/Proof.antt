@@ -1,36 +1,40 @@
-use Rattle.questions.proofs.Laws.{days}
+use Rattle.questions.proofs.Laws.{plain}
 use Rattle.questions.proofs.day.Statement.{statement}
 use Rattle.questions.proofs.day.Tie as tie
 
-dated-requires : tie.Need-dated-requires
-dated-requires c κs = search days
-
-enum-known-on : tie.Need-enum-known-on
-enum-known-on c = search days
-
-enum-known-on-2 : tie.Need-enum-known-on-2
-enum-known-on-2 c = search days
-
-used-words-requires : tie.Need-used-words-requires
-used-words-requires c κs = search days
-
-field-day-requires : tie.Need-field-day-requires
-field-day-requires c κs = search days
+is-table-requires : tie.Need-is-table-requires
+is-table-requires c κs = search plain
 
 returns : tie.Need-returns
-returns c = search days
+returns c = search plain
+
+used-words-requires : tie.Need-used-words-requires
+used-words-requires c κs = search plain
+
+sub-day-by : tie.Need-sub-day-by
+sub-day-by c = search plain
+
+part-day-by-start : tie.Need-part-day-by-start
+part-day-by-start c = search plain
+
+part-day-by-end : tie.Need-part-day-by-end
+part-day-by-end c = search plain
+
+day-by-requires : tie.Need-day-by-requires
+day-by-requires c κs = search plain
 
 returns-2 : tie.Need-returns-2
-returns-2 c = search days
+returns-2 c = search plain
 
 pub day-spec : {M : Type 1} → statement M
 day-spec =
     tie.close
     (tie.spec
-    dated-requires
-    enum-known-on
-    enum-known-on-2
-    used-words-requires
-    field-day-requires
+    is-table-requires
     returns
+    used-words-requires
+    sub-day-by
+    part-day-by-start
+    part-day-by-end
+    day-by-requires
     returns-2)

@@ -1,33 +1,30 @@
-use Rattle.stop_names.proofs.Laws.{questions}
+use Rattle.stop_names.proofs.Laws.{plain}
 use Rattle.stop_names.proofs.name.Statement.{statement}
 use Rattle.stop_names.proofs.name.Tie as tie
 
 is-table-requires : tie.Need-is-table-requires
-is-table-requires c κs = search questions
+is-table-requires c κs = search plain
 
 returns : tie.Need-returns
-returns c = search questions
-
-asked-for-requires : tie.Need-asked-for-requires
-asked-for-requires c κs = search questions
-
-enum-known-asked : tie.Need-enum-known-asked
-enum-known-asked c = search questions
-
-enum-told : tie.Need-enum-told
-enum-told c = search questions
-
-returns-2 : tie.Need-returns-2
-returns-2 c = search questions
+returns c = search plain
 
 used-words-requires : tie.Need-used-words-requires
-used-words-requires c κs = search questions
+used-words-requires c κs = search plain
 
-stop-name-requires : tie.Need-stop-name-requires
-stop-name-requires c κs = search questions
+sub-name-by : tie.Need-sub-name-by
+sub-name-by c = search plain
 
-returns-3 : tie.Need-returns-3
-returns-3 c = search questions
+part-name-by-start : tie.Need-part-name-by-start
+part-name-by-start c = search plain
+
+part-name-by-end : tie.Need-part-name-by-end
+part-name-by-end c = search plain
+
+name-by-requires : tie.Need-name-by-requires
+name-by-requires c κs = search plain
+
+returns-2 : tie.Need-returns-2
+returns-2 c = search plain
 
 pub name-spec : {M : Type 1} → statement M
 name-spec =
@@ -35,10 +32,9 @@ name-spec =
     (tie.spec
     is-table-requires
     returns
-    asked-for-requires
-    enum-known-asked
-    enum-told
-    returns-2
     used-words-requires
-    stop-name-requires
-    returns-3)
+    sub-name-by
+    part-name-by-start
+    part-name-by-end
+    name-by-requires
+    returns-2)
