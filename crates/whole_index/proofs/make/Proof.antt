@@ -1,0 +1,22 @@
+use Rattle.whole_index.proofs.Answers.{makes}
+use Rattle.whole_index.proofs.make.Statement.{statement}
+use Rattle.whole_index.proofs.make.Tie as tie
+
+whole-size-requires : tie.Need-whole-size-requires
+whole-size-requires c κs = search makes
+
+returns : tie.Need-returns
+returns c = search makes
+
+put-whole-requires : tie.Need-put-whole-requires
+put-whole-requires c κs = search makes
+
+same-length : tie.Need-same-length
+same-length c = search makes
+
+returns-2 : tie.Need-returns-2
+returns-2 c = search makes
+
+pub make-spec : {M : Type 1} → statement M
+make-spec =
+    tie.close (tie.spec whole-size-requires returns put-whole-requires same-length returns-2)
