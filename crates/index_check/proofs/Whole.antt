@@ -1,0 +1,125 @@
+-- The check as a whole: of the look-ups, for `search lookups`; of the index, for `search wholes`; of any words, for `search any`. Assumes nothing.
+use mathlib.Core.Path.{_≡_, refl, ap, _∙_, sym}
+use mathlib.Core.List.{List, [], _∷_, _++_}
+use mathlib.Core.Bool.{Bool, true, false, not, _&&_, cond}
+use Prim.Native.Nat.{ℕ, zero, suc, _+_, _-_, _*_, _≤_, _<_}
+use native.Mathlib.Nat.{zero-add, sub-zero}
+use native.Mathlib.Omega.{arith}
+use lib.ListN.{length, take, drop, length-drop}
+use lib.Seq.{drop-drop, length-take-le, take-all}
+use lib.Dec.{eqb}
+use borrow.Author.Tests.{not-true, not-false}
+use Rattle.base.proofs.Laws.{tests}
+use Rattle.timetable.specs.Table.{bitFields#, stops#, interchanges#, services#, classes#, used, isTable}
+use Rattle.table.specs.JustTable.{JustTable}
+use Rattle.table.proofs.JustTable.{used-just, just-header}
+use Rattle.chain_check.specs.Tally.{same}
+use Rattle.chain_check.proofs.Needs.{differs}
+use Rattle.index.specs.Index.{stopsFrom, interchangesFrom, classesFrom, servicesFrom, indexSize, fieldSection, stopSection, interchangeSection, classSection, placesOf, chainsOf, indexOf}
+use Rattle.index.proofs.Agrees.{length-of}
+use Rattle.calls.specs.Calls.{callIndexOf}
+use Rattle.whole_index.specs.Whole.{wholeIndexOf}
+use Rattle.whole_index.proofs.Whole.{lookups-long, whole-long}
+use Rattle.index_check.specs.Check.{checkedOf}
+use Rattle.index_check.specs.Parts.{chainsRight}
+use Rattle.index_check.specs.declared.IndexCheck.{IndexCheck}
+use Rattle.index_check.specs.declared.IndexCheck.the-variants.{Right, Refused}
+
+-- ---- words put together: the front is the same, and so is the rest
+
+and-assoc : (a b c : Bool) → (a && (b && c)) ≡ ((a && b) && c)
+and-assoc true b c = refl
+and-assoc false b c = refl
+
+pub same-split : (c d x : List ℕ) (n : ℕ) → length c ≡ n → same x (c ++ d) ≡ (same (take n x) c && same (drop n x) d)
+unfolding same
+same-split [] d x zero e = refl
+same-split [] d x (suc n) e = absurd (omega arith)
+same-split (y ∷ c) d x zero e = absurd (omega arith)
+same-split (y ∷ c) d [] (suc n) e = refl
+same-split (y ∷ c) d (a ∷ x) (suc n) e = ap (λ (t : Bool). eqb a y && t) (same-split c d x n (omega arith)) ∙ and-assoc (eqb a y) (same (take n x) c) (same (drop n x) d)
+
+-- ---- the look-ups
+
+module _ (w x : List ℕ) where
+  section : (a : List ℕ) (from n : ℕ) (c d : List ℕ) → a ≡ drop from x → length c ≡ n → same a (c ++ d) ≡ (same (take n (drop from x)) c && same (drop (from + n) x) d)
+  section a from n c d q e = rw q (same-split c d (drop from x) n e ∙ rw (drop-drop n from x))
+
+  pub lookups-are : same x (indexOf w) ≡ ((chainsRight w x (fieldSection w) && chainsRight w x (stopSection w)) && ((chainsRight w x (interchangeSection w) && chainsRight w x (classSection w)) && same (drop (servicesFrom w) x) (placesOf w)))
+  unfolding indexOf chainsRight
+  lookups-are =
+      let u : List ℕ = chainsOf w (classSection w) ++ placesOf w in
+      let v : List ℕ = chainsOf w (interchangeSection w) ++ u in
+      section x 0 (2 * bitFields# w) (chainsOf w (fieldSection w)) (chainsOf w (stopSection w) ++ v) refl (length-of w (fieldSection w))
+      ∙ ap (λ (t : Bool). chainsRight w x (fieldSection w) && t) (section (drop (0 + 2 * bitFields# w) x) (stopsFrom w) (2 * stops# w) (chainsOf w (stopSection w)) v (ap (λ (j : ℕ). drop j x) (zero-add (2 * bitFields# w))) (length-of w (stopSection w)))
+      ∙ and-assoc (chainsRight w x (fieldSection w)) (chainsRight w x (stopSection w)) (same (drop (interchangesFrom w) x) v)
+      ∙ ap (λ (t : Bool). (chainsRight w x (fieldSection w) && chainsRight w x (stopSection w)) && t) (
+      section (drop (interchangesFrom w) x) (interchangesFrom w) (2 * interchanges# w) (chainsOf w (interchangeSection w)) u refl (length-of w (interchangeSection w))
+      ∙ ap (λ (t : Bool). chainsRight w x (interchangeSection w) && t) (section (drop (classesFrom w) x) (classesFrom w) (2 * classes# w) (chainsOf w (classSection w)) (placesOf w) refl (length-of w (classSection w)))
+      ∙ and-assoc (chainsRight w x (interchangeSection w)) (chainsRight w x (classSection w)) (same (drop (servicesFrom w) x) (placesOf w))
+      )
+
+  module _ (a : Bool) (e : a ≡ (chainsRight w x (fieldSection w) && chainsRight w x (stopSection w))) where
+    pub early-wrong : not a ≡ true → false ≡ same x (indexOf w)
+    early-wrong n = sym (lookups-are ∙ rw (sym e ∙ not-true a n))
+
+    module _ (n : not a ≡ false) (b : Bool) (f : b ≡ (chainsRight w x (interchangeSection w) && chainsRight w x (classSection w))) where
+      pub late-wrong : not b ≡ true → false ≡ same x (indexOf w)
+      late-wrong m = sym (lookups-are ∙ rw (sym e ∙ not-false a n, sym f ∙ not-true b m))
+
+      pub places-tell : not b ≡ false → (p : ℕ) → p ≡ servicesFrom w → (c : Bool) → c ≡ same (drop p x) (placesOf w) → c ≡ same x (indexOf w)
+      places-tell m p q c g = g ∙ sym (lookups-are ∙ rw (sym e ∙ not-false a n, sym f ∙ not-false b m, q))
+
+pub places-long : (w x : List ℕ) (p : ℕ) → length x ≡ indexSize w → p ≡ servicesFrom w → p + services# w ≡ length x
+places-long w x p l q = rw (q, l)
+
+pub ruleset lookups = (tests, just-header, early-wrong, late-wrong, places-long, places-tell)
+
+-- ---- the index; n is how many words the look-ups have
+
+module _ (w x : List ℕ) (n : ℕ) (q : n ≡ indexSize w) where
+  whole-are : same x (wholeIndexOf w) ≡ (same (take n x) (indexOf w) && same (drop n x) (callIndexOf w))
+  unfolding wholeIndexOf
+  whole-are = same-split (indexOf w) (callIndexOf w) x n (lookups-long w ∙ sym q)
+
+  pub whole-short : length x < n → false ≡ same x (wholeIndexOf w)
+  whole-short l = differs x (wholeIndexOf w) (λ e. absurd (omega (arith, q, ap length e, whole-long w)))
+
+  module _ (l : n ≤ length x) where
+    pub front-long : length (take (n - 0) x) ≡ indexSize w
+    front-long = rw sub-zero (length-take-le n x l ∙ q)
+
+    module _ (a : Bool) (e : a ≡ same (take (n - 0) x) (indexOf w)) where
+      pub front-wrong : not a ≡ true → false ≡ same x (wholeIndexOf w)
+      front-wrong m = sym (whole-are ∙ rw (sym (rw sub-zero at e) ∙ not-true a m))
+
+      pub rest-tells : not a ≡ false → (b : Bool) → b ≡ same (take (length x - n) (drop n x)) (callIndexOf w) → b ≡ same x (wholeIndexOf w)
+      rest-tells m b f = f ∙ ap (λ (y : List ℕ). same y (callIndexOf w)) (take-all (length x - n) (drop n x) (omega (arith, length-drop n x))) ∙ sym (whole-are ∙ rw (sym (rw sub-zero at e) ∙ not-false a m))
+
+pub ruleset wholes = (tests, just-header, whole-short, front-long, front-wrong, rest-tells)
+
+-- ---- any words; a says whether they are a table, b whether x is the index of the words u that they use
+
+module _ (w x : List ℕ) (a : Bool) (e : a ≡ isTable w) where
+  pub no-table : not a ≡ true → Refused 21 ≡ checkedOf w x
+  unfolding checkedOf
+  no-table n = sym (rw (sym e ∙ not-true a n))
+
+  module _ (n : not a ≡ false) where
+    pub is-table : isTable w ≡ true
+    is-table = sym e ∙ not-false a n
+
+    module _ (u : List ℕ) (p : u ≡ used w) where
+      pub is-just : JustTable u
+      is-just = rw p (used-just w is-table)
+
+      module _ (b : Bool) (f : b ≡ same x (wholeIndexOf u)) where
+        pub no-index : not b ≡ true → Refused 43 ≡ checkedOf w x
+        unfolding checkedOf
+        no-index m = sym (rw (is-table, sym p, sym f ∙ not-true b m))
+
+        pub its-index : not b ≡ false → Right ≡ checkedOf w x
+        unfolding checkedOf
+        its-index m = sym (rw (is-table, sym p, sym f ∙ not-false b m))
+
+pub ruleset any = (tests, no-table, is-table, is-just, no-index, its-index)
