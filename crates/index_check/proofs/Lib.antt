@@ -1,3 +1,4 @@
 pub mod Sections
 pub mod Places
 pub mod Whole
+pub mod Own

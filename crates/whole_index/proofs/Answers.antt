@@ -1,4 +1,4 @@
--- The making's answer and words: of the parts, for `search parts`; of just a table, for `search makes`; of any words, for `search any`. Assumes nothing.
+-- The making's answer and words: the two parts written, for `search parts`; of just a table, for `search makes`; of any words, for `search any`. Assumes nothing.
 use mathlib.Core.Path.{_≡_, ap, _∙_, sym}
 use mathlib.Core.List.{List, _++_, append-assoc}
 use mathlib.Core.Bool.{Bool, true, false, not}
@@ -23,22 +23,43 @@ use Rattle.whole_index.specs.declared.Made.{Made}
 use Rattle.whole_index.specs.declared.Made.the-variants.{Index, Refused}
 use Rattle.whole_index.proofs.Whole.{lookups-long, whole-long, whole-within}
 
--- ---- the calls; m is the part of t from `from` on that they fill
-
-pub part-long : (w t : List ℕ) (from n : ℕ) → n ≡ callIndexSize w → from + n ≤ length t → length (take (from + n - from) (drop from t)) ≡ callIndexSize w
-part-long w t from n q h =
-    let e : from + n - from ≡ n = omega arith in
-    rw e (length-take-le n (drop from t) (rw length-drop (omega arith)) ∙ q)
-
-pub part-written : (w t m : List ℕ) (from n : ℕ) → n ≡ callIndexSize w → m ≡ callIndexOf w → take from t ++ (m ++ drop (from + n - from) (drop from t)) ≡ write t from (callIndexOf w)
+after-is : (w u m : List ℕ) (a b : ℕ) → b - a ≡ callIndexSize w → m ≡ callIndexOf w → take a u ++ (m ++ drop (b - a) (drop a u)) ≡ write u a (callIndexOf w)
 unfolding write
-part-written w t m from n q e =
-    let d : from + n - from ≡ n = omega arith in
-    rw (d, e, drop-drop n from t, index-long w, sym q) (sym (append-assoc (take from t) (callIndexOf w) (drop (from + n) t)))
+after-is w u m a b d f = rw (d, f, drop-drop (callIndexSize w) a u, index-long w) (sym (append-assoc (take a u) (callIndexOf w) (drop (a + callIndexSize w) u)))
 
-pub ruleset parts = (tests, part-long, part-written)
+-- ---- the two parts; t and u are the words before and after the look-ups, m the calls
 
--- ---- the whole; t, u and v are the words before, after the look-ups, and after the calls
+module _ (w t : List ℕ) (a b : ℕ) (p : a ≡ indexSize w) (q : b ≡ wholeIndexSize w) (l : b ≤ length t) where
+  pub room-lookups : indexSize w ≤ length t
+  room-lookups = omega (arith, q)
+
+  module _ (u : List ℕ) (e : u ≡ write t 0 (indexOf w)) where
+    as-long : length u ≡ length t
+    as-long = rw e (length-write t 0 (indexOf w) (omega (arith, lookups-long w, room-lookups)))
+
+    pub part-inside : b ≤ length u
+    part-inside = omega (arith, as-long)
+
+    pub part-long : length (take (b - a) (drop a u)) ≡ callIndexSize w
+    part-long =
+        let d : b - a ≡ callIndexSize w = omega (arith, p, q) in
+        rw d (length-take-le (callIndexSize w) (drop a u) (rw length-drop (omega (arith, as-long, p, q))))
+
+    pub part-written : (m : List ℕ) → m ≡ callIndexOf w → take a u ++ (m ++ drop (b - a) (drop a u)) ≡ write t 0 (wholeIndexOf w)
+    unfolding wholeIndexOf
+    part-written m f =
+        let k : a ≡ 0 + length (indexOf w) = p ∙ sym (lookups-long w) ∙ sym (zero-add (length (indexOf w))) in
+        after-is w u m a b (omega (arith, p, q)) f
+        ∙ ap (λ (y : List ℕ). write y a (callIndexOf w)) e
+        ∙ ap (λ (j : ℕ). write (write t 0 (indexOf w)) j (callIndexOf w)) k
+        ∙ write-write t 0 (indexOf w) (callIndexOf w) (omega (arith, lookups-long w, room-lookups))
+
+pub part-order : (w : List ℕ) (a b : ℕ) → a ≡ indexSize w → b ≡ wholeIndexSize w → a ≤ b
+part-order w a b p q = omega (arith, p, q)
+
+pub ruleset parts = (tests, room-lookups, part-inside, part-long, part-written, part-order)
+
+-- ---- of just a table; a and b are the sizes of the two parts
 
 module _ (w : List ℕ) (h : JustTable w) (a b : ℕ) (p : a ≡ indexSize w) (q : b ≡ callIndexSize w) where
   pub whole-fits : length w < 2 ^ 64 → a + b < 2 ^ 64
@@ -47,51 +68,26 @@ module _ (w : List ℕ) (h : JustTable w) (a b : ℕ) (p : a ≡ indexSize w) (q
   pub whole-is : a + b ≡ wholeIndexSize w
   whole-is = rw (p, q)
 
-module _ (w t : List ℕ) (l : wholeIndexSize w ≤ length t) where
-  pub room-lookups : indexSize w ≤ length t
-  room-lookups = omega arith
+  module _ (t : List ℕ) where
+    module _ (l : length t < a + b) where
+      pub short-answer : Refused 29 (a + b) ≡ madeOf w (length t)
+      unfolding madeOf
+      short-answer = sym (rw (h .table, just-used w h, lt-ltb (length t) (wholeIndexSize w) (omega (arith, p, q)), sym p, sym q))
 
-  module _ (u : List ℕ) (e : u ≡ write t 0 (indexOf w)) (a : ℕ) (p : a ≡ indexSize w) where
-    pub room-calls : (b : ℕ) → b ≡ callIndexSize w → a + b ≤ length u
-    room-calls b q =
-        let k : length u ≡ length t = rw e (length-write t 0 (indexOf w) (omega (arith, lookups-long w))) in
-        omega (arith, k, p, q)
+      pub short-kept : t ≡ indexInto w t
+      unfolding indexInto
+      short-kept = sym (rw (h .table, just-used w h, lt-ltb (length t) (wholeIndexSize w) (omega (arith, p, q))))
 
-    pub whole-written : (v : List ℕ) → v ≡ write u a (callIndexOf w) → v ≡ write t 0 (wholeIndexOf w)
-    unfolding wholeIndexOf
-    whole-written v f =
-        let k : a ≡ 0 + length (indexOf w) = p ∙ sym (lookups-long w) ∙ sym (zero-add (length (indexOf w))) in
-        f ∙ ap (λ (y : List ℕ). write y a (callIndexOf w)) e
-        ∙ ap (λ (j : ℕ). write (write t 0 (indexOf w)) j (callIndexOf w)) k
-        ∙ write-write t 0 (indexOf w) (callIndexOf w) (omega (arith, lookups-long w))
+    module _ (l : a + b ≤ length t) where
+      pub made-answer : Index (a + b) ≡ madeOf w (length t)
+      unfolding madeOf
+      made-answer = sym (rw (h .table, just-used w h, le-ltb (length t) (wholeIndexSize w) (omega (arith, p, q)), sym p, sym q))
 
-pub ruleset wholes = (tests, just-header, whole-fits, whole-is, room-lookups, room-calls, whole-written)
+      pub made-words : (u : List ℕ) → u ≡ write t 0 (wholeIndexOf w) → u ≡ indexInto w t
+      unfolding indexInto onto
+      made-words u e = e ∙ write-front t (wholeIndexOf w) ∙ sym (rw (h .table, just-used w h, le-ltb (length t) (wholeIndexSize w) (omega (arith, p, q))))
 
--- ---- of just a table; y is its index's size
-
-module _ (w : List ℕ) (h : JustTable w) (y : ℕ) (q : y ≡ wholeIndexSize w) (t : List ℕ) where
-  pub room-enough : y ≤ length t → wholeIndexSize w ≤ length t
-  room-enough l = omega (arith, q)
-
-  module _ (l : length t < y) where
-    pub short-answer : Refused 29 y ≡ madeOf w (length t)
-    unfolding madeOf
-    short-answer = sym (rw (h .table, just-used w h, lt-ltb (length t) (wholeIndexSize w) (omega (arith, q)), sym q))
-
-    pub short-kept : t ≡ indexInto w t
-    unfolding indexInto
-    short-kept = sym (rw (h .table, just-used w h, lt-ltb (length t) (wholeIndexSize w) (omega (arith, q))))
-
-  module _ (l : y ≤ length t) where
-    pub made-answer : Index y ≡ madeOf w (length t)
-    unfolding madeOf
-    made-answer = sym (rw (h .table, just-used w h, le-ltb (length t) (wholeIndexSize w) (omega (arith, q)), sym q))
-
-    pub made-words : (u : List ℕ) → u ≡ write t 0 (wholeIndexOf w) → u ≡ indexInto w t
-    unfolding indexInto onto
-    made-words u e = e ∙ write-front t (wholeIndexOf w) ∙ sym (rw (h .table, just-used w h, le-ltb (length t) (wholeIndexSize w) (omega (arith, q))))
-
-pub ruleset makes = (tests, room-enough, short-answer, short-kept, made-answer, made-words)
+pub ruleset makes = (tests, just-header, whole-fits, whole-is, short-answer, short-kept, made-answer, made-words)
 
 -- ---- any words; x says whether they are a table
 

@@ -2,8 +2,14 @@ use Rattle.whole_index.proofs.Answers.{makes}
 use Rattle.whole_index.proofs.make.Statement.{statement}
 use Rattle.whole_index.proofs.make.Tie as tie
 
-whole-size-requires : tie.Need-whole-size-requires
-whole-size-requires c κs = search makes
+index-size-requires : tie.Need-index-size-requires
+index-size-requires c κs = search makes
+
+call-index-size-requires : tie.Need-call-index-size-requires
+call-index-size-requires c κs = search makes
+
+add-needed : tie.Need-add-needed
+add-needed c = search makes
 
 returns : tie.Need-returns
 returns c = search makes
@@ -19,4 +25,12 @@ returns-2 c = search makes
 
 pub make-spec : {M : Type 1} → statement M
 make-spec =
-    tie.close (tie.spec whole-size-requires returns put-whole-requires same-length returns-2)
+    tie.close
+    (tie.spec
+    index-size-requires
+    call-index-size-requires
+    add-needed
+    returns
+    put-whole-requires
+    same-length
+    returns-2)
