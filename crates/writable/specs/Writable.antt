@@ -34,8 +34,11 @@ unfoldable pub openingWritable : Opening → Bool
 openingWritable o = ltb (o .number) 100000 && (administrationWritable (o .high) (o .low) && (eqb (o .repeats) 0 || leb 1 (o .offset)))
 
 -- "4-6 category (4 not blank)"
-unfoldable pub categoryWritable : CategoryRange → Bool
-categoryWritable r = ltb (r .name) 16777216 && (not (isBlank (r .name / 65536 % 256)) && every notLF (threeOf (r .name)))
+unfoldable pub nameWritable : ℕ → Bool
+nameWritable name = ltb name 16777216 && (not (isBlank (name / 65536 % 256)) && every notLF (threeOf name))
+
+abbrev pub categoryWritable : CategoryRange → Bool
+categoryWritable r = nameWritable (r .name)
 
 -- "bit fields as six digits"
 abbrev pub fieldWritable : ℕ → Bool

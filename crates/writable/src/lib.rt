@@ -2,15 +2,11 @@
 use timetable::Call;
 use timetable::Opening;
 ghost use mathlib.Core.Path.{_≡_};
-ghost use mathlib.Core.Bool.{not};
-ghost use Prim.Native.Nat.{_/_, _%_};
-ghost use lib.Dec.{ltb};
+ghost use mathlib.Core.Bool.{_&&_};
 ghost use Rattle.base.specs.Lists.{every};
-ghost use Rattle.timetable.specs.Ranges.{hasArrival, hasDeparture};
 ghost use Rattle.line_text.specs.Text.{twoOf, threeOf};
 ghost use Rattle.line_text.specs.Laid.{notLF};
-ghost use Rattle.plan_text.specs.PlanText.{noAlighting, noBoarding};
-ghost use Rattle.writable.specs.Writable.{filledByte, halfWritable, administrationWritable, openingWritable, categoryWritable, fieldWritable, codeWritable, timeWritable, timesWritable, callWritable};
+ghost use Rattle.writable.specs.Writable.{filledByte, halfWritable, administrationWritable, openingWritable, nameWritable, fieldWritable, codeWritable, timeWritable, timesWritable, callWritable};
 
 const BLANK: u32 = 32;
 
@@ -99,8 +95,8 @@ pub fn opening_writable(o: Opening) -> bool
 }
 
 // Whether a *G line can name the category.
-pub fn category_writable(name: u32, from: u32, to: u32) -> bool
-    ensures { λ r. ⌜ r ≡ categoryWritable (record { name = name; legs = record { from = from; to = to } }) ⌝ }
+pub fn name_writable(name: u32) -> bool
+    ensures { λ r. ⌜ r ≡ nameWritable name ⌝ }
 {
     if THREE_BYTES <= name {
         return false;
@@ -119,7 +115,7 @@ pub fn field_writable(n: u32) -> bool
 }
 
 // Whether an *A line that is not of operating days can have the code.
-pub fn code_writable(code: u32) -> bool
+fn code_writable(code: u32) -> bool
     ensures { λ r. ⌜ r ≡ codeWritable code ⌝ }
 {
     if TWO_BYTES <= code {
@@ -132,6 +128,16 @@ pub fn code_writable(code: u32) -> bool
         return false;
     }
     code != VE
+}
+
+// Whether an *A line that is not of operating days can have the code and the bit field.
+pub fn extra_writable(code: u32, field: u32) -> bool
+    ensures { λ r. ⌜ r ≡ (codeWritable code && fieldWritable field) ⌝ }
+{
+    if !code_writable(code) {
+        return false;
+    }
+    field_writable(field)
 }
 
 // Whether a time that is stated or not, barred or not, is read back so.
