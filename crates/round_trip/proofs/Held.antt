@@ -207,9 +207,10 @@ extra-says code n g e l =
     let z = and-true (codeWritable code) (fieldWritable n) e in
     let a = and-true (ltb code 65536) _ (z .0) in
     let b = and-true (not (isBlank (code / 256 % 256))) _ (a .1) in
-    let c = and-true (every notLF (twoOf code)) _ (b .1) in
-    (record { code-fits = ltb-true code 65536 (a .0); first-filled = b .0; no-LF = c .0; field-fits = ltb-true n 1000000 (z .1); legs = l },
-    eqb-false code VE (not-is (eqb code VE) (c .1)))
+    let c = and-true (every notLF (twoOf code)) _ (b .1) in (
+      record { code-fits = ltb-true code 65536 (a .0); first-filled = b .0; no-LF = c .0; field-fits = ltb-true n 1000000 (z .1); legs = l },
+      eqb-false code VE (not-is (eqb code VE) (c .1)),
+    )
   where
     not-is : (t : Bool) → not t ≡ true → t ≡ false
     not-is true v = clash v
