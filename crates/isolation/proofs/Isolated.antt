@@ -1,0 +1,107 @@
+-- One operator's edit: document 02, No. 14, its first half, proved; specs/Edit.antt says what is edited. Assumes nothing.
+use mathlib.Core.Path.{_≡_, refl, sym, ap, _∙_}
+use mathlib.Core.Logic.{_⊎_, inl, inr}
+use mathlib.Core.List.{List, [], _∷_, _++_, map}
+use mathlib.Core.Bool.{Bool, true}
+use Prim.Native.Nat.{ℕ, zero, suc}
+use native.Mathlib.Omega.{arith}
+use lib.ListN.{length, getElem?, length-map}
+use Rattle.lines.specs.Lines.{Line, linesOf}
+use Rattle.timetable.specs.Delivery.{Files, BitField, DayRange, ExtraRange, Service, Delivery}
+use Rattle.timetable.specs.Service.{blocks, serviceOf}
+use Rattle.timetable.specs.Files.{periodIn, bitFieldsIn, interchangesIn}
+use Rattle.timetable.specs.Legs.{fieldKnown, fieldRuns}
+use Rattle.timetable.specs.Load.{delivered, loaded, written}
+use Rattle.timetable.specs.Questions.{Journey, journey, walkOf, walkedBy, walked, rowsBy, walkRows}
+use Rattle.timetable.specs.declared.Loaded.the-variants.{Accepted}
+use Rattle.whole_runs.proofs.Accepted.{walk-accepted}
+use Rattle.isolation.specs.Alike.{WalksAlike}
+use Rattle.isolation.specs.Edit.{endsLine, startsService, OneService, Edited, place}
+use Rattle.isolation.proofs.Lines.{map-map, map-by, bare, services, services-cut}
+use Rattle.isolation.proofs.Walks.{dayFor, extraFor, serviceFor, Knows, journey-for}
+
+-- ---- lists that differ in one place
+
+one-differs : {X : Type 0} (a m n c : List X) → length m ≡ 1 → length n ≡ 1 → (i : ℕ) → (i ≡ length a → ⊥) → getElem? (a ++ (m ++ c)) i ≡ getElem? (a ++ (n ++ c)) i
+one-differs [] [] n c p q i h = absurd (omega (arith, p))
+one-differs [] (x ∷ []) [] c p q i h = absurd (omega (arith, q))
+one-differs [] (x ∷ []) (y ∷ []) c p q zero h = absurd (h refl)
+one-differs [] (x ∷ []) (y ∷ []) c p q (suc i) h = refl
+one-differs [] (x ∷ []) (y ∷ z ∷ n) c p q i h = absurd (omega (arith, q))
+one-differs [] (x ∷ y ∷ m) n c p q i h = absurd (omega (arith, p))
+one-differs (x ∷ a) m n c p q zero h = refl
+one-differs (x ∷ a) m n c p q (suc i) h = one-differs a m n c p q i (λ e. h (ap suc e))
+
+-- ---- the services of the two
+
+abbrev same : ℕ → ℕ
+same b = b
+
+map-same : {X : Type 0} (f : X → X) → ((x : X) → f x ≡ x) → (xs : List X) → map f xs ≡ xs
+map-same f e [] = refl
+map-same f e (x ∷ xs) = rw (e x, map-same f e xs)
+
+-- with their own numbers
+own-numbers : (s : Service) → serviceFor same 0 s ≡ bare s
+own-numbers s = rw (map-same (dayFor same) (λ r. refl) (s .days), map-same (extraFor same) (λ r. refl) (s .extras))
+
+bare-delivered : (f : Files) → map bare (delivered f .services) ≡ services (linesOf (f .fplan))
+unfolding delivered
+bare-delivered f = map-map serviceOf bare (blocks (linesOf (f .fplan)))
+
+one-of : (s : List ℕ) → OneService s → length (services (linesOf s)) ≡ 1
+one-of s h = length-map (blocks (linesOf s)) (λ (b : List Line). bare (serviceOf b)) ∙ h .once
+
+first-cut : (post x y : List ℕ) → (post ≡ []) ⊎ ((endsLine x ≡ true) × (endsLine y ≡ true)) → (post ≡ []) ⊎ (endsLine x ≡ true)
+first-cut post x y (inl e) = inl e
+first-cut post x y (inr e) = inr (e .0)
+
+second-cut : (post x y : List ℕ) → (post ≡ []) ⊎ ((endsLine x ≡ true) × (endsLine y ≡ true)) → (post ≡ []) ⊎ (endsLine y ≡ true)
+second-cut post x y (inl e) = inl e
+second-cut post x y (inr e) = inr (e .1)
+
+module _ (f g : Files) (e : Edited f g) where
+  services-before : map bare (delivered f .services) ≡ services (linesOf (e .pre)) ++ (services (linesOf (e .x)) ++ services (linesOf (e .post)))
+  services-before =
+      bare-delivered f ∙ (ap (λ (s : List ℕ). services (linesOf s)) (e .before)
+      ∙ services-cut (e .pre) (e .x) (e .post) (e .pre-ends) (e .x-service .starts) (e .post-service) (first-cut (e .post) (e .x) (e .y) (e .block-ends)))
+
+  services-after : map bare (delivered g .services) ≡ services (linesOf (e .pre)) ++ (services (linesOf (e .y)) ++ services (linesOf (e .post)))
+  services-after =
+      bare-delivered g ∙ (ap (λ (s : List ℕ). services (linesOf s)) (e .after)
+      ∙ services-cut (e .pre) (e .y) (e .post) (e .pre-ends) (e .y-service .starts) (e .post-service) (second-cut (e .post) (e .x) (e .y) (e .block-ends)))
+
+  -- every other service is the same, but for its opening line's number
+  pub service-kept : (i : ℕ) → (i ≡ place e → ⊥) → getElem? (map bare (delivered f .services)) i ≡ getElem? (map bare (delivered g .services)) i
+  service-kept i other =
+      ap (λ (ss : List Service). getElem? ss i) services-before
+      ∙ (one-differs (services (linesOf (e .pre))) (services (linesOf (e .x))) (services (linesOf (e .y))) (services (linesOf (e .post))) (one-of (e .x) (e .x-service)) (one-of (e .y) (e .y-service)) i
+      (λ q. other (q ∙ length-map (blocks (linesOf (e .pre))) (λ (b : List Line). bare (serviceOf b))))
+      ∙ sym (ap (λ (ss : List Service). getElem? ss i) services-after))
+
+  -- and so is its walk
+  pub journey-kept : (i : ℕ) → (i ≡ place e → ⊥) → (r day month year : ℕ) → journey (delivered f) i r day month year ≡ journey (delivered g) i r day month year
+  unfolding delivered
+  journey-kept i other =
+      journey-for same (delivered f) (delivered g)
+      (record { known = λ b. ap (λ (s : List ℕ). fieldKnown b (bitFieldsIn s)) (e .bitfeld); runs = λ b k. ap (λ (s : List ℕ). fieldRuns (bitFieldsIn s) b k) (e .bitfeld) })
+      (ap interchangesIn (e .umsteigb)) i (ap (λ (s : List ℕ). periodIn (linesOf s)) (e .eckdaten))
+      (service-kept i other ∙ ap (λ (ss : List Service). getElem? ss i) (sym (map-by (serviceFor same 0) bare own-numbers (delivered g .services))))
+
+-- ---- at the tables
+
+-- two walks that come to the same
+pub alike-by : (w v : List ℕ) (i : ℕ) → ((r day month year : ℕ) → walkOf w i r day month year ≡ walkOf v i r day month year) → WalksAlike w v i
+alike-by w v i e = record {
+  answers = λ r day month year room. ap (λ (j : Journey). walkedBy j room) (e r day month year);
+  rows = λ r day month year lent. ap (λ (j : Journey). rowsBy j lent) (e r day month year);
+}
+
+-- "If two accepted deliveries differ only inside one service's block of FPLAN, which is one service in both, every other service's walk gives the same
+-- answer and rows, given the same service index, repeat, date and room."
+pub isolated : (f g : Files) (e : Edited f g)
+    → (t t′ : List ℕ) (helper helper′ u u′ : ℕ) → loaded f (length t) helper ≡ Accepted u → loaded g (length t′) helper′ ≡ Accepted u′
+    → (i : ℕ) → (i ≡ place e → ⊥) → WalksAlike (written f t helper) (written g t′ helper′) i
+isolated f g e t t′ helper helper′ u u′ a a′ i other =
+    alike-by (written f t helper) (written g t′ helper′) i
+    (λ r day month year. walk-accepted f t helper u a i r day month year ∙ (journey-kept f g e i other r day month year ∙ sym (walk-accepted g t′ helper′ u′ a′ i r day month year)))
