@@ -18,7 +18,8 @@ use Rattle.whole_runs.proofs.Accepted.{walk-accepted}
 use Rattle.isolation.specs.Alike.{WalksAlike}
 use Rattle.isolation.specs.Edit.{endsLine, startsService, OneService, Edited, place}
 use Rattle.isolation.proofs.Lines.{map-map, map-by, bare, services, services-cut}
-use Rattle.isolation.proofs.Walks.{dayFor, extraFor, serviceFor, Knows, journey-for}
+use Rattle.isolation.proofs.Days.{dayFor, extraFor, serviceFor, Knows}
+use Rattle.isolation.proofs.Walks.{journey-for}
 
 -- ---- lists that differ in one place
 

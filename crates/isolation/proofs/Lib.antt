@@ -1,6 +1,9 @@
 pub mod Lines
+pub mod Days
 pub mod Walks
 pub mod Isolated
 pub mod Columns
 pub mod Texts
 pub mod Each
+pub mod Told
+pub mod Changed

@@ -96,24 +96,30 @@ plain-append a b h = ap (map textOnly) (pieces-append a b h) ∙ map-append text
 
 -- ---- blocks of them
 
-head-unplaced : (ls : List Line) → headLines (map unplaced ls) ≡ map unplaced (headLines ls)
-unfolding headLines opens
-head-unplaced [] = refl
-head-unplaced (l ∷ ls) = go (opens l) (head-unplaced ls)
-  where
-    go : (t : Bool) → headLines (map unplaced ls) ≡ map unplaced (headLines ls) → cond t [] (unplaced l ∷ headLines (map unplaced ls)) ≡ map unplaced (cond t [] (l ∷ headLines ls))
-    go true e = refl
-    go false e = ap (λ (r : List Line). unplaced l ∷ r) e
+-- lines changed, of which the same open a service
+module _ (g : Line → Line) (keeps : (l : Line) → opens (g l) ≡ opens l) where
+  pub head-map : (ls : List Line) → headLines (map g ls) ≡ map g (headLines ls)
+  unfolding headLines
+  head-map [] = refl
+  head-map (l ∷ ls) = rw (keeps l) (go (opens l) (head-map ls))
+    where
+      go : (t : Bool) → headLines (map g ls) ≡ map g (headLines ls) → cond t [] (g l ∷ headLines (map g ls)) ≡ map g (cond t [] (l ∷ headLines ls))
+      go true e = refl
+      go false e = ap (λ (r : List Line). g l ∷ r) e
 
-blocks-unplaced : (ls : List Line) → blocks (map unplaced ls) ≡ map (map unplaced) (blocks ls)
-unfolding blocks opens
-blocks-unplaced [] = refl
-blocks-unplaced (l ∷ ls) = go (opens l) (head-unplaced ls) (blocks-unplaced ls)
-  where
-    go : (t : Bool) → headLines (map unplaced ls) ≡ map unplaced (headLines ls) → blocks (map unplaced ls) ≡ map (map unplaced) (blocks ls)
-        → cond t ((unplaced l ∷ headLines (map unplaced ls)) ∷ blocks (map unplaced ls)) (blocks (map unplaced ls)) ≡ map (map unplaced) (cond t ((l ∷ headLines ls) ∷ blocks ls) (blocks ls))
-    go true h e = rw (h, e)
-    go false h e = e
+  pub blocks-map : (ls : List Line) → blocks (map g ls) ≡ map (map g) (blocks ls)
+  unfolding blocks
+  blocks-map [] = refl
+  blocks-map (l ∷ ls) = rw (keeps l) (go (opens l) (head-map ls) (blocks-map ls))
+    where
+      go : (t : Bool) → headLines (map g ls) ≡ map g (headLines ls) → blocks (map g ls) ≡ map (map g) (blocks ls)
+          → cond t ((g l ∷ headLines (map g ls)) ∷ blocks (map g ls)) (blocks (map g ls)) ≡ map (map g) (cond t ((l ∷ headLines ls) ∷ blocks ls) (blocks ls))
+      go true h e = rw (h, e)
+      go false h e = e
+
+opens-unplaced : (l : Line) → opens (unplaced l) ≡ opens l
+unfolding opens
+opens-unplaced l = refl
 
 -- ---- services of them
 
@@ -163,7 +169,7 @@ services ls = allBare (blocks ls)
 
 services-unplaced : (ls : List Line) → services (map unplaced ls) ≡ services ls
 services-unplaced ls =
-    ap allBare (blocks-unplaced ls)
+    ap allBare (blocks-map unplaced opens-unplaced ls)
     ∙ (map-map (map unplaced) (λ (b : List Line). bare (serviceOf b)) (blocks ls)
     ∙ map-by (λ (b : List Line). bare (serviceOf (map unplaced b))) (λ (b : List Line). bare (serviceOf b)) bare-unplaced (blocks ls))
 
@@ -233,7 +239,7 @@ skipped-unplaced [] h = refl
 skipped-unplaced (l ∷ ls) h = let q = and-true (skipped (l .text)) (every (λ (l : Line). skipped (l .text)) ls) h in rw (q .0) (skipped-unplaced ls (q .1))
 
 starts-plain : (s : List ℕ) → startsService s ≡ true → Skipped (headLines (plain s))
-starts-plain s h = rw (sym (unplaced-lines 1 0 s), head-unplaced (linesOf s)) (skipped-unplaced (headLines (linesOf s)) h)
+starts-plain s h = rw (sym (unplaced-lines 1 0 s), head-map unplaced opens-unplaced (linesOf s)) (skipped-unplaced (headLines (linesOf s)) h)
 
 -- ---- the services of FPLAN cut in three
 

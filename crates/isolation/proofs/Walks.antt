@@ -2,24 +2,21 @@
 -- Assumes nothing.
 use mathlib.Core.Path.{_≡_, refl, sym, ap, _∙_}
 use mathlib.Core.List.{List, [], _∷_, _++_, map}
-use mathlib.Core.Bool.{Bool, true, false, cond, not, _&&_, _||_}
+use mathlib.Core.Bool.{Bool, true, false, cond, not}
 use mathlib.Core.Option.{Option, none, some}
 use Prim.Native.Nat.{ℕ, zero, suc, _+_}
 use lib.ListN.{getElem?}
-use Rattle.base.specs.Lists.{every, some-of, countIf, below}
+use Rattle.base.specs.Lists.{below}
 use Rattle.base.proofs.Laws.{apart}
 use Rattle.calendar.specs.Calendar.{dayOf}
-use Rattle.timetable.specs.Delivery.{Period, BitField, DayRange, ExtraRange, Service, Delivery}
-use Rattle.timetable.specs.Legs.{covers, covering, fieldKnown, fieldRuns, operated, legCount, operatedLegs}
+use Rattle.timetable.specs.Delivery.{Period, DayRange, ExtraRange, Service, Delivery}
+use Rattle.timetable.specs.Legs.{legCount, operatedLegs}
 use Rattle.timetable.specs.Offences.{_<|>_}
 use Rattle.timetable.specs.Questions.{Stretch, stretchOf, legRefusal, firstRefusal, interchangeAtStop, callRefusal, callsRefusal, neededLast, rowsOf, stretchCalls, serviceJourney, indexed, datedBy, dateOf, datedJourney, Dated, undated, dated, journey, stretchJourney, onDay}
 use Rattle.timetable.specs.Runs.{lateness}
 use Rattle.timetable.specs.declared.Call.{Call}
-use Rattle.isolation.proofs.Lines.{bare, map-by}
-
--- the same opening, calls and categories, with other ranges of days and another line
-abbrev pub besides : ℕ → List DayRange → List ExtraRange → Service → Service
-besides n ds es s = record { line = n; opening = s .opening; calls = s .calls; categories = s .categories; days = ds; extras = es }
+use Rattle.isolation.proofs.Lines.{bare}
+use Rattle.isolation.proofs.Days.{besides, dayFor, extraFor, serviceFor, Knows, covering-for, known-for, legs-for}
 
 module _ (n : ℕ) (ds : List DayRange) (es : List ExtraRange) (s : Service) where
   calls-besides : (a m i before : ℕ) (cs : List Call) → callsRefusal (besides n ds es s) a m i before cs ≡ callsRefusal s a m i before cs
@@ -54,54 +51,20 @@ elem-map f [] i = refl
 elem-map f (x ∷ xs) zero = refl
 elem-map f (x ∷ xs) (suc i) = elem-map f xs i
 
-abbrev pub dayFor : (ℕ → ℕ) → DayRange → DayRange
-dayFor σ r = record { field = σ (r .field); legs = r .legs }
-
-abbrev pub extraFor : (ℕ → ℕ) → ExtraRange → ExtraRange
-extraFor σ r = record { code = r .code; field = σ (r .field); legs = r .legs }
-
--- with its opening line's number n
-abbrev pub serviceFor : (ℕ → ℕ) → ℕ → Service → Service
-serviceFor σ n s = besides n (map (dayFor σ) (s .days)) (map (extraFor σ) (s .extras)) s
-
--- what d knows of σ b is what e knows of b
-pub record Knows (σ : ℕ → ℕ) (d e : List BitField) : Type 0 where
-  pub known : (b : ℕ) → fieldKnown (σ b) d ≡ fieldKnown b e
-  pub runs : (b k : ℕ) → fieldRuns d (σ b) k ≡ fieldRuns e b k
-
 module _ (σ : ℕ → ℕ) (d e : Delivery) (h : Knows σ (d .fields) (e .fields)) where
-  covering-for : (rs : List DayRange) (k : ℕ) → covering (λ (r : DayRange). r .legs) (map (dayFor σ) rs) k ≡ covering (λ (r : DayRange). r .legs) rs k
-  unfolding countIf
-  covering-for [] k = refl
-  covering-for (r ∷ rs) k = ap (λ (n : ℕ). cond (covers k (r .legs)) 1 0 + n) (covering-for rs k)
-
-  known-for : (rs : List DayRange) (k : ℕ) → every (λ (r : DayRange). not (covers k (r .legs)) || fieldKnown (r .field) (d .fields)) (map (dayFor σ) rs)
-      ≡ every (λ (r : DayRange). not (covers k (r .legs)) || fieldKnown (r .field) (e .fields)) rs
-  unfolding every
-  known-for [] k = refl
-  known-for (r ∷ rs) k = rw (h .known (r .field), known-for rs k)
-
   leg-for : (n : ℕ) (s : Service) (k : ℕ) → legRefusal d (serviceFor σ n s) k ≡ legRefusal e s k
-  leg-for n s k = rw (covering-for (s .days) k, known-for (s .days) k)
+  leg-for n s k = rw (covering-for σ (s .days) k, known-for σ (d .fields) (e .fields) h (s .days) k)
 
   first-for : (n : ℕ) (s : Service) (ks : List ℕ) → firstRefusal (legRefusal d (serviceFor σ n s)) ks ≡ firstRefusal (legRefusal e s) ks
   unfolding firstRefusal
   first-for n s [] = refl
   first-for n s (k ∷ ks) = rw (leg-for n s k, first-for n s ks)
 
-  pub operated-for : (rs : List DayRange) (day k : ℕ) → operated (d .fields) (map (dayFor σ) rs) day k ≡ operated (e .fields) rs day k
-  unfolding some-of
-  operated-for [] day k = refl
-  operated-for (r ∷ rs) day k = rw (h .runs (r .field) day, operated-for rs day k)
-
-  pub legs-for : (n : ℕ) (s : Service) (day : ℕ) → operatedLegs (d .fields) (serviceFor σ n s) day ≡ operatedLegs (e .fields) s day
-  legs-for n s day = map-by (operated (d .fields) (map (dayFor σ) (s .days)) day) (operated (e .fields) (s .days) day) (operated-for (s .days) day) (below (legCount s))
-
   module _ (times : d .interchanges ≡ e .interchanges) where
     service-for : (n : ℕ) (s : Service) (r k : ℕ) → serviceJourney d (serviceFor σ n s) r k ≡ serviceJourney e s r k
     service-for n s r k = rw (
       first-for n s (below (legCount s)),
-      legs-for n s k,
+      legs-for σ (d .fields) (e .fields) h n s k,
       day-besides n (map (dayFor σ) (s .days)) (map (extraFor σ) (s .extras)) s d e times (lateness (s .opening) r) (operatedLegs (e .fields) s k),
     )
 
