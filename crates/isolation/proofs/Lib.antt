@@ -7,3 +7,5 @@ pub mod Texts
 pub mod Each
 pub mod Told
 pub mod Changed
+pub mod Same
+pub mod Renamed
