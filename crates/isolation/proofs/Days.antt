@@ -5,7 +5,7 @@ use mathlib.Core.Bool.{Bool, cond, not, _&&_, _||_}
 use Prim.Native.Nat.{ℕ, _+_}
 use Rattle.base.specs.Lists.{every, some-of, countIf, below}
 use Rattle.timetable.specs.Delivery.{BitField, DayRange, ExtraRange, Service}
-use Rattle.timetable.specs.Legs.{covers, covering, fieldKnown, fieldRuns, operated, legCount, operatedLegs}
+use Rattle.timetable.specs.Legs.{covers, covering, fieldKnown, fieldRuns, operatedBy, legCount, operatedLegsBy}
 use Rattle.isolation.proofs.Lines.{map-by}
 
 -- the same opening, calls and categories, with other ranges of days and another line
@@ -32,17 +32,17 @@ unfolding countIf
 covering-for σ [] k = refl
 covering-for σ (r ∷ rs) k = ap (λ (n : ℕ). cond (covers k (r .legs)) 1 0 + n) (covering-for σ rs k)
 
-module _ (σ : ℕ → ℕ) (fs gs : List BitField) (h : Knows σ fs gs) where
-  pub known-for : (rs : List DayRange) (k : ℕ) → every (λ (r : DayRange). not (covers k (r .legs)) || fieldKnown (r .field) fs) (map (dayFor σ) rs)
-      ≡ every (λ (r : DayRange). not (covers k (r .legs)) || fieldKnown (r .field) gs) rs
-  unfolding every
-  known-for [] k = refl
-  known-for (r ∷ rs) k = rw (h .known (r .field), known-for rs k)
+pub known-for : (σ : ℕ → ℕ) (known old : ℕ → Bool) → ((b : ℕ) → known (σ b) ≡ old b) → (rs : List DayRange) (k : ℕ)
+    → every (λ (r : DayRange). not (covers k (r .legs)) || known (r .field)) (map (dayFor σ) rs) ≡ every (λ (r : DayRange). not (covers k (r .legs)) || old (r .field)) rs
+unfolding every
+known-for σ known old h [] k = refl
+known-for σ known old h (r ∷ rs) k = rw (h (r .field), known-for σ known old h rs k)
 
-  operated-for : (rs : List DayRange) (day k : ℕ) → operated fs (map (dayFor σ) rs) day k ≡ operated gs rs day k
+module _ (σ : ℕ → ℕ) (runs old : ℕ → ℕ → Bool) (h : (b k : ℕ) → runs (σ b) k ≡ old b k) where
+  operated-for : (rs : List DayRange) (day k : ℕ) → operatedBy runs (map (dayFor σ) rs) day k ≡ operatedBy old rs day k
   unfolding some-of
   operated-for [] day k = refl
-  operated-for (r ∷ rs) day k = rw (h .runs (r .field) day, operated-for rs day k)
+  operated-for (r ∷ rs) day k = rw (h (r .field) day, operated-for rs day k)
 
-  pub legs-for : (n : ℕ) (s : Service) (day : ℕ) → operatedLegs fs (serviceFor σ n s) day ≡ operatedLegs gs s day
-  legs-for n s day = map-by (operated fs (map (dayFor σ) (s .days)) day) (operated gs (s .days) day) (operated-for (s .days) day) (below (legCount s))
+  pub legs-for : (n : ℕ) (s : Service) (day : ℕ) → operatedLegsBy runs (serviceFor σ n s) day ≡ operatedLegsBy old s day
+  legs-for n s day = map-by (operatedBy runs (map (dayFor σ) (s .days)) day) (operatedBy old (s .days) day) (operated-for (s .days) day) (below (legCount s))

@@ -9,17 +9,16 @@ use lib.ListN.{length, getElem?, length-map}
 use Rattle.lines.specs.Lines.{Line, linesOf}
 use Rattle.timetable.specs.Delivery.{Files, BitField, DayRange, ExtraRange, Service, Delivery}
 use Rattle.timetable.specs.Service.{blocks, serviceOf}
-use Rattle.timetable.specs.Files.{periodIn, bitFieldsIn, interchangesIn}
+use Rattle.timetable.specs.Files.{periodIn, bitFieldsIn, stopsIn, interchangesIn, classesIn}
 use Rattle.timetable.specs.Legs.{fieldKnown, fieldRuns}
 use Rattle.timetable.specs.Load.{delivered, loaded, written}
-use Rattle.timetable.specs.Questions.{Journey, journey, walkOf, walkedBy, walked, rowsBy, walkRows}
+use Rattle.timetable.specs.Questions.{dayAsked}
 use Rattle.timetable.specs.declared.Loaded.the-variants.{Accepted}
-use Rattle.whole_runs.proofs.Accepted.{walk-accepted}
-use Rattle.isolation.specs.Alike.{WalksAlike}
+use Rattle.isolation.specs.Alike.{WalksAlike, StopsAlike}
 use Rattle.isolation.specs.Edit.{endsLine, startsService, OneService, Edited, place}
 use Rattle.isolation.proofs.Lines.{map-map, map-by, bare, services, services-cut}
-use Rattle.isolation.proofs.Days.{dayFor, extraFor, serviceFor, Knows}
-use Rattle.isolation.proofs.Walks.{journey-for}
+use Rattle.isolation.proofs.Days.{dayFor, extraFor, serviceFor}
+use Rattle.isolation.proofs.Tables.{Alike, ServiceAlike, walks-alike, days-alike, stops-alike}
 
 -- ---- lists that differ in one place
 
@@ -80,29 +79,28 @@ module _ (f g : Files) (e : Edited f g) where
       (λ q. other (q ∙ length-map (blocks (linesOf (e .pre))) (λ (b : List Line). bare (serviceOf b))))
       ∙ sym (ap (λ (ss : List Service). getElem? ss i) services-after))
 
-  -- and so is its walk
-  pub journey-kept : (i : ℕ) → (i ≡ place e → ⊥) → (r day month year : ℕ) → journey (delivered f) i r day month year ≡ journey (delivered g) i r day month year
+  deliveries-alike : Alike same (delivered f) (delivered g)
   unfolding delivered
-  journey-kept i other =
-      journey-for same (delivered f) (delivered g)
-      (record { known = λ b. ap (λ (s : List ℕ). fieldKnown b (bitFieldsIn s)) (e .bitfeld); runs = λ b k. ap (λ (s : List ℕ). fieldRuns (bitFieldsIn s) b k) (e .bitfeld) })
-      (ap interchangesIn (e .umsteigb)) i (ap (λ (s : List ℕ). periodIn (linesOf s)) (e .eckdaten))
-      (service-kept i other ∙ ap (λ (ss : List Service). getElem? ss i) (sym (map-by (serviceFor same 0) bare own-numbers (delivered g .services))))
+  deliveries-alike = record {
+    period = ap (λ (s : List ℕ). periodIn (linesOf s)) (e .eckdaten);
+    fields = record { known = λ b. ap (λ (s : List ℕ). fieldKnown b (bitFieldsIn s)) (e .bitfeld); runs = λ b k. ap (λ (s : List ℕ). fieldRuns (bitFieldsIn s) b k) (e .bitfeld) };
+    stops = ap stopsIn (e .bahnhof);
+    interchanges = ap interchangesIn (e .umsteigb);
+    classes = ap classesIn (e .zugart);
+  }
 
--- ---- at the tables
+  service-alike : (i : ℕ) → (i ≡ place e → ⊥) → ServiceAlike same (delivered f) (delivered g) i
+  service-alike i other = service-kept i other ∙ ap (λ (ss : List Service). getElem? ss i) (sym (map-by (serviceFor same 0) bare own-numbers (delivered g .services)))
 
--- two walks that come to the same
-pub alike-by : (w v : List ℕ) (i : ℕ) → ((r day month year : ℕ) → walkOf w i r day month year ≡ walkOf v i r day month year) → WalksAlike w v i
-alike-by w v i e = record {
-  answers = λ r day month year room. ap (λ (j : Journey). walkedBy j room) (e r day month year);
-  rows = λ r day month year lent. ap (λ (j : Journey). rowsBy j lent) (e r day month year);
-}
+  module _ (t t′ : List ℕ) (helper helper′ u u′ : ℕ) (a : loaded f (length t) helper ≡ Accepted u) (a′ : loaded g (length t′) helper′ ≡ Accepted u′) where
+    -- "If two accepted deliveries differ only inside one service's block of FPLAN, which is one service in both, every other service's walk gives the same
+    -- answer and rows, given the same service index, repeat, date and room."
+    pub isolated : (i : ℕ) → (i ≡ place e → ⊥) → WalksAlike (written f t helper) (written g t′ helper′) i
+    isolated i other = walks-alike same f g t t′ helper helper′ u u′ a a′ deliveries-alike i (service-alike i other)
 
--- "If two accepted deliveries differ only inside one service's block of FPLAN, which is one service in both, every other service's walk gives the same
--- answer and rows, given the same service index, repeat, date and room."
-pub isolated : (f g : Files) (e : Edited f g)
-    → (t t′ : List ℕ) (helper helper′ u u′ : ℕ) → loaded f (length t) helper ≡ Accepted u → loaded g (length t′) helper′ ≡ Accepted u′
-    → (i : ℕ) → (i ≡ place e → ⊥) → WalksAlike (written f t helper) (written g t′ helper′) i
-isolated f g e t t′ helper helper′ u u′ a a′ i other =
-    alike-by (written f t helper) (written g t′ helper′) i
-    (λ r day month year. walk-accepted f t helper u a i r day month year ∙ (journey-kept f g e i other r day month year ∙ sym (walk-accepted g t′ helper′ u′ a′ i r day month year)))
+    -- beyond: the day question, and those of stops
+    pub isolated-days : (day month year b : ℕ) → dayAsked (written f t helper) day month year b ≡ dayAsked (written g t′ helper′) day month year b
+    isolated-days = days-alike same f g t t′ helper helper′ u u′ a a′ deliveries-alike
+
+    pub isolated-stops : StopsAlike (written f t helper) (written g t′ helper′)
+    isolated-stops = stops-alike same f g t t′ helper helper′ u u′ a a′ deliveries-alike

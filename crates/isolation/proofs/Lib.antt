@@ -1,6 +1,7 @@
 pub mod Lines
 pub mod Days
 pub mod Walks
+pub mod Tables
 pub mod Isolated
 pub mod Columns
 pub mod Texts

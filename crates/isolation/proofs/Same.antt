@@ -11,7 +11,7 @@ use Rattle.bitfield.specs.BitField.{framed}
 use Rattle.lines.specs.Lines.{Line, skipped}
 use Rattle.timetable.specs.Delivery.{BitField, StopRecord, CategoryClass, CategoryRange, DayRange, Service}
 use Rattle.timetable.specs.Files.{Held, skip, broken, held, held-in, heldOffence, hasField, bitFieldOf, bitFieldOffence, bitFieldLineOffence, bitFieldsFirst}
-use Rattle.timetable.specs.Legs.{covering, fieldKnown, stretches, legCount, operatedLegs}
+use Rattle.timetable.specs.Legs.{covering, fieldKnown, fieldRuns, stretches, legCount, operatedLegs}
 use Rattle.timetable.specs.Offences.{given, _<|>_, first}
 use Rattle.timetable.specs.Plan.{toldIn, asRange, partLines, saidOn}
 use Rattle.timetable.specs.Service.{headLines, blocks, firstLine, calledOn, callsOf, legsOn, serviceOf}
@@ -98,7 +98,7 @@ module _ (σ : ℕ → ℕ) (g : Everywhere σ) where
 
     torn-for : (k : ℕ) (s : Service) → torn new n (serviceFor σ k s) ≡ torn fields n s
     torn-for k s = some-by (λ (d : ℕ). leb 2 (stretches false (operatedLegs new (serviceFor σ k s) d))) (λ (d : ℕ). leb 2 (stretches false (operatedLegs fields s d)))
-        (λ d. ap (λ (bs : List Bool). leb 2 (stretches false bs)) (legs-for σ new fields (knows-for σ g fields) k s d)) (below n)
+        (λ d. ap (λ (bs : List Bool). leb 2 (stretches false bs)) (legs-for σ (fieldRuns new) (fieldRuns fields) (knows-for σ g fields .runs) k s d)) (below n)
 
     checks-for : (ls : List Line) → serviceChecks new n (map (line-for σ g) ls) ≡ serviceChecks fields n ls
     unfolding serviceChecks

@@ -1,5 +1,5 @@
--- A walk goes by the period, by what is known of bit fields and interchange times, and by its own service, whose opening line's number it never shows.
--- Assumes nothing.
+-- A run goes by the period, by what is known of bit fields and interchange times, and by its own service; a walk never shows the number of the service's
+-- opening line, nor of a bit field. By views, so that it holds of every question that goes by runs. Assumes nothing.
 use mathlib.Core.Path.{_≡_, refl, sym, ap, _∙_}
 use mathlib.Core.List.{List, [], _∷_, _++_, map}
 use mathlib.Core.Bool.{Bool, true, false, cond, not}
@@ -9,14 +9,20 @@ use lib.ListN.{getElem?}
 use Rattle.base.specs.Lists.{below}
 use Rattle.base.proofs.Laws.{apart}
 use Rattle.calendar.specs.Calendar.{dayOf}
-use Rattle.timetable.specs.Delivery.{Period, DayRange, ExtraRange, Service, Delivery}
-use Rattle.timetable.specs.Legs.{legCount, operatedLegs}
+use Rattle.timetable.specs.Delivery.{Period, Interchange, DayRange, ExtraRange, Service, Delivery}
+use Rattle.timetable.specs.Legs.{legCount, operatedLegsBy}
 use Rattle.timetable.specs.Offences.{_<|>_}
-use Rattle.timetable.specs.Questions.{Stretch, stretchOf, legRefusal, firstRefusal, interchangeAtStop, callRefusal, callsRefusal, neededLast, rowsOf, stretchCalls, serviceJourney, indexed, datedBy, dateOf, datedJourney, Dated, undated, dated, journey, stretchJourney, onDay}
+use Rattle.timetable.specs.View.{ServiceFound, noService, aService, View}
+use Rattle.timetable.specs.Run.{legRefusal, firstRefusal, stretchOf, stretchFrom, stretchCalls, neededLast, callRefusal, callsRefusal, stretchCourse, legsCourse, dayCourse, courseOn, serviceCourse, Run, RunFound, barred, atRest, aRun, runAlong, runBy, runOf}
+use Rattle.timetable.specs.Questions.{Dated, undated, dated, datedBy, dateOf, rowsOf, rows, rowsAlong, datedRun, journey}
 use Rattle.timetable.specs.Runs.{lateness}
 use Rattle.timetable.specs.declared.Call.{Call}
+use Rattle.timetable.specs.declared.Course.{Course}
+use Rattle.timetable.specs.declared.Course.the-variants.{Along, NotRunning, Refused}
 use Rattle.isolation.proofs.Lines.{bare}
-use Rattle.isolation.proofs.Days.{besides, dayFor, extraFor, serviceFor, Knows, covering-for, known-for, legs-for}
+use Rattle.isolation.proofs.Days.{besides, dayFor, extraFor, serviceFor, covering-for, known-for, legs-for}
+
+-- ---- a service with other ranges of days and another line: its stretch and its rows
 
 module _ (n : ℕ) (ds : List DayRange) (es : List ExtraRange) (s : Service) where
   calls-besides : (a m i before : ℕ) (cs : List Call) → callsRefusal (besides n ds es s) a m i before cs ≡ callsRefusal s a m i before cs
@@ -24,69 +30,105 @@ module _ (n : ℕ) (ds : List DayRange) (es : List ExtraRange) (s : Service) whe
   calls-besides a m i before [] = refl
   calls-besides a m i before (c ∷ cs) = ap (λ (o : Option ℕ). callRefusal s a m i before c <|> o) (calls-besides a m (i + 1) (neededLast m i c) cs)
 
-  module _ (d e : Delivery) (times : d .interchanges ≡ e .interchanges) where
-    times-same : (stop : ℕ) → interchangeAtStop d stop ≡ interchangeAtStop e stop
-    unfolding interchangeAtStop
-    times-same stop = rw times
+  stretch-besides : (a m : ℕ) → stretchCourse (besides n ds es s) a m ≡ stretchCourse s a m
+  unfolding stretchCourse
+  stretch-besides a m = rw (calls-besides a m 0 0 (stretchCalls s (stretchFrom a m)))
 
-    rows-besides : (a m delay i : ℕ) (cs : List Call) → rowsOf d (besides n ds es s) a m delay i cs ≡ rowsOf e s a m delay i cs
+  legs-besides : (bs : List Bool) → legsCourse (besides n ds es s) bs ≡ legsCourse s bs
+  legs-besides bs = rw (stretch-besides (stretchOf bs .start) (stretchOf bs .legs))
+
+  module _ (v u : View) (times : (stop : ℕ) → v .times stop ≡ u .times stop) where
+    rows-besides : (a m delay i : ℕ) (cs : List Call) → rowsOf v (besides n ds es s) a m delay i cs ≡ rowsOf u s a m delay i cs
     unfolding rowsOf
     rows-besides a m delay i [] = refl
-    rows-besides a m delay i (c ∷ cs) = rw (times-same (c .stop), rows-besides a m delay (i + 1) cs)
+    rows-besides a m delay i (c ∷ cs) = rw (times (c .stop), rows-besides a m delay (i + 1) cs)
 
-    stretch-besides : (delay : ℕ) (t : Stretch) → stretchJourney d (besides n ds es s) delay t ≡ stretchJourney e s delay t
-    stretch-besides delay t = rw (calls-besides (t .start) (t .legs) 0 0 (stretchCalls s t), rows-besides (t .start) (t .legs) delay 0 (stretchCalls s t))
+-- ---- found services and runs, each with its service changed
 
-    day-besides : (delay : ℕ) (bs : List Bool) → onDay d (besides n ds es s) delay bs ≡ onDay e s delay bs
-    day-besides delay bs = rw (stretch-besides delay (stretchOf bs))
+abbrev pub foundBy : (Service → Service) → ServiceFound → ServiceFound
+foundBy f (noService number) = noService number
+foundBy f (aService s) = aService (f s)
 
--- ---- bit field numbers changed by σ
+abbrev pub runFor : (Service → Service) → RunFound → RunFound
+runFor f (barred number) = barred number
+runFor f atRest = atRest
+runFor f (aRun x) = aRun (record { service = f (x .service); late = x .late; start = x .start; legs = x .legs })
 
-abbrev over : {X Y : Type 0} → (X → Y) → Option X → Option Y
-over f none = none
-over f (some x) = some (f x)
+run-along : (f : Service → Service) (s : Service) (late : ℕ) (c : Course) → runFor f (runAlong s late c) ≡ runAlong (f s) late c
+run-along f s late (Refused number) = refl
+run-along f s late NotRunning = refl
+run-along f s late (Along a n) = refl
 
-elem-map : {X Y : Type 0} (f : X → Y) (xs : List X) (i : ℕ) → getElem? (map f xs) i ≡ over f (getElem? xs i)
-elem-map f [] i = refl
-elem-map f (x ∷ xs) zero = refl
-elem-map f (x ∷ xs) (suc i) = elem-map f xs i
+-- ---- two views: of a bit field σ b the first says what the second says of b; period and interchange times are the same
 
-module _ (σ : ℕ → ℕ) (d e : Delivery) (h : Knows σ (d .fields) (e .fields)) where
-  leg-for : (n : ℕ) (s : Service) (k : ℕ) → legRefusal d (serviceFor σ n s) k ≡ legRefusal e s k
-  leg-for n s k = rw (covering-for σ (s .days) k, known-for σ (d .fields) (e .fields) h (s .days) k)
+pub record ViewsAlike (σ : ℕ → ℕ) (v u : View) : Type 0 where
+  pub period : v .period ≡ u .period
+  pub known : (b : ℕ) → v .known (σ b) ≡ u .known b
+  pub runs : (b k : ℕ) → v .runs (σ b) k ≡ u .runs b k
+  pub times : (stop : ℕ) → v .times stop ≡ u .times stop
 
-  first-for : (n : ℕ) (s : Service) (ks : List ℕ) → firstRefusal (legRefusal d (serviceFor σ n s)) ks ≡ firstRefusal (legRefusal e s) ks
+module _ (σ : ℕ → ℕ) (v u : View) (h : ViewsAlike σ v u) where
+  leg-for : (n : ℕ) (s : Service) (k : ℕ) → legRefusal v (serviceFor σ n s) k ≡ legRefusal u s k
+  leg-for n s k = rw (covering-for σ (s .days) k, known-for σ (v .known) (u .known) (h .known) (s .days) k)
+
+  first-for : (n : ℕ) (s : Service) (ks : List ℕ) → firstRefusal (legRefusal v (serviceFor σ n s)) ks ≡ firstRefusal (legRefusal u s) ks
   unfolding firstRefusal
   first-for n s [] = refl
   first-for n s (k ∷ ks) = rw (leg-for n s k, first-for n s ks)
 
-  module _ (times : d .interchanges ≡ e .interchanges) where
-    service-for : (n : ℕ) (s : Service) (r k : ℕ) → serviceJourney d (serviceFor σ n s) r k ≡ serviceJourney e s r k
-    service-for n s r k = rw (
-      first-for n s (below (legCount s)),
-      legs-for σ (d .fields) (e .fields) h n s k,
-      day-besides n (map (dayFor σ) (s .days)) (map (extraFor σ) (s .extras)) s d e times (lateness (s .opening) r) (operatedLegs (e .fields) s k),
-    )
+  course-for : (n : ℕ) (s : Service) (r k : ℕ) → serviceCourse v (serviceFor σ n s) r k ≡ serviceCourse u s r k
+  unfolding serviceCourse courseOn dayCourse
+  course-for n s r k = rw (
+    first-for n s (below (legCount s)),
+    legs-for σ (v .runs) (u .runs) (h .runs) n s k,
+    legs-besides n (map (dayFor σ) (s .days)) (map (extraFor σ) (s .extras)) s (operatedLegsBy (u .runs) s k),
+  )
 
-    -- a walk goes by its service, but for the line's number
-    bare-journey : (s : Service) (r k : ℕ) → serviceJourney d (bare s) r k ≡ serviceJourney d s r k
-    bare-journey s r k = rw (day-besides 0 (s .days) (s .extras) s d d refl (lateness (s .opening) r) (operatedLegs (d .fields) s k))
+  bare-course : (s : Service) (r k : ℕ) → serviceCourse v (bare s) r k ≡ serviceCourse v s r k
+  unfolding serviceCourse courseOn dayCourse
+  bare-course s r k = rw (legs-besides 0 (s .days) (s .extras) s (operatedLegsBy (v .runs) s k))
 
-    found-for : (o p : Option Service) → over bare o ≡ over (serviceFor σ 0) p → (r k : ℕ) → indexed d o r k ≡ indexed e p r k
-    found-for none none q r k = refl
-    found-for none (some s) q r k = apart (cc)
-    found-for (some s) none q r k = apart (cc)
-    found-for (some s) (some z) q r k =
-        let x : bare s ≡ serviceFor σ 0 z = cc in
-        sym (bare-journey s r k) ∙ (ap (λ (y : Service). serviceJourney d y r k) x ∙ service-for 0 z r k)
+  run-by : (a b : ServiceFound) → foundBy bare a ≡ foundBy (serviceFor σ 0) b → (r k : ℕ) → runFor bare (runBy v a r k) ≡ runFor (serviceFor σ 0) (runBy u b r k)
+  run-by (noService x) (noService y) q r k = let z : _≡_ {A = ℕ} x y = cc in ap barred z
+  run-by (noService x) (aService z) q r k = apart (cc)
+  run-by (aService s) (noService y) q r k = apart (cc)
+  run-by (aService s) (aService z) q r k =
+      let x : bare s ≡ serviceFor σ 0 z = cc in
+      run-along bare s (lateness (s .opening) r) (serviceCourse v s r k)
+      ∙ (ap (runAlong (bare s) (lateness (s .opening) r)) (sym (bare-course s r k))
+      ∙ (ap (λ (y : Service). runAlong y (lateness (y .opening) r) (serviceCourse v y r k)) x
+      ∙ (ap (runAlong (serviceFor σ 0 z) (lateness (z .opening) r)) (course-for 0 z r k)
+      ∙ sym (run-along (serviceFor σ 0) z (lateness (z .opening) r) (serviceCourse u z r k)))))
 
-    dated-for : (i r : ℕ) (on : Dated) → getElem? (map bare (d .services)) i ≡ getElem? (map (serviceFor σ 0) (e .services)) i → datedJourney d i r on ≡ datedJourney e i r on
-    dated-for i r (undated number) q = refl
-    dated-for i r (dated k) q = found-for (getElem? (d .services) i) (getElem? (e .services) i) (sym (elem-map bare (d .services) i) ∙ (q ∙ elem-map (serviceFor σ 0) (e .services) i)) r k
+  -- the run of a service that is the same, but for its opening line's number and its bit field numbers
+  pub run-alike : (i : ℕ) → foundBy bare (v .service i) ≡ foundBy (serviceFor σ 0) (u .service i) → (r k : ℕ) → runFor bare (runOf v i r k) ≡ runFor (serviceFor σ 0) (runOf u i r k)
+  unfolding runOf
+  run-alike i q r k = run-by (v .service i) (u .service i) q r k
 
-    -- the walk of a service
-    pub journey-for : (i : ℕ) → d .period ≡ e .period → getElem? (map bare (d .services)) i ≡ getElem? (map (serviceFor σ 0) (e .services)) i
-        → (r day month year : ℕ) → journey d i r day month year ≡ journey e i r day month year
-    unfolding journey
-    journey-for i p q r day month year =
-        ap (λ (p : Period). datedJourney d i r (datedBy p (dayOf day month year))) p ∙ dated-for i r (dateOf e day month year) q
+  rows-bare : (x : RunFound) → rowsAlong v (runFor bare x) ≡ rowsAlong v x
+  rows-bare (barred number) = refl
+  rows-bare atRest = refl
+  rows-bare (aRun x) =
+      let s = x .service in
+      ap rows (rows-besides 0 (s .days) (s .extras) s v v (λ stop. refl) (x .start) (x .legs) (x .late) 0 (stretchCalls s (stretchFrom (x .start) (x .legs))))
+
+  rows-for : (x : RunFound) → rowsAlong v (runFor (serviceFor σ 0) x) ≡ rowsAlong u x
+  rows-for (barred number) = refl
+  rows-for atRest = refl
+  rows-for (aRun x) =
+      let s = x .service in
+      ap rows (rows-besides 0 (map (dayFor σ) (s .days)) (map (extraFor σ) (s .extras)) s v u (h .times) (x .start) (x .legs) (x .late) 0 (stretchCalls s (stretchFrom (x .start) (x .legs))))
+
+  rows-alike : (x y : RunFound) → runFor bare x ≡ runFor (serviceFor σ 0) y → rowsAlong v x ≡ rowsAlong u y
+  rows-alike x y q = sym (rows-bare x) ∙ (ap (rowsAlong v) q ∙ rows-for y)
+
+  dated-alike : (i r : ℕ) (on : Dated) → foundBy bare (v .service i) ≡ foundBy (serviceFor σ 0) (u .service i) → rowsAlong v (datedRun v i r on) ≡ rowsAlong u (datedRun u i r on)
+  dated-alike i r (undated number) q = refl
+  dated-alike i r (dated k) q = rows-alike (runOf v i r k) (runOf u i r k) (run-alike i q r k)
+
+  -- and its walk
+  pub journey-alike : (i : ℕ) → foundBy bare (v .service i) ≡ foundBy (serviceFor σ 0) (u .service i)
+      → (r day month year : ℕ) → journey v i r day month year ≡ journey u i r day month year
+  unfolding journey
+  journey-alike i q r day month year =
+      ap (λ (p : Period). rowsAlong v (datedRun v i r (datedBy p (dayOf day month year)))) (h .period) ∙ dated-alike i r (dateOf u day month year) q
