@@ -39,7 +39,6 @@ load-table-no-slack κ a x y s t p q = (p .0 ∙ sym (q .0), p .1 .0 ∙ sym (q 
 pub load-helper-no-slack : OneOutcome load-allows (λ κ s. s .1 .1 .1 .1 .1 .1 .1 .0 .now)
 load-helper-no-slack κ a x y s t p q = (p .0 ∙ sym (q .0), p .1 .1 ∙ sym (q .1 .1))
 
-
 pub day-no-slack : OneAnswer day-allows
 day-no-slack κ a x y s t p q = p ∙ sym q
 

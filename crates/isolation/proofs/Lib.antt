@@ -9,4 +9,5 @@ pub mod Each
 pub mod Told
 pub mod Changed
 pub mod Same
+pub mod Again
 pub mod Renamed

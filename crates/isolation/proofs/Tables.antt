@@ -90,12 +90,12 @@ module _ (σ : ℕ → ℕ) (f g : Files) (t t′ : List ℕ) (helper helper′ 
   unfolding interchangeAsked betweenAsked stopNameAsked
   stops-alike = record {
     interchange = λ n a₁ b.
-      asked-accepted InterchangeRefused (λ (v : View). interchangeIn v n a₁ b) f t helper u a
-      ∙ (interchange-same σ (delivered f) (delivered g) h n a₁ b ∙ sym (asked-accepted InterchangeRefused (λ (v : View). interchangeIn v n a₁ b) g t′ helper′ u′ a′));
+        asked-accepted InterchangeRefused (λ (v : View). interchangeIn v n a₁ b) f t helper u a
+        ∙ (interchange-same σ (delivered f) (delivered g) h n a₁ b ∙ sym (asked-accepted InterchangeRefused (λ (v : View). interchangeIn v n a₁ b) g t′ helper′ u′ a′));
     between = λ n a₁ b.
-      asked-accepted InterchangeRefused (λ (v : View). betweenIn v n a₁ b) f t helper u a
-      ∙ (between-same σ (delivered f) (delivered g) h n a₁ b ∙ sym (asked-accepted InterchangeRefused (λ (v : View). betweenIn v n a₁ b) g t′ helper′ u′ a′));
+        asked-accepted InterchangeRefused (λ (v : View). betweenIn v n a₁ b) f t helper u a
+        ∙ (between-same σ (delivered f) (delivered g) h n a₁ b ∙ sym (asked-accepted InterchangeRefused (λ (v : View). betweenIn v n a₁ b) g t′ helper′ u′ a′));
     stop-name = λ bahnhof stop language type.
-      asked-accepted NameRefused (λ (v : View). stopNameIn v bahnhof stop language type) f t helper u a
-      ∙ (name-same σ (delivered f) (delivered g) h bahnhof stop language type ∙ sym (asked-accepted NameRefused (λ (v : View). stopNameIn v bahnhof stop language type) g t′ helper′ u′ a′));
+        asked-accepted NameRefused (λ (v : View). stopNameIn v bahnhof stop language type) f t helper u a
+        ∙ (name-same σ (delivered f) (delivered g) h bahnhof stop language type ∙ sym (asked-accepted NameRefused (λ (v : View). stopNameIn v bahnhof stop language type) g t′ helper′ u′ a′));
   }

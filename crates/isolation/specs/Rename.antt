@@ -1,6 +1,6 @@
 -- Document 02, No. 14: "if one delivery's bit field numbers are changed one-to-one, in BITFELD and in every place of FPLAN, with 000000 kept, it is again
 -- accepted, given the same table and helper room, and all walks answer alike. The day question by number is exempt." What the changed files are, byte by byte.
--- Proved in proofs/Renamed.antt: `renamed-loaded`, `renamed-walks`, `renamed-days`. Assumes nothing.
+-- Proved in proofs/Renamed.antt: `renamed-loaded`, `renamed-alike`, and both as one, `renamed-again`. Assumes nothing.
 use mathlib.Core.Path.{_≡_}
 use mathlib.Core.List.{List, [], _∷_, _++_}
 use mathlib.Core.Bool.{Bool, true, false, cond}
@@ -13,7 +13,9 @@ use Rattle.forms.specs.Kinds.{kindOf}
 use Rattle.forms.specs.declared.Kind.{Kind}
 use Rattle.forms.specs.declared.Kind.the-variants.{Opening, Frequency, Category, Attribute, Schedule, Other}
 use Rattle.timetable.specs.Delivery.{Files}
+use Rattle.timetable.specs.Questions.{dayAsked}
 use Rattle.line_text.specs.Text.{decimal}
+use Rattle.isolation.specs.Alike.{WalksAlike, StopsAlike}
 
 -- "changed one-to-one, .. with 000000 kept": σ takes numbers of six digits to such, two of them never to one, and 000000 to itself
 pub record OneToOne (σ : ℕ → ℕ) : Type 0 where
@@ -68,3 +70,11 @@ renamed σ f = record {
   fplan = eachLine (planLine σ) [] (f .fplan);
   zugart = f .zugart;
 }
+
+-- ---- "all walks answer alike": of the words before and after, any index, repeat, date and room. "The day question by number is exempt": the days of number m
+-- before are the days of σ m after. (Beyond what is asked: the questions of stops.)
+
+pub record AnswersAlike (σ : ℕ → ℕ) (before after : List ℕ) : Type 0 where
+  pub walks : (i : ℕ) → WalksAlike after before i
+  pub days : (day month year m : ℕ) → m < 1000000 → dayAsked after day month year (σ m) ≡ dayAsked before day month year m
+  pub stops : StopsAlike after before
