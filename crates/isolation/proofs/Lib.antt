@@ -11,3 +11,4 @@ pub mod Changed
 pub mod Same
 pub mod Again
 pub mod Renamed
+pub mod Examples

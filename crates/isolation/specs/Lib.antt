@@ -1,3 +1,4 @@
 pub mod Alike
 pub mod Edit
 pub mod Rename
+pub mod Boats
