@@ -15,7 +15,7 @@ use Rattle.timetable.specs.Load.{delivered, loaded, written}
 use Rattle.timetable.specs.Questions.{dayAsked}
 use Rattle.timetable.specs.declared.Loaded.the-variants.{Accepted}
 use Rattle.isolation.specs.Alike.{WalksAlike, StopsAlike}
-use Rattle.isolation.specs.Edit.{endsLine, startsService, OneService, Edited, place}
+use Rattle.isolation.specs.Edit.{endsLine, startsService, OneService, Edited, place, Isolation}
 use Rattle.isolation.proofs.Lines.{map-map, map-by, bare, services, services-cut}
 use Rattle.isolation.proofs.Days.{dayFor, extraFor, serviceFor}
 use Rattle.isolation.proofs.Tables.{Alike, ServiceAlike, walks-alike, days-alike, stops-alike}
@@ -93,10 +93,8 @@ module _ (f g : Files) (e : Edited f g) where
   service-alike i other = service-kept i other ∙ ap (λ (ss : List Service). getElem? ss i) (sym (map-by (serviceFor same 0) bare own-numbers (delivered g .services)))
 
   module _ (t t′ : List ℕ) (helper helper′ u u′ : ℕ) (a : loaded f (length t) helper ≡ Accepted u) (a′ : loaded g (length t′) helper′ ≡ Accepted u′) where
-    -- "If two accepted deliveries differ only inside one service's block of FPLAN, which is one service in both, every other service's walk gives the same
-    -- answer and rows, given the same service index, repeat, date and room."
-    pub isolated : (i : ℕ) → (i ≡ place e → ⊥) → WalksAlike (written f t helper) (written g t′ helper′) i
-    isolated i other = walks-alike same f g t t′ helper helper′ u u′ a a′ deliveries-alike i (service-alike i other)
+    others-alike : (i : ℕ) → (i ≡ place e → ⊥) → WalksAlike (written f t helper) (written g t′ helper′) i
+    others-alike i other = walks-alike same f g t t′ helper helper′ u u′ a a′ deliveries-alike i (service-alike i other)
 
     -- beyond: the day question, and those of stops
     pub isolated-days : (day month year b : ℕ) → dayAsked (written f t helper) day month year b ≡ dayAsked (written g t′ helper′) day month year b
@@ -104,3 +102,8 @@ module _ (f g : Files) (e : Edited f g) where
 
     pub isolated-stops : StopsAlike (written f t helper) (written g t′ helper′)
     isolated-stops = stops-alike same f g t t′ helper helper′ u u′ a a′ deliveries-alike
+
+-- "If two accepted deliveries differ only inside one service's block of FPLAN, which is one service in both, every other service's walk gives the same answer
+-- and rows, given the same service index, repeat, date and room."
+pub isolated : Isolation
+isolated = others-alike

@@ -7,7 +7,7 @@ use Rattle.timetable.specs.Delivery.{Files, Service}
 use Rattle.timetable.specs.Load.{delivered, loaded, written}
 use Rattle.timetable.specs.Questions.{dayAsked}
 use Rattle.timetable.specs.declared.Loaded.the-variants.{Accepted}
-use Rattle.isolation.specs.Rename.{OneToOne, renamed, AnswersAlike}
+use Rattle.isolation.specs.Rename.{OneToOne, renamed, AnswersAlike, Renaming}
 use Rattle.isolation.proofs.Tables.{Alike, walks-alike, days-alike, stops-alike}
 use Rattle.isolation.proofs.Changed.{Everywhere}
 use Rattle.isolation.proofs.Again.{extended, inside, everywhere, renamed-extended, loaded-same, knows-now, bare-now}
@@ -52,8 +52,7 @@ module _ (σ : ℕ → ℕ) (o : OneToOne σ) (f : Files) where
 
 -- "if one delivery's bit field numbers are changed one-to-one, in BITFELD and in every place of FPLAN, with 000000 kept, it is again accepted, given the same
 -- table and helper room, and all walks answer alike. The day question by number is exempt."
-pub renamed-again : (σ : ℕ → ℕ) → OneToOne σ → (f : Files) (t : List ℕ) (helper u : ℕ) → loaded f (length t) helper ≡ Accepted u
-    → (loaded (renamed σ f) (length t) helper ≡ Accepted u) × AnswersAlike σ (written f t helper) (written (renamed σ f) t helper)
+pub renamed-again : Renaming
 renamed-again σ o f t helper u a =
     let a′ = renamed-loaded σ o f (length t) helper ∙ a in
     (a′, renamed-alike σ o f t t helper helper u u a a′)

@@ -1,6 +1,6 @@
 -- Document 02, No. 14: "If two accepted deliveries differ only inside one service's block of FPLAN, which is one service in both, every other service's walk
 -- gives the same answer and rows, given the same service index, repeat, date and room." What such deliveries are, by their bytes.
--- Proved in proofs/Isolated.antt: `isolated`. Assumes nothing.
+-- Whole it is `Isolation`, proved in proofs/Isolated.antt: `isolated`. Assumes nothing.
 use mathlib.Core.Path.{_≡_}
 use mathlib.Core.Logic.{_⊎_}
 use mathlib.Core.List.{List, [], _∷_, _++_}
@@ -12,6 +12,9 @@ use Rattle.base.specs.Lists.{every}
 use Rattle.lines.specs.Lines.{Line, linesOf, skipped}
 use Rattle.timetable.specs.Delivery.{Files}
 use Rattle.timetable.specs.Service.{headLines, blocks}
+use Rattle.timetable.specs.Load.{loaded, written}
+use Rattle.timetable.specs.declared.Loaded.the-variants.{Accepted}
+use Rattle.isolation.specs.Alike.{WalksAlike}
 
 -- bytes that are none or end with an LF (byte 10): what follows them starts a line
 unfoldable pub endsLine : List ℕ → Bool
@@ -57,3 +60,9 @@ pub record Edited (f g : Files) : Type 0 where
 -- the index of the service that is edited: as many stand before it
 abbrev pub place : {f g : Files} → Edited f g → ℕ
 place e = serviceCount (e .pre)
+
+-- "every other service's walk gives the same answer and rows": both accepted, with any tables and helper words lent, of the words that load left
+abbrev pub Isolation : Type 0
+Isolation =
+    (f g : Files) (e : Edited f g) (t t′ : List ℕ) (helper helper′ u u′ : ℕ) → loaded f (length t) helper ≡ Accepted u → loaded g (length t′) helper′ ≡ Accepted u′
+    → (i : ℕ) → (i ≡ place e → ⊥) → WalksAlike (written f t helper) (written g t′ helper′) i

@@ -1,6 +1,6 @@
 -- Document 02, No. 14: "if one delivery's bit field numbers are changed one-to-one, in BITFELD and in every place of FPLAN, with 000000 kept, it is again
 -- accepted, given the same table and helper room, and all walks answer alike. The day question by number is exempt." What the changed files are, byte by byte.
--- Proved in proofs/Renamed.antt: `renamed-loaded`, `renamed-alike`, and both as one, `renamed-again`. Assumes nothing.
+-- Whole it is `Renaming`, proved in proofs/Renamed.antt: `renamed-again` (and of refused deliveries too `renamed-loaded`). Assumes nothing.
 use mathlib.Core.Path.{_≡_}
 use mathlib.Core.List.{List, [], _∷_, _++_}
 use mathlib.Core.Bool.{Bool, true, false, cond}
@@ -13,7 +13,9 @@ use Rattle.forms.specs.Kinds.{kindOf}
 use Rattle.forms.specs.declared.Kind.{Kind}
 use Rattle.forms.specs.declared.Kind.the-variants.{Opening, Frequency, Category, Attribute, Schedule, Other}
 use Rattle.timetable.specs.Delivery.{Files}
+use Rattle.timetable.specs.Load.{loaded, written}
 use Rattle.timetable.specs.Questions.{dayAsked}
+use Rattle.timetable.specs.declared.Loaded.the-variants.{Accepted}
 use Rattle.line_text.specs.Text.{decimal}
 use Rattle.isolation.specs.Alike.{WalksAlike, StopsAlike}
 
@@ -78,3 +80,9 @@ pub record AnswersAlike (σ : ℕ → ℕ) (before after : List ℕ) : Type 0 wh
   pub walks : (i : ℕ) → WalksAlike after before i
   pub days : (day month year m : ℕ) → m < 1000000 → dayAsked after day month year (σ m) ≡ dayAsked before day month year m
   pub stops : StopsAlike after before
+
+-- "it is again accepted, given the same table and helper room, and all walks answer alike"
+abbrev pub Renaming : Type 0
+Renaming =
+    (σ : ℕ → ℕ) → OneToOne σ → (f : Files) (t : List ℕ) (helper u : ℕ) → loaded f (length t) helper ≡ Accepted u
+    → (loaded (renamed σ f) (length t) helper ≡ Accepted u) × AnswersAlike σ (written f t helper) (written (renamed σ f) t helper)
