@@ -1,31 +1,29 @@
 -- The files of a delivery with bit field numbers changed one-to-one: they are loaded alike, and hold the same but for the numbers. Assumes nothing.
 use mathlib.Core.Path.{_≡_, refl, sym, ap, _∙_, subst}
 use mathlib.Core.List.{List, [], _∷_, _++_, map}
-use mathlib.Core.Bool.{Bool, true, false, cond}
-use mathlib.Core.Option.{Option, none, some}
-use Prim.Native.Nat.{ℕ, zero, suc, _+_, _-_, _≤_, _<_, _^_}
+use mathlib.Core.Bool.{Bool, cond}
+use mathlib.Core.Option.{Option}
+use Prim.Native.Nat.{ℕ, _+_, _-_, _≤_, _<_}
 use native.Mathlib.Omega.{arith}
 use native.Mathlib.Decide.{decLt}
-use lib.ListN.{length, getElem?, length-map, length-append}
+use lib.ListN.{length, length-map, length-append}
 use lib.Dec.{eqb, ltb}
-use borrow.Author.Tests.{lt-ltb, le-ltb, ltb-true, ltb-false, eq-eqb, ne-eqb, eqb-true, eqb-false}
+use borrow.Author.Tests.{lt-ltb, le-ltb, eq-eqb, ne-eqb}
 use Rattle.base.specs.Lists.{gathered}
-use Rattle.base.proofs.Laws.{by-ltb, by-eqb}
-use Rattle.columns.specs.Columns.{columns, digits, number}
+use Rattle.base.proofs.Laws.{by-eqb}
+use Rattle.columns.specs.Columns.{columns, number}
 use Rattle.columns.proofs.Laws.{columns-lt}
-use Rattle.forms.specs.Kinds.{kindOf}
 use Rattle.lines.specs.Lines.{Line, linesOf}
-use Rattle.line_text.specs.Text.{decimal}
-use Rattle.timetable.specs.Delivery.{Files, BitField, StopRecord, DayRange, ExtraRange, Service, Delivery}
+use Rattle.timetable.specs.Delivery.{Files, BitField, StopRecord, Service}
 use Rattle.timetable.specs.Files.{held-in, bitFieldOf, bitFieldsFirst, periodFirst, stopsFirst, interchangesFirst, classesFirst}
 use Rattle.timetable.specs.Offences.{_<|>_}
-use Rattle.timetable.specs.Service.{blocks, firstLine, serviceOf}
+use Rattle.timetable.specs.Service.{blocks, serviceOf}
 use Rattle.timetable.specs.Checks.{planFirst}
-use Rattle.timetable.specs.Table.{withStop, stopPlace, pointing, bitFieldWords, stopWords, interchangeWords, classWords, serviceWords, sections, tableWords}
-use Rattle.timetable.specs.Load.{Where, delivered, inFile, tooLong, lengthOffence, contentOffence, helperNeeded, loaded, written}
+use Rattle.timetable.specs.Table.{pointing, bitFieldWords, stopWords, interchangeWords, classWords, serviceWords, sections, tableWords}
+use Rattle.timetable.specs.Load.{Where, delivered, inFile, lengthOffence, contentOffence, helperNeeded, loaded}
 use Rattle.timetable.specs.declared.Offence.{Offence}
 use Rattle.timetable.proofs.Records.{service-length}
-use Rattle.isolation.specs.Rename.{OneToOne, renumbered, isAttribute, fieldLine, planLine, eachLine, renamed}
+use Rattle.isolation.specs.Rename.{OneToOne, renumbered, fieldLine, planLine, renamed}
 use Rattle.isolation.proofs.Lines.{map-map, map-by, bare, blocks-map}
 use Rattle.isolation.proofs.Days.{dayFor, extraFor, serviceFor, Knows}
 use Rattle.isolation.proofs.Texts.{field-safe, plan-safe}

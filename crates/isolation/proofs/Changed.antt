@@ -1,31 +1,26 @@
 -- What the lines of a changed delivery hold: the same, with every bit field number changed. Assumes nothing.
 use mathlib.Core.Path.{_≡_, refl, sym, ap, _∙_}
 use mathlib.Core.List.{List, [], _∷_, _++_, map}
-use mathlib.Core.Bool.{Bool, true, false, cond, not, _&&_, _||_}
+use mathlib.Core.Bool.{Bool, true, false, cond}
 use mathlib.Core.Option.{Option, none, some}
-use Prim.Native.Nat.{ℕ, _+_, _<_}
-use lib.ListN.{length}
+use Prim.Native.Nat.{ℕ, _<_}
 use lib.Dec.{eqb}
-use Rattle.base.specs.Lists.{every, some-of, find, gathered}
+use Rattle.base.specs.Lists.{some-of, find, gathered}
 use Rattle.lines.specs.Lines.{Line, skipped}
-use Rattle.forms.specs.Kinds.{kindOf}
-use Rattle.timetable.specs.Delivery.{BitField, Legs, CategoryRange, DayRange, ExtraRange, Service}
+use Rattle.timetable.specs.Delivery.{BitField, Legs}
 use Rattle.timetable.specs.Files.{Held, skip, broken, held, listed, held-in, bitFieldOf, hasField}
-use Rattle.timetable.specs.Legs.{fieldKnown, runsBy, fieldRuns}
+use Rattle.timetable.specs.Legs.{runsBy, fieldRuns}
 use Rattle.timetable.specs.Plan.{isOpening, opens, toldIn, tolds, asCall, asOpening, asRange, rangesOf, isPart, ofPart, partLines, saidOn}
-use Rattle.timetable.specs.Service.{firstLine, openingOf, opened, holding, calledOn, callsOf, withLegs, legsOn, categoryRange, dayRange, extraRange, serviceOf}
+use Rattle.timetable.specs.Service.{firstLine, openingOf, calledOn, callsOf, withLegs, legsOn, categoryRange, dayRange, extraRange, serviceOf}
 use Rattle.timetable.specs.declared.Call.{Call}
-use Rattle.timetable.specs.declared.CallLine.{CallLine}
-use Rattle.timetable.specs.declared.Opening.{Opening}
 use Rattle.timetable.specs.declared.Part.{Part}
 use Rattle.timetable.specs.declared.Part.the-variants.{Category, Days, Extra}
 use Rattle.timetable.specs.declared.RangeLine.{RangeLine}
 use Rattle.timetable.specs.declared.Told.{Told}
 use Rattle.timetable.specs.declared.Told.the-variants.{Skip, Other, Broken, Opens, Ranges, Calls}
-use Rattle.timetable.proofs.Lines.{said-on-cons}
 use Rattle.isolation.specs.Rename.{fieldLine, planLine}
 use Rattle.isolation.proofs.Lines.{map-append}
-use Rattle.isolation.proofs.Days.{besides, dayFor, extraFor, serviceFor, Knows}
+use Rattle.isolation.proofs.Days.{dayFor, extraFor, serviceFor, Knows}
 use Rattle.isolation.proofs.Each.{onText}
 use Rattle.isolation.proofs.Told.{rangeFor, toldFor, fieldFor, heldFor, plan-told, plan-kind, plan-skipped, field-held}
 

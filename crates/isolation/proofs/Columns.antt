@@ -1,17 +1,16 @@
 -- Two lines that are the same but for some columns: what is read from the other columns is the same. Assumes nothing.
 use mathlib.Core.Path.{_≡_, refl, sym, ap, _∙_}
 use mathlib.Core.List.{List, [], _∷_, _++_, append-assoc}
-use mathlib.Core.Bool.{Bool, true, false, cond}
+use mathlib.Core.Bool.{cond}
 use Prim.Native.Nat.{ℕ, zero, suc, _+_, _-_, _≤_, _<_}
 use native.Mathlib.Omega.{arith}
-use lib.ListN.{length, getD, take, drop, length-append, take-append-drop}
-use lib.Seq.{drop-at, drop-drop, length-take-le}
-use Rattle.columns.specs.Columns.{padTo, columns, column, isDigit, isBlank, digits, number}
+use lib.ListN.{length, getD, take, drop, length-append}
+use lib.Seq.{drop-at}
+use Rattle.columns.specs.Columns.{padTo, columns, column, isBlank}
 use Rattle.columns.proofs.Laws.{pad-take}
 use Rattle.forms.specs.Form.{strayFrom, unnamed}
 use Rattle.forms.specs.declared.Form.{Form}
-use Rattle.forms.specs.declared.Form.the-variants.{Fits, Broken}
-use Rattle.room.proofs.Bytes.{every-long}
+use Rattle.forms.specs.declared.Form.the-variants.{Broken}
 
 -- ---- lists with the same front, or the same end
 

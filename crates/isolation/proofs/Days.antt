@@ -1,7 +1,7 @@
 -- A service whose bit field numbers are changed by σ, where of σ b is known what was known of b: its legs are covered and operated alike. Assumes nothing.
 use mathlib.Core.Path.{_≡_, refl, ap}
 use mathlib.Core.List.{List, [], _∷_, map}
-use mathlib.Core.Bool.{Bool, cond, not, _&&_, _||_}
+use mathlib.Core.Bool.{Bool, cond, not, _||_}
 use Prim.Native.Nat.{ℕ, _+_}
 use Rattle.base.specs.Lists.{every, some-of, countIf, below}
 use Rattle.timetable.specs.Delivery.{BitField, DayRange, ExtraRange, Service}

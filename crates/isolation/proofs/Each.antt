@@ -1,16 +1,16 @@
 -- A file whose lines are changed in place: its lines are those of the file, each with its text changed, and it is as long. Assumes nothing.
 use mathlib.Core.Path.{_≡_, refl, sym, ap, _∙_}
 use mathlib.Core.List.{List, [], _∷_, _++_, map, append-assoc, append-nil}
-use mathlib.Core.Bool.{Bool, true, false, cond, not, _&&_}
-use Prim.Native.Nat.{ℕ, zero, suc, _+_, _-_, _≤_, _<_}
+use mathlib.Core.Bool.{Bool, true, false, cond, not}
+use Prim.Native.Nat.{ℕ, suc, _+_, _-_, _≤_, _<_}
 use native.Mathlib.Nat.{add-zero}
 use native.Mathlib.Omega.{arith}
-use lib.ListN.{length, getD, take, drop, length-append, length-drop, drop-of-length-le, take-append-drop}
+use lib.ListN.{length, take, drop, length-append, drop-of-length-le, take-append-drop}
 use lib.Seq.{drop-cons, length-take-le, take-at}
 use lib.Dec.{eqb}
-use borrow.Author.Tests.{eqb-true, ne-eqb}
+use borrow.Author.Tests.{eqb-true}
 use Rattle.base.specs.Lists.{every}
-use Rattle.base.proofs.Laws.{apart, clash}
+use Rattle.base.proofs.Laws.{clash}
 use Rattle.base.proofs.Loops.{and-true}
 use Rattle.lines.specs.Lines.{Line, startWith, pieces, noCR, numbered, linesFrom}
 use Rattle.lines.proofs.Pieces.{noCR-take}

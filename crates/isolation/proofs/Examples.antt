@@ -1,21 +1,23 @@
 -- Worked examples of No. 14, from bytes: Coast Boats edit their block, and the ferry's walks stay; the two bit field numbers are exchanged, and all walks stay.
 -- So neither theorem is empty. Assumes nothing.
 use mathlib.Core.Path.{_≡_, refl, sym, ap, _∙_, subst}
-use mathlib.Core.Logic.{_⊎_, inl, inr}
+use mathlib.Core.Logic.{inr}
 use mathlib.Core.List.{List, [], _∷_, _++_}
-use mathlib.Core.Bool.{Bool, true, false, cond}
-use Prim.Native.Nat.{ℕ, _+_, _≤_, _<_}
+use mathlib.Core.Bool.{cond}
+use Prim.Native.Nat.{ℕ, _≤_, _<_}
 use native.Mathlib.Omega.{arith}
 use lib.ListN.{length}
 use lib.Dec.{ltb, eqb}
-use borrow.Author.Tests.{le-ltb, ne-eqb, eq-eqb, eqb-true, eqb-false}
+use borrow.Author.Tests.{le-ltb}
 use Rattle.base.specs.Text.{bytes}
-use Rattle.base.proofs.Laws.{by-eqb}
+use Rattle.base.proofs.Laws.{apart, by-eqb}
 use Rattle.timetable.specs.Delivery.{Files}
 use Rattle.timetable.specs.Load.{delivered, loaded, written}
 use Rattle.timetable.specs.View.{viewOf}
-use Rattle.timetable.specs.Questions.{rows, idle, journey, walkOf, dayAsked}
+use Rattle.timetable.specs.Questions.{dayIn, Journey, rows, idle, journey, walkedBy}
 use Rattle.timetable.specs.declared.DayAnswer.the-variants.{Runs, Idle}
+use Rattle.timetable.specs.declared.Walked.{Walked}
+use Rattle.timetable.specs.declared.Walked.the-variants.{Listed, NotRunning}
 use Rattle.timetable.specs.declared.Loaded.the-variants.{Accepted, Refused as LoadRefused}
 use Rattle.whole_runs.proofs.Accepted.{walk-accepted}
 use Rattle.examples.specs.Trial.{line, fridayRows}
@@ -99,14 +101,14 @@ coast-friday : journey (viewOf (delivered before)) 0 0 5 12 2025 ≡ idle
 unfolding boating
 coast-friday = refl
 
-coast-friday-after : journey (viewOf (delivered edited)) 0 3 5 12 2025
+coast-edited-friday : journey (viewOf (delivered edited)) 0 0 5 12 2025
     ≡ rows
-    (1000033 ∷ 0 ∷ 780 ∷ 2 ∷ 7 ∷ 4411201 ∷ 5461087 ∷ 4342100 ∷ 2 ∷ 3
-    ∷ 1000022 ∷ 790 ∷ 795 ∷ 3 ∷ 7 ∷ 4411201 ∷ 5461087 ∷ 4342100 ∷ 2 ∷ 3
-    ∷ 1000011 ∷ 820 ∷ 0 ∷ 1 ∷ 7 ∷ 4411201 ∷ 5461087 ∷ 0 ∷ 2 ∷ 3
+    (1000033 ∷ 0 ∷ 600 ∷ 2 ∷ 7 ∷ 4411201 ∷ 5461087 ∷ 4342100 ∷ 2 ∷ 3
+    ∷ 1000022 ∷ 610 ∷ 615 ∷ 3 ∷ 7 ∷ 4411201 ∷ 5461087 ∷ 4342100 ∷ 2 ∷ 3
+    ∷ 1000011 ∷ 640 ∷ 0 ∷ 1 ∷ 7 ∷ 4411201 ∷ 5461087 ∷ 0 ∷ 2 ∷ 3
     ∷ [])
 unfolding boating
-coast-friday-after = refl
+coast-edited-friday = refl
 
 -- ---- 000001 and 000002 exchanged
 
@@ -161,3 +163,28 @@ changed-lines = refl
 kept-lines : eachLine (planLine exchanged) [] keptText ≡ keptText
 unfolding boating keptText
 kept-lines = refl
+
+-- ---- what the theorems do not say, by these deliveries: no premise can go
+
+-- the edited service's own walks (above: `coast-friday`, `coast-edited-friday`) are not alike
+own-walk : (t t′ : List ℕ) → length t ≡ 4096 → length t′ ≡ 4096 → WalksAlike (written before t 88) (written edited t′ 88) 0 → ⊥
+own-walk t t′ lent lent′ h =
+    let a = walk-accepted before t 88 127 (coast-before t t′ lent lent′ 88 (omega arith)) 0 0 5 12 2025 ∙ coast-friday in
+    let b = walk-accepted edited t′ 88 134 (coast-after t t′ lent lent′ 88 (omega arith)) 0 0 5 12 2025 ∙ coast-edited-friday in
+    let z : _≡_ {A = Walked} NotRunning (Listed 3) = ap (λ (j : Journey). walkedBy j 30) (sym a) ∙ (h .answers 0 5 12 2025 30 ∙ ap (λ (j : Journey). walkedBy j 30) b) in
+    apart (cc)
+
+-- with 000000 exchanged for 000001: 7
+zero-moved : loaded (renamed (λ (n : ℕ). cond (eqb n 0) 1 (cond (eqb n 1) 0 n)) before) 4096 88 ≡ LoadRefused 7 2 1 0 0
+unfolding boating
+zero-moved = refl
+
+-- with 000001 for 000002 too: 6
+not-one-to-one : loaded (renamed (λ (n : ℕ). cond (eqb n 2) 1 n) before) 4096 88 ≡ LoadRefused 6 2 2 0 0
+unfolding boating
+not-one-to-one = refl
+
+-- the day question by number is another bit field's, after the exchange
+old-number : (dayIn (viewOf (delivered before)) 5 12 2025 1 ≡ Runs) × (dayIn (viewOf (delivered exchangedFiles)) 5 12 2025 1 ≡ Idle) × (dayIn (viewOf (delivered exchangedFiles)) 5 12 2025 2 ≡ Runs)
+unfolding boating
+old-number = (refl, refl, refl)

@@ -2,12 +2,12 @@
 use mathlib.Core.Path.{_≡_, refl, sym, ap, _∙_}
 use mathlib.Core.Logic.{_⊎_, inl, inr}
 use mathlib.Core.List.{List, [], _∷_, _++_, map}
-use mathlib.Core.Bool.{Bool, true}
+use mathlib.Core.Bool.{true}
 use Prim.Native.Nat.{ℕ, zero, suc}
 use native.Mathlib.Omega.{arith}
 use lib.ListN.{length, getElem?, length-map}
 use Rattle.lines.specs.Lines.{Line, linesOf}
-use Rattle.timetable.specs.Delivery.{Files, BitField, DayRange, ExtraRange, Service, Delivery}
+use Rattle.timetable.specs.Delivery.{Files, Service}
 use Rattle.timetable.specs.Service.{blocks, serviceOf}
 use Rattle.timetable.specs.Files.{periodIn, bitFieldsIn, stopsIn, interchangesIn, classesIn}
 use Rattle.timetable.specs.Legs.{fieldKnown, fieldRuns}
@@ -15,7 +15,7 @@ use Rattle.timetable.specs.Load.{delivered, loaded, written}
 use Rattle.timetable.specs.Questions.{dayAsked}
 use Rattle.timetable.specs.declared.Loaded.the-variants.{Accepted}
 use Rattle.isolation.specs.Alike.{WalksAlike, StopsAlike}
-use Rattle.isolation.specs.Edit.{endsLine, startsService, OneService, Edited, place, Isolation}
+use Rattle.isolation.specs.Edit.{endsLine, OneService, Edited, place, Isolation}
 use Rattle.isolation.proofs.Lines.{map-map, map-by, bare, services, services-cut}
 use Rattle.isolation.proofs.Days.{dayFor, extraFor, serviceFor}
 use Rattle.isolation.proofs.Tables.{Alike, ServiceAlike, walks-alike, days-alike, stops-alike}

@@ -2,29 +2,26 @@
 -- services of both parts, one after the other. Assumes nothing.
 use mathlib.Core.Path.{_≡_, refl, sym, ap, _∙_}
 use mathlib.Core.Logic.{_⊎_, inl, inr}
-use mathlib.Core.List.{List, [], _∷_, _++_, map, append-nil, append-assoc}
-use mathlib.Core.Bool.{Bool, true, false, cond, _&&_}
-use Prim.Native.Nat.{ℕ, zero, suc, _+_}
-use native.Mathlib.Omega.{arith}
-use lib.ListN.{length, length-map}
+use mathlib.Core.List.{List, [], _∷_, _++_, map, append-nil}
+use mathlib.Core.Bool.{Bool, true, false, cond}
+use Prim.Native.Nat.{ℕ, _+_}
+use lib.ListN.{length}
 use lib.Dec.{eqb}
-use borrow.Author.Tests.{eqb-true}
 use Rattle.base.specs.Lists.{every, gathered}
-use Rattle.base.proofs.Laws.{apart, clash}
+use Rattle.base.proofs.Laws.{apart}
 use Rattle.base.proofs.Lists.{gathered-append}
 use Rattle.base.proofs.Loops.{and-true}
 use Rattle.lines.specs.Lines.{Line, startWith, pieces, noCR, numbered, linesFrom, linesOf, skipped}
 use Rattle.timetable.specs.Delivery.{Service}
-use Rattle.timetable.specs.Plan.{toldIn, tolds, opens, asCall, asRange, rangesOf, ofPart, partLines, saidOn}
-use Rattle.timetable.specs.Service.{headLines, blocks, firstLine, openingOf, opened, announced, callBy, holding, calledOn, callsOf, categoryRange, dayRange, extraRange, serviceOf}
+use Rattle.timetable.specs.Plan.{toldIn, tolds, opens, asCall, asRange, rangesOf, saidOn}
+use Rattle.timetable.specs.Service.{headLines, blocks, openingOf, opened, announced, callBy, holding, calledOn, callsOf, serviceOf}
 use Rattle.timetable.specs.declared.Announced.{Announced}
 use Rattle.timetable.specs.declared.Call.{Call}
 use Rattle.timetable.specs.declared.CallLine.{CallLine}
-use Rattle.timetable.specs.declared.Part.{Part}
 use Rattle.timetable.specs.declared.Told.{Told}
 use Rattle.timetable.specs.declared.Told.the-variants.{Skip}
 use Rattle.timetable.proofs.Lines.{said-on}
-use Rattle.isolation.specs.Edit.{endsLine, serviceCount, startsService, OneService}
+use Rattle.isolation.specs.Edit.{endsLine, startsService}
 
 -- ---- lists
 

@@ -1,7 +1,7 @@
 -- Bit field numbers changed one-to-one: document 02, No. 14, its second half, proved; specs/Rename.antt says what is changed. Assumes nothing.
 use mathlib.Core.Path.{_≡_, refl, sym, ap, _∙_, subst}
-use mathlib.Core.List.{List, map}
-use Prim.Native.Nat.{ℕ, _<_}
+use mathlib.Core.List.{List}
+use Prim.Native.Nat.{ℕ}
 use lib.ListN.{length, getElem?}
 use Rattle.timetable.specs.Delivery.{Files, Service}
 use Rattle.timetable.specs.Load.{delivered, loaded, written}

@@ -1,31 +1,30 @@
 -- A changed delivery has the same first offence: 6, 7, 8 and 10 by the same lines, every other one by the same bytes. Assumes nothing.
 use mathlib.Core.Path.{_≡_, refl, sym, ap, _∙_}
 use mathlib.Core.List.{List, [], _∷_, _++_, map}
-use mathlib.Core.Bool.{Bool, true, false, cond, not, _&&_, _||_}
-use mathlib.Core.Option.{Option, none, some}
-use Prim.Native.Nat.{ℕ, _+_}
+use mathlib.Core.Bool.{Bool, false, not}
+use mathlib.Core.Option.{Option}
+use Prim.Native.Nat.{ℕ}
 use lib.ListN.{length, length-map}
-use lib.Dec.{eqb, leb, ltb}
+use lib.Dec.{eqb, leb}
 use Rattle.base.specs.Lists.{every, some-of, below}
-use Rattle.bitfield.specs.BitField.{framed}
 use Rattle.lines.specs.Lines.{Line, skipped}
-use Rattle.timetable.specs.Delivery.{BitField, StopRecord, CategoryClass, CategoryRange, DayRange, Service}
-use Rattle.timetable.specs.Files.{Held, skip, broken, held, held-in, heldOffence, hasField, bitFieldOf, bitFieldOffence, bitFieldLineOffence, bitFieldsFirst}
-use Rattle.timetable.specs.Legs.{covering, fieldKnown, fieldRuns, stretches, legCount, operatedLegs}
+use Rattle.timetable.specs.Delivery.{BitField, StopRecord, CategoryClass, DayRange, Service}
+use Rattle.timetable.specs.Files.{Held, skip, broken, held, held-in, heldOffence, bitFieldOf, bitFieldOffence, bitFieldLineOffence, bitFieldsFirst}
+use Rattle.timetable.specs.Legs.{covering, fieldRuns, stretches, legCount, operatedLegs}
 use Rattle.timetable.specs.Offences.{given, _<|>_, first}
 use Rattle.timetable.specs.Plan.{toldIn, asRange, partLines, saidOn}
-use Rattle.timetable.specs.Service.{headLines, blocks, firstLine, calledOn, callsOf, legsOn, serviceOf}
-use Rattle.timetable.specs.Checks.{most, categoryListed, rangeOffence, toldOffence, ownOffence, isNone, timesFirst, endsFirst, eachOnce, torn, legsFirst, serviceChecks, headFirst, serviceFirst, servicesFirst, planFirst}
+use Rattle.timetable.specs.Service.{headLines, blocks, firstLine, callsOf, legsOn, serviceOf}
+use Rattle.timetable.specs.Checks.{toldOffence, ownOffence, isNone, endsFirst, eachOnce, torn, serviceChecks, headFirst, serviceFirst, servicesFirst, planFirst}
 use Rattle.timetable.specs.declared.Call.{Call}
 use Rattle.timetable.specs.declared.Offence.{Offence}
 use Rattle.timetable.specs.declared.RangeLine.{RangeLine}
 use Rattle.timetable.specs.declared.Told.{Told}
 use Rattle.timetable.specs.declared.Told.the-variants.{Skip, Other, Broken, Opens, Ranges, Calls}
-use Rattle.isolation.specs.Rename.{fieldLine, planLine}
+use Rattle.isolation.specs.Rename.{fieldLine}
 use Rattle.isolation.proofs.Lines.{map-append, head-map, blocks-map}
 use Rattle.isolation.proofs.Days.{dayFor, serviceFor, covering-for, legs-for}
 use Rattle.isolation.proofs.Each.{onText}
-use Rattle.isolation.proofs.Told.{rangeFor, toldFor, fieldFor, heldFor, field-held}
+use Rattle.isolation.proofs.Told.{rangeFor, toldFor, heldFor, field-held}
 use Rattle.isolation.proofs.Changed.{Everywhere, zero-for, fields-for, held-for, has-for, knows-for, line-for, opens-for, told-for, skipped-for, parts-for, called-for, calls-for, saidFor, said-ranges, first-no, service-for}
 
 -- ---- lines that offend alike after lines that do

@@ -1,19 +1,14 @@
 -- Two deliveries alike, but for bit field numbers and the lines that open services: what their tables answer. Assumes nothing.
 use mathlib.Core.Path.{_≡_, refl, sym, ap, _∙_}
 use mathlib.Core.List.{List, [], _∷_, map}
-use mathlib.Core.Bool.{Bool, true, false, cond, _&&_}
-use mathlib.Core.Option.{Option, none, some}
 use Prim.Native.Nat.{ℕ, zero, suc}
 use lib.ListN.{length, getElem?}
 use Rattle.calendar.specs.Calendar.{dayOf}
-use Rattle.timetable.specs.Delivery.{Files, Period, StopRecord, Interchange, CategoryClass, Service, Delivery}
-use Rattle.timetable.specs.Files.{hasStop, hasClass}
+use Rattle.timetable.specs.Delivery.{Files, Period, Service, Delivery}
 use Rattle.timetable.specs.Load.{delivered, loaded, written}
 use Rattle.timetable.specs.StopNames.{stopNameIn, stopNameAsked}
-use Rattle.timetable.specs.View.{View, viewOf, ServiceFound, serviceBy, interchangeBy, interchangeAtStop, classBy, classFor, stopNumbered}
-use Rattle.timetable.specs.Questions.{Dated, undated, dated, datedBy, dateOf, dayBy, dayIn, dayAsked, interchangeIn, interchangeAsked, betweenIn, betweenAsked, Journey, journey, walkOf, walkedBy, walked, rowsBy, walkRows}
-use Rattle.timetable.specs.declared.DayAnswer.{DayAnswer}
-use Rattle.timetable.specs.declared.DayAnswer.the-variants.{Refused as DayRefused}
+use Rattle.timetable.specs.View.{View, viewOf, serviceBy, interchangeAtStop, classFor}
+use Rattle.timetable.specs.Questions.{Dated, undated, dated, datedBy, dateOf, dayBy, dayIn, dayAsked, interchangeIn, interchangeAsked, betweenIn, betweenAsked, Journey, journey, walkOf, walkedBy, rowsBy}
 use Rattle.timetable.specs.declared.InterchangeAnswer.the-variants.{Refused as InterchangeRefused}
 use Rattle.timetable.specs.declared.NameAnswer.the-variants.{Refused as NameRefused}
 use Rattle.timetable.specs.declared.Loaded.the-variants.{Accepted}

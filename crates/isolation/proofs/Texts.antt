@@ -1,17 +1,16 @@
 -- A line of BITFELD or FPLAN with another bit field number says the same, but for that number. Assumes nothing.
-use mathlib.Core.Path.{_≡_, refl, sym, ap, _∙_, subst}
+use mathlib.Core.Path.{_≡_, refl, sym, ap, _∙_}
 use mathlib.Core.List.{List, [], _∷_, _++_, append-assoc, append-nil}
-use mathlib.Core.Bool.{Bool, true, false, cond, not, _&&_, _||_}
-use Prim.Native.Nat.{ℕ, zero, suc, _+_, _-_, _%_, _/_, _^_, _≤_, _<_}
+use mathlib.Core.Bool.{Bool, true, false, cond}
+use Prim.Native.Nat.{ℕ, _+_, _-_, _%_, _/_, _≤_, _<_}
 use native.Mathlib.Omega.{arith}
 use lib.ListN.{length, getD, take, drop, length-append, length-drop, take-append-drop}
 use lib.Seq.{drop-drop, length-take-le, getD-append-add}
-use lib.Dec.{eqb, leb}
-use borrow.Author.Tests.{eqb-true, ne-eqb, leb-true, not-false}
+use lib.Dec.{eqb}
+use borrow.Author.Tests.{ne-eqb}
 use Rattle.base.specs.Lists.{every}
-use Rattle.base.proofs.Laws.{apart, clash}
 use Rattle.base.proofs.Loops.{and-true}
-use Rattle.columns.specs.Columns.{padTo, columns, column, isDigit, isBlank, digits, number}
+use Rattle.columns.specs.Columns.{columns, isDigit, digits, number}
 use Rattle.columns.proofs.Laws.{columns-lt}
 use Rattle.forms.specs.Kinds.{kindOf}
 use Rattle.room.proofs.Bytes.{every-long}

@@ -1,18 +1,17 @@
 -- What a changed line says: the same, with its bit field number changed. Assumes nothing.
 use mathlib.Core.Path.{_≡_, refl, sym, ap, _∙_}
 use mathlib.Core.List.{List, [], _∷_, _++_}
-use mathlib.Core.Bool.{Bool, true, false, cond, not, _&&_, _||_}
-use Prim.Native.Nat.{ℕ, zero, suc, _+_, _-_, _*_, _≤_, _<_}
+use mathlib.Core.Bool.{Bool, true, false, cond, _||_}
+use Prim.Native.Nat.{ℕ, _-_, _<_}
 use native.Mathlib.Omega.{arith}
-use lib.ListN.{length, getD, take, drop}
+use lib.ListN.{length, take, drop}
 use lib.Dec.{eqb, leb}
-use borrow.Author.Tests.{eqb-true, ne-eqb, leb-true, not-false}
+use borrow.Author.Tests.{eqb-true, ne-eqb, leb-true}
 use Rattle.base.specs.Lists.{every}
 use Rattle.base.proofs.Laws.{apart, clash}
 use Rattle.base.proofs.Loops.{and-true}
 use Rattle.columns.specs.Columns.{padTo, columns, column, isDigit, digitValue, isBlank, blank, digits, number, numberFrom}
 use Rattle.lines.specs.Lines.{Line, skipped}
-use Rattle.fields.specs.Fields.{rangeEnd, detail}
 use Rattle.forms.specs.Form.{Row, columns as row, digits as digitsRule, orBlank, unnamed, rowForm, formFrom, formOf, before, named}
 use Rattle.forms.specs.Columns.{bitFieldColumns, serviceColumns, frequencyColumns, categoryColumns, attributeColumns, callColumns}
 use Rattle.forms.specs.Kinds.{starred, kindOf}
@@ -22,7 +21,7 @@ use Rattle.forms.specs.declared.Kind.{Kind}
 use Rattle.forms.specs.declared.Kind.the-variants.{Opening as OpeningKind, Frequency, Category as CategoryKind, Attribute, Schedule, Other as OtherKind}
 use Rattle.bitfield.specs.BitField.{bitsIn}
 use Rattle.timetable.specs.Delivery.{BitField}
-use Rattle.timetable.specs.Files.{Held, skip, broken, held, heldBy, heldLine, bitFieldOf}
+use Rattle.timetable.specs.Files.{Held, skip, broken, held, heldBy, bitFieldOf}
 use Rattle.timetable.specs.Plan.{openingIn, frequencyIn, categoryIn, attributeIn, callIn, formed, toldBy, toldIn}
 use Rattle.timetable.specs.declared.RangeLine.{RangeLine}
 use Rattle.timetable.specs.declared.Told.{Told}

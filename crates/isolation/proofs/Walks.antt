@@ -1,19 +1,18 @@
 -- A run goes by the period, by what is known of bit fields and interchange times, and by its own service; a walk never shows the number of the service's
 -- opening line, nor of a bit field. By views, so that it holds of every question that goes by runs. Assumes nothing.
 use mathlib.Core.Path.{_≡_, refl, sym, ap, _∙_}
-use mathlib.Core.List.{List, [], _∷_, _++_, map}
-use mathlib.Core.Bool.{Bool, true, false, cond, not}
-use mathlib.Core.Option.{Option, none, some}
-use Prim.Native.Nat.{ℕ, zero, suc, _+_}
-use lib.ListN.{getElem?}
+use mathlib.Core.List.{List, [], _∷_, map}
+use mathlib.Core.Bool.{Bool}
+use mathlib.Core.Option.{Option}
+use Prim.Native.Nat.{ℕ, _+_}
 use Rattle.base.specs.Lists.{below}
 use Rattle.base.proofs.Laws.{apart}
 use Rattle.calendar.specs.Calendar.{dayOf}
-use Rattle.timetable.specs.Delivery.{Period, Interchange, DayRange, ExtraRange, Service, Delivery}
+use Rattle.timetable.specs.Delivery.{Period, DayRange, ExtraRange, Service}
 use Rattle.timetable.specs.Legs.{legCount, operatedLegsBy}
 use Rattle.timetable.specs.Offences.{_<|>_}
 use Rattle.timetable.specs.View.{ServiceFound, noService, aService, View}
-use Rattle.timetable.specs.Run.{legRefusal, firstRefusal, stretchOf, stretchFrom, stretchCalls, neededLast, callRefusal, callsRefusal, stretchCourse, legsCourse, dayCourse, courseOn, serviceCourse, Run, RunFound, barred, atRest, aRun, runAlong, runBy, runOf}
+use Rattle.timetable.specs.Run.{legRefusal, firstRefusal, stretchOf, stretchFrom, stretchCalls, neededLast, callRefusal, callsRefusal, stretchCourse, legsCourse, dayCourse, courseOn, serviceCourse, RunFound, barred, atRest, aRun, runAlong, runBy, runOf}
 use Rattle.timetable.specs.Questions.{Dated, undated, dated, datedBy, dateOf, rowsOf, rows, rowsAlong, datedRun, journey}
 use Rattle.timetable.specs.Runs.{lateness}
 use Rattle.timetable.specs.declared.Call.{Call}
