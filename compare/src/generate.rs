@@ -4,12 +4,15 @@
 //! sheet in one clause of one refusal, and knows the refusal and the line that it must bring.
 
 pub mod bend_table;
+pub mod boards;
 pub mod break_form;
 pub mod break_plan;
 pub mod break_sheet;
 pub mod case;
+pub mod connections;
 pub mod day_sets;
 pub mod ends;
+pub mod isolation;
 pub mod names;
 pub mod national;
 pub mod numbers;
@@ -18,6 +21,7 @@ pub mod questions;
 pub mod raw_table;
 pub mod rng;
 pub mod sheet;
+pub mod writes;
 
 pub use bend_table::{damaged_table, names_bent};
 pub use case::{counted_helper, damaged, mixed, mutated, oversized, several, some_helper, valid, Aim, Case, DAMAGES};

@@ -31,7 +31,7 @@ fn word(words: &[u32], at: usize) -> u32 {
     words.get(at).copied().unwrap_or(0)
 }
 
-fn date(rng: &mut Rng, words: &[u32]) -> [u32; 3] {
+pub fn date(rng: &mut Rng, words: &[u32]) -> [u32; 3] {
     let (first, n) = (word(words, FIRST_DAY_AT).min(LAST_DAY), word(words, PERIOD_DAYS_AT).clamp(1, MOST_PERIOD_DAYS));
     let day = match rng.below(12) {
         0 => first.saturating_sub(1),

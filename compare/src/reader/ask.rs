@@ -8,14 +8,15 @@ use super::names::{chosen, names, wanted};
 use super::runs::Runs;
 use super::service::stretches;
 use crate::layout::{
-    ARRIVAL, BIT_FIELDS_AT, BIT_FIELD_BITS_AT, BIT_FIELD_NUMBER_AT, BIT_FIELD_WORDS, CALLS_AT, CALL_ADMINISTRATION_AT,
-    CALL_ARRIVAL_AT, CALL_DEPARTURE_AT, CALL_FLAGS_AT, CALL_NUMBER_AT, CALL_PLACE_AT, CALL_WORDS, CATEGORIES_AT,
-    CATEGORY_CODE_AT, CATEGORY_FROM_AT, CATEGORY_TO_AT, CATEGORY_WORDS, CLASSES_AT, CLASS_AT, CLASS_CODE_AT,
-    CLASS_WORDS, DAYS_AT, DAYS_FIELD_AT, DAYS_FROM_AT, DAYS_TO_AT, DAYS_WORDS, DEPARTURE, EXTRAS_AT, EXTRA_FIELD_AT,
-    EXTRA_FROM_AT, EXTRA_TO_AT, EXTRA_WORDS, FIRST_DAY_AT, FIRST_SERVICE_AT, HEADER_WORDS, INTERCHANGES_AT,
-    INTERCHANGE_FIRST_TIME_AT, INTERCHANGE_SECOND_TIME_AT, INTERCHANGE_STOP_AT, INTERCHANGE_WORDS, KIND_AT,
-    NO_ALIGHTING, NO_BOARDING, OFFSET_AT, PERIOD_DAYS_AT, REPEATS_AT, ROW_WORDS, SERVICES_AT, SERVICE_WORDS, SIZE_AT,
-    STOPS_AT, STOP_NAME_AT, STOP_NAME_LENGTH_AT, STOP_NUMBER_AT, STOP_WORDS, USED_AT,
+    ADMINISTRATION_AT, ARRIVAL, BIT_FIELDS_AT, BIT_FIELD_BITS_AT, BIT_FIELD_NUMBER_AT, BIT_FIELD_WORDS, CALLS_AT,
+    CALL_ADMINISTRATION_AT, CALL_ARRIVAL_AT, CALL_DEPARTURE_AT, CALL_FLAGS_AT, CALL_NUMBER_AT, CALL_PLACE_AT,
+    CALL_WORDS, CATEGORIES_AT, CATEGORY_CODE_AT, CATEGORY_FROM_AT, CATEGORY_TO_AT, CATEGORY_WORDS, CLASSES_AT,
+    CLASS_AT, CLASS_CODE_AT, CLASS_WORDS, DAYS_AT, DAYS_FIELD_AT, DAYS_FROM_AT, DAYS_TO_AT, DAYS_WORDS, DEPARTURE,
+    EXTRAS_AT, EXTRA_CODE_AT, EXTRA_FIELD_AT, EXTRA_FROM_AT, EXTRA_TO_AT, EXTRA_WORDS, FIRST_DAY_AT, FIRST_SERVICE_AT,
+    HEADER_WORDS, INTERCHANGES_AT, INTERCHANGE_FIRST_TIME_AT, INTERCHANGE_SECOND_TIME_AT, INTERCHANGE_STOP_AT,
+    INTERCHANGE_WORDS, KIND_AT, NO_ALIGHTING, NO_BOARDING, NUMBER_AT, OFFSET_AT, PERIOD_DAYS_AT, REPEATS_AT, ROW_WORDS,
+    SERVICES_AT, SERVICE_WORDS, SIZE_AT, STOPS_AT, STOP_NAME_AT, STOP_NAME_LENGTH_AT, STOP_NUMBER_AT, STOP_WORDS,
+    USED_AT,
 };
 
 /// The answer of a day question.
@@ -50,40 +51,54 @@ pub enum Walked {
 
 /// A range of the table: what it gives (category or bit field), over which route indexes.
 #[derive(Clone, Copy, Debug)]
-struct Over {
-    given: u32,
-    from: u32,
-    to: u32,
+pub(super) struct Over {
+    pub given: u32,
+    pub from: u32,
+    pub to: u32,
 }
 
 #[derive(Clone, Copy, Debug)]
-struct Call {
+pub(super) struct Call {
     /// Of its stop, in records from 0.
-    place: u32,
-    arrival: u32,
-    departure: u32,
-    flags: u32,
-    number: u32,
-    administration: [u32; 2],
+    pub place: u32,
+    pub arrival: u32,
+    pub departure: u32,
+    pub flags: u32,
+    pub number: u32,
+    pub administration: [u32; 2],
 }
 
 #[derive(Clone, Debug)]
-struct Service {
-    runs: Runs,
-    calls: Vec<Call>,
-    categories: Vec<Over>,
-    days: Vec<Over>,
-    others: Vec<Over>,
+pub(super) struct Service {
+    /// The place of its record in the table.
+    pub at: usize,
+    pub number: u32,
+    pub administration: [u32; 2],
+    pub runs: Runs,
+    pub calls: Vec<Call>,
+    pub categories: Vec<Over>,
+    pub days: Vec<Over>,
+    /// The bit field of each, over its range.
+    pub others: Vec<Over>,
+    /// The code of each of these.
+    pub codes: Vec<u32>,
 }
 
-/// The table that words hold.
-struct Table<'a> {
-    words: &'a [u32],
+/// The table that words hold; the words are those used.
+pub(super) struct Table<'a> {
+    pub words: &'a [u32],
     bitfields: usize,
     stops: usize,
     records: usize,
     classes: usize,
-    services: Vec<Service>,
+    pub services: Vec<Service>,
+}
+
+/// The part of its route along which a service runs on a day, with a row for each call.
+pub(super) struct Stretch {
+    /// The route index of the first row.
+    pub first: usize,
+    pub rows: Vec<[u32; ROW_WORDS]>,
 }
 
 /// Whether the words are a table; if not, every question answers 21.
@@ -92,7 +107,7 @@ pub fn is_table(words: &[u32]) -> bool {
 }
 
 /// The conditions of 21 in the paper's order, counted exactly; document 02, No. 1: "21 reads the new sizes and refuses a class over 13".
-fn table(words: &[u32]) -> Option<Table<'_>> {
+pub(super) fn table(words: &[u32]) -> Option<Table<'_>> {
     // "fewer than 8, or words used under 8 or over those lent", where No. 1 says nine
     let used = *words.get(USED_AT)? as usize;
     if used < HEADER_WORDS || used > words.len() {
@@ -123,7 +138,7 @@ fn services(words: &[u32], stops: u32) -> Option<Vec<Service>> {
     let mut rest = &words[words[FIRST_SERVICE_AT] as usize..];
     let mut found = Vec::new();
     for _ in 0..words[SERVICES_AT] {
-        let service = service(rest, stops)?;
+        let service = service(rest, words.len() - rest.len(), stops)?;
         rest = &rest[rest[SIZE_AT] as usize..];
         found.push(service);
     }
@@ -134,8 +149,8 @@ fn services(words: &[u32], stops: u32) -> Option<Vec<Service>> {
     }
 }
 
-/// The service at the start of the words, if it stands there whole and keeps the conditions of 21.
-fn service(words: &[u32], stops: u32) -> Option<Service> {
+/// The service at the start of the words, if it stands there whole and keeps the conditions of 21; `at` is where they start in the table.
+fn service(words: &[u32], at: usize, stops: u32) -> Option<Service> {
     if words.len() < SERVICE_WORDS {
         return None;
     }
@@ -154,11 +169,15 @@ fn service(words: &[u32], stops: u32) -> Option<Service> {
     let (categories, rest) = rest.split_at(CATEGORY_WORDS * g);
     let (days, others) = rest.split_at(DAYS_WORDS * v);
     let service = Service {
+        at,
+        number: words[NUMBER_AT],
+        administration: [words[ADMINISTRATION_AT], words[ADMINISTRATION_AT + 1]],
         runs,
         calls: calls.chunks_exact(CALL_WORDS).map(call).collect(),
         categories: over(categories, CATEGORY_WORDS, [CATEGORY_CODE_AT, CATEGORY_FROM_AT, CATEGORY_TO_AT]),
         days: over(days, DAYS_WORDS, [DAYS_FIELD_AT, DAYS_FROM_AT, DAYS_TO_AT]),
         others: over(others, EXTRA_WORDS, [EXTRA_FIELD_AT, EXTRA_FROM_AT, EXTRA_TO_AT]),
+        codes: others.chunks_exact(EXTRA_WORDS).map(|other| other[EXTRA_CODE_AT]).collect(),
     };
     if in_bounds(&service, stops) {
         Some(service)
@@ -196,7 +215,7 @@ fn in_bounds(service: &Service, stops: u32) -> bool {
 
 impl<'a> Table<'a> {
     /// 22 "no such date", 23 "outside the period"; else the day of the period.
-    fn day_of(&self, d: u32, m: u32, y: u32) -> Result<u32, u32> {
+    pub(super) fn day_of(&self, d: u32, m: u32, y: u32) -> Result<u32, u32> {
         let day = day_number(d, m, y).ok_or(22_u32)?;
         match day.checked_sub(self.words[FIRST_DAY_AT]) {
             Some(in_period) if in_period < self.words[PERIOD_DAYS_AT] => Ok(in_period),
@@ -205,9 +224,17 @@ impl<'a> Table<'a> {
     }
 
     /// The stops: number, place and length of the name of each.
-    fn stop_records(&self) -> impl Iterator<Item = &'a [u32]> {
+    pub(super) fn stop_records(&self) -> impl Iterator<Item = &'a [u32]> {
         let start = HEADER_WORDS + BIT_FIELD_WORDS * self.bitfields;
         self.words[start..].chunks_exact(STOP_WORDS).take(self.stops)
+    }
+
+    /// The number of the stop at a place, counted in records from 0.
+    pub(super) fn stop_at(&self, place: u32) -> u32 {
+        match self.stop_records().nth(place as usize) {
+            Some(record) => record[STOP_NUMBER_AT],
+            None => unreachable!("21 refuses a place not below S"),
+        }
     }
 
     /// The first record of a stop.
@@ -215,34 +242,49 @@ impl<'a> Table<'a> {
         self.stop_records().find(|record| record[STOP_NUMBER_AT] == stop)
     }
 
-    fn stop_known(&self, stop: u32) -> bool {
+    pub(super) fn stop_known(&self, stop: u32) -> bool {
         self.stop_record(stop).is_some()
     }
 
     /// "the stop's record, else the first record"; "Lookups take the first match."
     fn interchange_times(&self, stop: u32) -> [u32; 2] {
+        let own = self.interchange_records().find(|record| record[INTERCHANGE_STOP_AT] == stop);
+        match own.or_else(|| self.interchange_records().next()) {
+            Some(record) => [record[INTERCHANGE_FIRST_TIME_AT], record[INTERCHANGE_SECOND_TIME_AT]],
+            None => unreachable!("21 refuses a U of 0"),
+        }
+    }
+
+    /// The interchange records: number and two times of each.
+    pub(super) fn interchange_records(&self) -> impl Iterator<Item = &'a [u32]> {
         let start = HEADER_WORDS + BIT_FIELD_WORDS * self.bitfields + STOP_WORDS * self.stops;
-        let mut records = self.words[start..].chunks_exact(INTERCHANGE_WORDS).take(self.records);
-        let own = records.find(|record| record[INTERCHANGE_STOP_AT] == stop);
-        let record = own.unwrap_or(&self.words[start..]);
-        [record[INTERCHANGE_FIRST_TIME_AT], record[INTERCHANGE_SECOND_TIME_AT]]
+        self.words[start..].chunks_exact(INTERCHANGE_WORDS).take(self.records)
     }
 
     /// "The first time applies when both classes are 0, 1 or 2" (No. 2), else the second.
-    fn minutes(&self, stop: u32, class_a: u32, class_b: u32) -> Changed {
+    pub(super) fn minutes(&self, stop: u32, class_a: u32, class_b: u32) -> u32 {
         let [first, second] = self.interchange_times(stop);
-        Changed::Minutes(if class_a <= 2 && class_b <= 2 { first } else { second })
+        if class_a <= 2 && class_b <= 2 {
+            first
+        } else {
+            second
+        }
     }
 
     /// Code and class of each category; they end where the services begin.
-    fn class_records(&self) -> impl Iterator<Item = &'a [u32]> {
+    pub(super) fn class_records(&self) -> impl Iterator<Item = &'a [u32]> {
         let end = self.words[FIRST_SERVICE_AT] as usize;
         self.words[end - CLASS_WORDS * self.classes..end].chunks_exact(CLASS_WORDS)
     }
 
     /// The class of a category.
-    fn class_of(&self, category: u32) -> Option<u32> {
+    pub(super) fn class_of(&self, category: u32) -> Option<u32> {
         self.class_records().find(|record| record[CLASS_CODE_AT] == category).map(|record| record[CLASS_AT])
+    }
+
+    /// The bit fields: number and twelve words of each.
+    pub(super) fn bit_field_records(&self) -> impl Iterator<Item = &'a [u32]> {
+        self.words[HEADER_WORDS..].chunks_exact(BIT_FIELD_WORDS).take(self.bitfields)
     }
 
     /// Whether a bit field runs on a day, "0 always runs"; `None` if there is no such bit field.
@@ -250,8 +292,7 @@ impl<'a> Table<'a> {
         if number == 0 {
             return Some(true);
         }
-        let mut records = self.words[HEADER_WORDS..].chunks_exact(BIT_FIELD_WORDS).take(self.bitfields);
-        let record = records.find(|record| record[BIT_FIELD_NUMBER_AT] == number)?;
+        let record = self.bit_field_records().find(|record| record[BIT_FIELD_NUMBER_AT] == number)?;
         let mut bits: BitWords = [0; 12];
         bits.copy_from_slice(&record[BIT_FIELD_BITS_AT..]);
         Some(runs_on(&bits, day))
@@ -306,7 +347,7 @@ pub fn interchange(words: &[u32], stop: u32, class_a: u32, class_b: u32) -> Chan
     if !table.stop_known(stop) {
         return Changed::Refused { number: 27 };
     }
-    table.minutes(stop, class_a, class_b)
+    Changed::Minutes(table.minutes(stop, class_a, class_b))
 }
 
 /// Document 02, No. 1: "The new question takes a stop and two categories." "38 for a *G category not listed, .. in the question, after 27".
@@ -319,7 +360,7 @@ pub fn interchange_between(words: &[u32], stop: u32, category_a: u32, category_b
         return Changed::Refused { number: 27 };
     }
     match (table.class_of(category_a), table.class_of(category_b)) {
-        (Some(class_a), Some(class_b)) => table.minutes(stop, class_a, class_b),
+        (Some(class_a), Some(class_b)) => Changed::Minutes(table.minutes(stop, class_a, class_b)),
         _ => Changed::Refused { number: 38 },
     }
 }
@@ -366,22 +407,31 @@ pub fn walk(words: &[u32], service: u32, repeat: u32, d: u32, m: u32, y: u32, ro
 fn walked_rows(words: &[u32], service: u32, repeat: u32, d: u32, m: u32, y: u32) -> Result<Vec<[u32; ROW_WORDS]>, u32> {
     let table = table(words).ok_or(21_u32)?;
     let day = table.day_of(d, m, y)?;
-    // "24 service index not below V"
-    let service = table.services.get(service as usize).ok_or(24_u32)?;
-    // "25 repeat number over repeats (0 is the run itself)"; No. 8: "25 follows the rule above"
-    let late = service.runs.late(repeat).ok_or(25_u32)?;
-    let operated = table.operated(service, day)?;
-    // "No leg operated: "not running", no rows. 35 two stretches."
-    let first = match operated.iter().position(|runs| *runs) {
-        Some(first) => first,
-        None => return Ok(Vec::new()),
-    };
-    if stretches(&operated) >= 2 {
-        return Err(35);
+    Ok(table.walked(service, repeat, day)?.map_or(Vec::new(), |stretch| stretch.rows))
+}
+
+impl Table<'_> {
+    /// The stretch of a walk on a day of the period, `None` if it is "not running"; of its refusals those from 24 on but 29.
+    pub(super) fn walked(&self, service: u32, repeat: u32, day: u32) -> Result<Option<Stretch>, u32> {
+        // "24 service index not below V"
+        let service = self.services.get(service as usize).ok_or(24_u32)?;
+        // "25 repeat number over repeats (0 is the run itself)"; No. 8: "25 follows the rule above"
+        let late = service.runs.late(repeat).ok_or(25_u32)?;
+        let operated = self.operated(service, day)?;
+        // "No leg operated: "not running", no rows. 35 two stretches."
+        let first = match operated.iter().position(|runs| *runs) {
+            Some(first) => first,
+            None => return Ok(None),
+        };
+        if stretches(&operated) >= 2 {
+            return Err(35);
+        }
+        let last = first + operated[first..].iter().take_while(|runs| **runs).count();
+        let mut before = 0;
+        let rows: Result<Vec<_>, u32> =
+            (first..=last).map(|i| row(self, service, (first, i, last), late, &mut before)).collect();
+        Ok(Some(Stretch { first, rows: rows? }))
     }
-    let last = first + operated[first..].iter().take_while(|runs| **runs).count();
-    let mut before = 0;
-    (first..=last).map(|i| row(&table, service, (first, i, last), late, &mut before)).collect()
 }
 
 /// One call of the stretch: "36 a time needed ... missing or below the needed one before, 33 leaving leg without exactly one *G", then its row. "Rows still
@@ -395,10 +445,7 @@ fn row(
     before: &mut u32,
 ) -> Result<[u32; ROW_WORDS], u32> {
     let call = service.calls[i];
-    let stop = match table.stop_records().nth(call.place as usize) {
-        Some(record) => record[STOP_NUMBER_AT],
-        None => unreachable!("21 refuses a place not below S"),
-    };
+    let stop = table.stop_at(call.place);
     // "First row: arrival 0, flags 1 and 4 cleared. Last: departure 0, flags 2 and 8 cleared, category 0."
     let (mut arrival, mut departure, mut category, mut flags) = (0, 0, 0, call.flags);
     if i == first {

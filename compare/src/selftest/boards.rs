@@ -1,0 +1,189 @@
+//! Document 02, No. 9: indexes and boards, worked by hand; and boards by walking every run.
+
+use super::deliveries::{route_r, table_of, three_services, week, ALPHA, BETA, FRIDAY, GAMMA, SATURDAY};
+use crate::boundary::{Boundary, Reader};
+use crate::differ::rng_of;
+use crate::generate::boards::board_question;
+use crate::generate::questions::{head_of, last_run};
+use crate::generate::raw_table::parts;
+use crate::generate::{damaged_table, valid, Size};
+use crate::layout::{
+    CALL_DEPARTURE_AT, CALL_FLAGS_AT, CALL_PLACE_AT, MOST_ROW_WORDS, NO_BOARDING, ROW_DEPARTURE_AT, ROW_WORDS,
+    SERVICES_AT, STOP_NUMBER_AT, USED_AT,
+};
+use crate::reader::board::{departs, departures, Departure};
+use crate::reader::runs::Runs;
+use crate::reader::{board, check_index, index, index_words, is_table, BoardQuestion, Boarded, Indexed};
+
+fn asked(stop: u32, date: [u32; 3], first: u32, last: u32) -> BoardQuestion {
+    BoardQuestion { stop, date, first, last }
+}
+
+fn rows(table: &[u32], asked: BoardQuestion) -> Vec<[u32; 4]> {
+    let (index, mut list) = (index_words(table).unwrap(), [9; 80]);
+    match board(table, &index, &asked, &mut list) {
+        Boarded::Rows(rows) => {
+            assert!(list[4 * rows..].iter().all(|word| *word == 9));
+            list.chunks(4).take(rows).map(|row| [row[0], row[1], row[2], row[3]]).collect()
+        }
+        refused => panic!("{:?}", refused),
+    }
+}
+
+/// Of the trial week with a category more: one bit field, stops in buckets 2, 1, 1 of three, one interchange record; its service at word 38.
+#[test]
+fn index_of_the_trial_week() {
+    let table = table_of(&week(&route_r()));
+    assert_eq!(table.len(), 84);
+    let made = index_words(&table).unwrap();
+    assert_eq!(made[..2], [1, 0]);
+    // Records count from the end: Alpha is 3, alone in bucket 2; Beta is 2 and Gamma 1, both in bucket 1.
+    assert_eq!(made[2..8], [0, 0, 2, 1, 3, 0]);
+    assert_eq!(made[8..10], [1, 0]);
+    // BAT is 2, IC is 1
+    assert_eq!(made[10..14].iter().copied().max(), Some(2));
+    assert_eq!(made[14..15], [38]);
+    // the last calls at Alpha, Beta, Gamma; then each call
+    assert_eq!(made[15..18], [1, 4, 3]);
+    assert_eq!(made[18..], [0, 0, 38, 0, 0, 0, 38, 1, 0, 0, 38, 2, 2, 0, 38, 3]);
+    let mut lent = [9; 36];
+    assert_eq!(index(&table, &mut lent[..33]), Indexed::Refused { number: 29, needed: 34 });
+    assert_eq!(index(&table[..83], &mut lent), Indexed::Refused { number: 21, needed: 0 });
+    assert_eq!(lent, [9; 36]);
+    assert_eq!(index(&table, &mut lent), Indexed::Words(34));
+    assert_eq!((&lent[..34], &lent[34..]), (&made[..], &[9, 9][..]));
+    assert_eq!(check_index(&table, &made), 0);
+    assert_eq!(check_index(&table, &lent[..35]), 43);
+    assert_eq!(check_index(&table, &made[..33]), 43);
+    assert_eq!(check_index(&table[..83], &made), 21);
+    for at in 0..made.len() {
+        let mut other = made.clone();
+        other[at] ^= 1;
+        assert_eq!(check_index(&table, &other), 43, "word {}", at);
+    }
+}
+
+#[test]
+fn boards_by_hand() {
+    let table = three_services();
+    let late = [[1_430, 1, 0, 0], [1_438, 1, 1, 0], [1_445, 1, 2, 0], [1_453, 1, 3, 0], [1_460, 1, 4, 0]];
+    let repeated = [[492, 2, 0, 0], [504, 2, 1, 0], [516, 2, 2, 0]];
+    // route R's last call at Beta, 08:55, departs nowhere
+    let friday = [&[[492, 0, 0, 1]], &repeated[..], &late[..]].concat();
+    assert_eq!(rows(&table, asked(BETA, FRIDAY, 0, u32::MAX)), friday);
+    assert_eq!(rows(&table, asked(BETA, SATURDAY, 0, u32::MAX)), [&repeated[..], &late[..]].concat());
+    // no boarding at 24:06
+    assert_eq!(rows(&table, asked(ALPHA, FRIDAY, 0, u32::MAX)), [[480, 0, 0, 0]]);
+    assert_eq!(rows(&table, asked(GAMMA, FRIDAY, 0, u32::MAX)), [[515, 0, 0, 2]]);
+    // both ends count
+    assert_eq!(rows(&table, asked(BETA, FRIDAY, 492, 504)), friday[..3]);
+    assert_eq!(rows(&table, asked(BETA, FRIDAY, 493, 504)), friday[2..3]);
+    assert_eq!(rows(&table, asked(BETA, FRIDAY, 492, 503)), friday[..2]);
+    assert_eq!(rows(&table, asked(BETA, FRIDAY, 1_460, 1_460)), friday[8..]);
+    assert_eq!(rows(&table, asked(BETA, FRIDAY, 1_461, u32::MAX)), [[0; 4]; 0]);
+    assert_eq!(rows(&table, asked(BETA, FRIDAY, 504, 492)), [[0; 4]; 0]);
+}
+
+#[test]
+fn refusals_of_a_board() {
+    let table = three_services();
+    let own = index_words(&table).unwrap();
+    let mut list = [9; 40];
+    let all = |stop, date| asked(stop, date, 0, u32::MAX);
+    let mut answer = |table: &[u32], index: &[u32], asked: BoardQuestion, room: usize| {
+        let answer = board(table, index, &asked, &mut list[..room]);
+        assert!(answer == Boarded::Rows(0) || list == [9; 40]);
+        answer
+    };
+    let refused = |number, needed| Boarded::Refused { number, needed };
+    let cut = &table[..table.len() - 1];
+    assert_eq!(answer(cut, &[], all(1, [31, 11, 2025]), 0), refused(21, 0));
+    assert_eq!(answer(&table, &[], all(1, [31, 11, 2025]), 0), refused(22, 0));
+    assert_eq!(answer(&table, &[], all(1, [8, 12, 2025]), 0), refused(23, 0));
+    assert_eq!(answer(&table, &[], all(1, FRIDAY), 0), refused(27, 0));
+    assert_eq!(answer(&table, &own[1..], all(BETA, FRIDAY), 0), refused(43, 0));
+    assert_eq!(answer(&table, &own, all(BETA, FRIDAY), 35), refused(29, 36));
+    // a first time after the last one: after all refusals, and without room
+    assert_eq!(answer(&table, &own[1..], asked(BETA, FRIDAY, 2, 1), 0), refused(43, 0));
+    assert_eq!(answer(&table, &own, asked(BETA, FRIDAY, 2, 1), 0), Boarded::Rows(0));
+}
+
+/// Words from elsewhere: Gamma's number is Beta's, and its calls are on Beta's board, each once.
+#[test]
+fn a_stop_listed_twice() {
+    let mut table = three_services();
+    let gamma = table.iter().position(|word| *word == GAMMA).unwrap();
+    table[gamma] = BETA;
+    assert!(is_table(&table));
+    let places: Vec<[u32; 2]> = rows(&table, asked(BETA, FRIDAY, 0, 515)).iter().map(|row| [row[1], row[3]]).collect();
+    assert_eq!(places, [[0, 1], [2, 0], [2, 0], [0, 2]]);
+}
+
+/// A *T of 9,999 minutes and density 1 has 599,941 runs, and a file of 16,777,216 bytes holds thousands of such services: a board of 1,790 passes 2^32 words.
+#[test]
+fn words_needed_pass_2_to_32() {
+    let most = Runs::Frequent { running_time: 9_999, density: 1 };
+    assert_eq!([most.late(599_940), most.late(599_941)], [Some(9_999), None]);
+    let (runs, lines_of_a_service) = (599_941_u64, 5);
+    let services = 16_777_216 / 60 / lines_of_a_service;
+    assert!(services > 1_790 && 1_790 * runs * 4 > 1 << 32);
+}
+
+/// "The answer equals the one from walking every run", by the walk question as it is.
+fn departures_by_walks(table: &[u32], asked: &BoardQuestion) -> Vec<Departure> {
+    let mut found = Vec::new();
+    for service in 0..table[SERVICES_AT] {
+        let head = head_of(table, service).unwrap();
+        for repeat in 0..=last_run(head) as u32 {
+            let mut rows = vec![0; MOST_ROW_WORDS];
+            let listed = match Reader.walk(table, service, repeat, asked.date, &mut rows) {
+                [0, listed, _] => listed as usize,
+                _ => continue,
+            };
+            for row in rows.chunks(ROW_WORDS).take(listed) {
+                let time = row[ROW_DEPARTURE_AT];
+                if departs(row, asked.stop) && asked.first <= time && time <= asked.last {
+                    // a row has no place in the route
+                    found.push(Departure { time, service, repeat, place: 0 });
+                }
+            }
+        }
+    }
+    found.sort_unstable_by_key(|row| (row.service, row.repeat, row.time));
+    found
+}
+
+#[test]
+fn boards_are_those_of_all_walks() {
+    let (mut compared, mut with_rows) = (0, 0);
+    for index in 0..3_000 {
+        let rng = &mut rng_of(9, index);
+        let case = valid(rng, Size::Small);
+        let (mut table, mut helper) = (vec![0; case.room], case.helper.clone());
+        Reader.load(case.slices(), &mut table, &mut helper);
+        if index % 2 == 1 {
+            table = damaged_table(rng, &table);
+        }
+        let runs = |table: &[u32]| -> u64 {
+            (0..table[SERVICES_AT]).map(|service| head_of(table, service).map_or(0, last_run)).sum()
+        };
+        if !is_table(&table) || runs(&table) > 300 {
+            continue;
+        }
+        let question = board_question(rng, &table);
+        if let Ok(found) = departures(&table, None, &question) {
+            let mut without_places: Vec<Departure> = found.iter().map(|row| Departure { place: 0, ..*row }).collect();
+            without_places.sort_unstable_by_key(|row| (row.service, row.repeat, row.time));
+            assert_eq!(without_places, departures_by_walks(&table, &question), "turn {}", index);
+            let raw = parts(&table[..table[USED_AT] as usize]);
+            for row in &found {
+                let call = raw.services[row.service as usize].calls[row.place as usize];
+                assert_eq!(raw.stops[call[CALL_PLACE_AT] as usize][STOP_NUMBER_AT], question.stop, "turn {}", index);
+                assert!(call[CALL_DEPARTURE_AT] <= row.time && call[CALL_FLAGS_AT] & NO_BOARDING == 0);
+            }
+            compared += 1;
+            with_rows += u32::from(!found.is_empty());
+        }
+    }
+    assert!(compared > 500 && with_rows > 150, "{} boards, {} with rows", compared, with_rows);
+}
