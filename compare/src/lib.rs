@@ -4,13 +4,16 @@
 pub mod boundary;
 pub mod columns;
 pub mod differ;
+pub mod edge;
 pub mod files;
+pub mod functions;
 pub mod generate;
 pub mod ground;
 /// The planner's; `tools/drift.sh` holds it against the header and the loader.
 #[path = "../../planner/src/layout.rs"]
 pub mod layout;
 pub mod reader;
+pub mod requests;
 pub mod standard;
 
 #[cfg(test)]

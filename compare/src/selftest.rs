@@ -14,6 +14,7 @@ mod names;
 mod national;
 mod random;
 mod refusals;
+mod requests;
 mod runs;
 mod standard;
 mod writing;

@@ -1,0 +1,123 @@
+//! The quick questions of the linked archive.
+
+use compare::boundary::size_word;
+use compare::functions::Quick;
+use estelunya_planner::raw::{DayResult, InterchangeResult, NameResult, WalkResult};
+
+extern "C" {
+    fn estelunya_quick_day(
+        table: *const u32,
+        table_words: usize,
+        index: *const u32,
+        index_words: usize,
+        day: u32,
+        month: u32,
+        year: u32,
+        field: u32,
+    ) -> DayResult;
+    fn estelunya_quick_interchange(
+        table: *const u32,
+        table_words: usize,
+        index: *const u32,
+        index_words: usize,
+        stop: u32,
+        arriving: u32,
+        departing: u32,
+    ) -> InterchangeResult;
+    fn estelunya_quick_interchange_between(
+        table: *const u32,
+        table_words: usize,
+        index: *const u32,
+        index_words: usize,
+        stop: u32,
+        arriving: u32,
+        departing: u32,
+    ) -> InterchangeResult;
+    fn estelunya_quick_stop_name(
+        table: *const u32,
+        table_words: usize,
+        index: *const u32,
+        index_words: usize,
+        bahnhof: *const u8,
+        bahnhof_bytes: usize,
+        stop: u32,
+        language: u32,
+        kind: u32,
+    ) -> NameResult;
+    fn estelunya_quick_walk(
+        table: *const u32,
+        table_words: usize,
+        index: *const u32,
+        index_words: usize,
+        service: u32,
+        repeat: u32,
+        day: u32,
+        month: u32,
+        year: u32,
+        rows: *mut u32,
+        rows_words: usize,
+    ) -> WalkResult;
+}
+
+pub struct Exported;
+
+impl Quick for Exported {
+    fn day(&self, table: &[u32], index: &[u32], [day, month, year]: [u32; 3], field: u32) -> [u32; 2] {
+        let ((words, used), (by, size)) = ((table.as_ptr(), table.len()), (index.as_ptr(), index.len()));
+        let answer = unsafe { estelunya_quick_day(words, used, by, size, day, month, year, field) };
+        let DayResult { number, runs } = answer;
+        [number, runs]
+    }
+
+    fn interchange(&self, table: &[u32], index: &[u32], stop: u32, [arriving, departing]: [u32; 2]) -> [u32; 2] {
+        let ((words, used), (by, size)) = ((table.as_ptr(), table.len()), (index.as_ptr(), index.len()));
+        let answer = unsafe { estelunya_quick_interchange(words, used, by, size, stop, arriving, departing) };
+        let InterchangeResult { number, minutes } = answer;
+        [number, minutes]
+    }
+
+    fn interchange_between(
+        &self,
+        table: &[u32],
+        index: &[u32],
+        stop: u32,
+        [arriving, departing]: [u32; 2],
+    ) -> [u32; 2] {
+        let ((words, used), (by, size)) = ((table.as_ptr(), table.len()), (index.as_ptr(), index.len()));
+        let answer = unsafe { estelunya_quick_interchange_between(words, used, by, size, stop, arriving, departing) };
+        let InterchangeResult { number, minutes } = answer;
+        [number, minutes]
+    }
+
+    fn stop_name(
+        &self,
+        table: &[u32],
+        index: &[u32],
+        bahnhof: &[u8],
+        stop: u32,
+        [language, kind]: [u32; 2],
+    ) -> [u32; 3] {
+        let ((words, used), (by, size)) = ((table.as_ptr(), table.len()), (index.as_ptr(), index.len()));
+        let (bytes, length) = (bahnhof.as_ptr(), bahnhof.len());
+        let answer = unsafe { estelunya_quick_stop_name(words, used, by, size, bytes, length, stop, language, kind) };
+        let NameResult { number, start, length } = answer;
+        [number, size_word(start), size_word(length)]
+    }
+
+    fn walk(
+        &self,
+        table: &[u32],
+        index: &[u32],
+        service: u32,
+        repeat: u32,
+        [day, month, year]: [u32; 3],
+        rows: &mut [u32],
+    ) -> [u32; 3] {
+        let ((words, used), (by, size)) = ((table.as_ptr(), table.len()), (index.as_ptr(), index.len()));
+        let (lent, room) = (rows.as_mut_ptr(), rows.len());
+        let answer =
+            unsafe { estelunya_quick_walk(words, used, by, size, service, repeat, day, month, year, lent, room) };
+        let WalkResult { number, rows, needed } = answer;
+        [number, rows, needed]
+    }
+}

@@ -1,0 +1,133 @@
+//! Departure boards (document 02, No. 9), checked and quick.
+
+use super::tables::{beside, loaded, turned};
+use super::turn::{lent_words, told};
+use super::{Difference, Turn};
+use crate::boundary::Reader;
+use crate::edge::{Given, Left};
+use crate::functions::Boards;
+use crate::generate::boards::{board_question, board_room};
+use crate::reader::board::{departures, BOARD_ROW_WORDS};
+use crate::reader::BoardQuestion;
+
+/// Whether a board looks at its index first.
+#[derive(Clone, Copy, Debug, PartialEq, Eq)]
+pub enum By {
+    /// "43 words that are not this table's index"
+    Checked,
+    /// The index is taken as it is; of its own table the answers are the same.
+    Quick,
+}
+
+pub const ANSWERS: &[&str] = &[
+    "rows",
+    "rows after midnight",
+    "rows of several runs",
+    "no rows",
+    "first after last",
+    "refused 21",
+    "refused 22",
+    "refused 23",
+    "refused 27",
+    "refused 29",
+    "refused 43",
+];
+
+/// The same by an index that is not looked at: 43 is only where it cannot be one.
+pub const QUICK_ANSWERS: &[&str] = &[
+    "rows",
+    "rows after midnight",
+    "rows of several runs",
+    "no rows",
+    "first after last",
+    "refused 22",
+    "refused 23",
+    "refused 27",
+    "refused 29",
+    "of another index",
+];
+
+const BOARDS: u32 = 12;
+
+pub fn compare(turn: &mut Turn<'_>, how: By, by: &dyn Boards) -> Result<(), Box<Difference>> {
+    let before = loaded(&mut turn.rng).table;
+    for round in 0..BOARDS {
+        let table = turned(&mut turn.rng, &before, round);
+        let index = beside(&mut turn.rng, &table, &before, 4);
+        let asked = board_question(&mut turn.rng, &table);
+        if how == By::Quick && !index.is_own {
+            ask_other(turn, &table, &index.words, &asked, by)?;
+        } else {
+            ask(turn, &table, &index.words, &asked, by)?;
+        }
+    }
+    Ok(())
+}
+
+/// A board whose answer the reader has.
+fn ask(
+    turn: &mut Turn<'_>,
+    table: &[u32],
+    index: &[u32],
+    asked: &BoardQuestion,
+    by: &dyn Boards,
+) -> Result<(), Box<Difference>> {
+    let rows = departures(table, Some(index), asked);
+    let room = board_room(&mut turn.rng, BOARD_ROW_WORDS * rows.as_ref().map_or(3, Vec::len));
+    let lent = lent_words(room);
+    let mut words = lent.clone();
+    let answer = Reader.board(table, index, asked, &mut words);
+    let expected = Left { answer, lent: words, is_kept: true };
+    let given = Given { table, index, ..Given::default() };
+    let found = turn.words(given, &lent, |given, lent| by.board(given.table, given.index, asked, lent));
+    turn.counts.count(match answer {
+        [0, 0, _] if asked.first > asked.last => "first after last".to_string(),
+        [0, 0, _] => "no rows".to_string(),
+        [0, ..] => "rows".to_string(),
+        [number, ..] => format!("refused {}", number),
+    });
+    if let ([0, ..], Ok(rows)) = (answer, &rows) {
+        if rows.iter().any(|row| row.time >= 1_440) {
+            turn.counts.count("rows after midnight");
+        }
+        if rows.iter().any(|row| row.repeat > 0) {
+            turn.counts.count("rows of several runs");
+        }
+    }
+    if found != expected {
+        let text = format!("{:?} into {} words: {}", asked, room, told(&expected, &found));
+        return Err(Difference::new(text, given));
+    }
+    Ok(())
+}
+
+/// A quick board by words that are not the table's index. It may be refused or list anything, but it answers the same each time, lists no more than its room holds, and leaves
+/// the words behind its rows, or all if it is refused.
+fn ask_other(
+    turn: &mut Turn<'_>,
+    table: &[u32],
+    index: &[u32],
+    asked: &BoardQuestion,
+    by: &dyn Boards,
+) -> Result<(), Box<Difference>> {
+    let room = turn.rng.pick(&[0, 4, 40, 400]);
+    let lent = lent_words(room);
+    let given = Given { table, index, ..Given::default() };
+    let found = turn.words(given, &lent, |given, lent| by.board(given.table, given.index, asked, lent));
+    let again = turn.words(given, &lent, |given, lent| by.board(given.table, given.index, asked, lent));
+    let [number, rows, needed] = found.answer;
+    let listed = BOARD_ROW_WORDS as u64 * rows;
+    let is_right = match number {
+        0 => needed == 0 && listed <= room as u64 && found.lent[listed as usize..] == lent[listed as usize..],
+        29 => rows == 0 && needed > room as u64 && found.lent == lent,
+        21 | 22 | 23 | 27 | 43 => rows == 0 && needed == 0 && found.lent == lent,
+        _ => false,
+    };
+    turn.counts.count("of another index");
+    if !is_right || found != again || !found.is_kept {
+        let text =
+            format!("{:?} into {} words by another index: {:?}, then {:?}", asked, room, found.answer, again.answer);
+        return Err(Difference::new(text, given));
+    }
+    Ok(())
+}

@@ -1,0 +1,147 @@
+//! Proposed connections (document 02, No. 12), plain and by an index.
+
+use super::tables::{beside, loaded, turned};
+use super::turn::told;
+use super::{Difference, Turn};
+use crate::boundary::Reader;
+use crate::edge::{Given, Left};
+use crate::functions::Connections;
+use crate::generate::connections::proposed;
+use crate::reader::connection::PART_WORDS;
+
+/// Whether the question takes an index.
+#[derive(Clone, Copy, Debug, PartialEq, Eq)]
+pub enum By {
+    Table,
+    Index,
+}
+
+/// Each refusal of a part as the first bad one, of several parts: the first, one between, the last.
+pub const ANSWERS: &[&str] = &[
+    "holds, 1",
+    "holds, 2",
+    "holds, 3",
+    "holds, 10",
+    "refused 21",
+    "refused 46",
+    "refused 22, only",
+    "refused 22, first",
+    "refused 22, middle",
+    "refused 22, last",
+    "refused 23, first",
+    "refused 23, middle",
+    "refused 23, last",
+    "refused 24, first",
+    "refused 24, middle",
+    "refused 24, last",
+    "refused 25, first",
+    "refused 25, middle",
+    "refused 25, last",
+    "refused 31, first",
+    "refused 31, middle",
+    "refused 31, last",
+    "refused 33, first",
+    "refused 33, middle",
+    "refused 33, last",
+    "refused 34, first",
+    "refused 34, middle",
+    "refused 34, last",
+    "refused 35, first",
+    "refused 35, middle",
+    "refused 35, last",
+    "refused 36, first",
+    "refused 36, middle",
+    "refused 36, last",
+    "refused 47, first",
+    "refused 47, middle",
+    "refused 47, last",
+    "refused 48, first",
+    "refused 48, middle",
+    "refused 48, last",
+    "refused 49, middle",
+    "refused 49, last",
+    "refused 38, middle",
+    "refused 38, last",
+    "refused 50, middle",
+    "refused 50, last",
+];
+
+const CONNECTIONS: u32 = 12;
+
+pub fn compare(turn: &mut Turn<'_>, how: By, by: &dyn Connections) -> Result<(), Box<Difference>> {
+    let before = loaded(&mut turn.rng).table;
+    for round in 0..CONNECTIONS {
+        let other = turned(&mut turn.rng, &before, if round % 4 == 3 { 1 } else { 0 });
+        let (table, parts) = proposed(&mut turn.rng, &other);
+        let index = match how {
+            By::Table => Vec::new(),
+            By::Index => {
+                let index = beside(&mut turn.rng, &table, &before, 6);
+                if !index.is_own {
+                    ask_other(turn, &table, &index.words, &parts, by)?;
+                    continue;
+                }
+                index.words
+            }
+        };
+        ask(turn, &table, &index, &parts, by)?;
+    }
+    Ok(())
+}
+
+fn ask(
+    turn: &mut Turn<'_>,
+    table: &[u32],
+    index: &[u32],
+    parts: &[u32],
+    by: &dyn Connections,
+) -> Result<(), Box<Difference>> {
+    let answer = Reader.connection(table, index, parts);
+    let expected = Left { answer, lent: Vec::new(), is_kept: true };
+    let given = Given { table, index, parts, ..Given::default() };
+    let found = turn.words(given, &[], |given, _| by.connection(given.table, given.index, given.parts));
+    turn.counts.count(named(answer, parts.len() / PART_WORDS));
+    if found != expected {
+        return Err(Difference::new(format!("a connection: {}", told(&expected, &found)), given));
+    }
+    Ok(())
+}
+
+fn named([number, part]: [u32; 2], parts: usize) -> String {
+    let place = match part as usize {
+        0 => return if number == 0 { format!("holds, {}", parts) } else { format!("refused {}", number) },
+        _ if parts == 1 => "only",
+        1 => "first",
+        part if part == parts => "last",
+        _ => "middle",
+    };
+    format!("refused {}, {}", number, place)
+}
+
+/// By words that are not the table's index: any answer that there is, the same each time.
+fn ask_other(
+    turn: &mut Turn<'_>,
+    table: &[u32],
+    index: &[u32],
+    parts: &[u32],
+    by: &dyn Connections,
+) -> Result<(), Box<Difference>> {
+    let given = Given { table, index, parts, ..Given::default() };
+    let found = turn.words(given, &[], |given, _| by.connection(given.table, given.index, given.parts));
+    let again = turn.words(given, &[], |given, _| by.connection(given.table, given.index, given.parts));
+    let [number, part] = found.answer;
+    let count = parts.len() / PART_WORDS;
+    let is_right = match number {
+        0 | 21 | 46 => part == 0,
+        43 => part as usize <= count,
+        22 | 23 | 24 | 25 | 31 | 33 | 34 | 35 | 36 | 47 | 48 => (1..=count).contains(&(part as usize)),
+        49 | 38 | 50 => (2..=count).contains(&(part as usize)),
+        _ => false,
+    };
+    turn.counts.count("of another index");
+    if !is_right || found != again || !found.is_kept {
+        let text = format!("a connection by another index: {:?}, then {:?}", found.answer, again.answer);
+        return Err(Difference::new(text, given));
+    }
+    Ok(())
+}
