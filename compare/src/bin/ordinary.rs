@@ -1,5 +1,5 @@
 //! Compares the ordinary loader (docs/ordinary-loader) with the independent reader on generated deliveries: answers and every
-//! word lent. It links no archive.
+//! word lent; and of accepted ones the ordinary program's questions. It links no archive.
 //!
 //!     ordinary SEED COUNT [FIRST]
 //!
@@ -9,6 +9,9 @@ use compare::boundary::Boundary;
 use compare::differ::{compare_load, Named, Program};
 use compare::reader::Combination;
 use ordinary_loader::{load, Files, Refusal};
+
+#[path = "../ordinary.rs"]
+mod ordinary;
 
 /// The ordinary loader; it is only asked for loads.
 struct Ordinary;
@@ -76,5 +79,8 @@ const ORDINARY: Program = Program { name: "ordinary", command: "tools/host.sh or
 
 fn main() {
     let boundaries: [Named; 1] = [("the ordinary loader", &Ordinary)];
-    ORDINARY.run(|seed, index, tally| compare_load(seed, index, &boundaries, tally));
+    ORDINARY.run(|seed, index, tally| {
+        ordinary::compare_questions(seed, index);
+        compare_load(seed, index, &boundaries, tally)
+    });
 }

@@ -159,8 +159,8 @@ fn next_part(rng: &mut Rng, courses: &Courses<'_>, before: Arrival, days: u32) -
 
 /// The first run that is late enough, looked for among some; else the run itself. Now and then the one before it.
 fn reached(rng: &mut Rng, courses: &Courses<'_>, service: usize, late: i64) -> u32 {
-    let runs = (0..2_000).take_while(|run| courses.late(service, *run).is_some());
-    let enough = runs.skip_while(|run| courses.late(service, *run).map_or(false, |own| i64::from(own) < late)).next();
+    let mut runs = (0..2_000).take_while(|run| courses.late(service, *run).is_some());
+    let enough = runs.find(|run| courses.late(service, *run).map_or(false, |own| i64::from(own) >= late));
     let run = enough.unwrap_or(0);
     if rng.once_in(5) {
         run.saturating_sub(1)

@@ -67,7 +67,7 @@ impl Bits {
         all
     }
 
-    fn has(&self, bit: u32) -> bool {
+    pub fn has(&self, bit: u32) -> bool {
         self.0[bit as usize / 32] & mask(bit) != 0
     }
 

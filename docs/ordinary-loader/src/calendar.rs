@@ -23,6 +23,11 @@ pub fn date_in(line: &Line<'_>) -> Result<Date, Broken> {
 }
 
 impl Date {
+    /// Day, month and year.
+    pub fn of([day, month, year]: [u32; 3]) -> Date {
+        Date { day, month, year }
+    }
+
     /// "Gregorian dates 01.01.1900 to 31.12.2199, day 0 being the first; any other is "no such date"."
     pub fn day_number(self) -> Option<u32> {
         let Date { day, month, year } = self;

@@ -1,12 +1,14 @@
 //! An ordinary loader of document 01's rules, with maps: each file is read once, line by line, numbers are looked up in a
 //! `HashMap`, and the table is built in a `Vec` and copied to the words lent. Document 02, No. 13 asks for it: the proved
-//! loader should take at most three times as long. It is lent no helper words: its maps are its own. It is written from the papers, with the open points read as
+//! loader should take at most three times as long. A `Timetable` made of the table answers the questions, beside which the proved ones are measured. It is lent no helper words: its maps are its own. It is written from the papers, with the open points read as
 //! docs/DECISIONS.md reads them, and shares no code with the proved loader or with the comparison's reader.
 
 #![warn(missing_docs)]
 
 mod bits;
+mod board;
 mod calendar;
+mod connection;
 mod fields;
 mod lines;
 mod names;
@@ -17,8 +19,13 @@ mod route;
 mod sections;
 mod service;
 mod table;
+mod timetable;
+mod writer;
 
+pub use board::Departure;
+pub use connection::{Bad, Part};
 pub use refusal::Refusal;
+pub use timetable::{Day, Number, Row, Timetable};
 
 use plan::Known;
 use refusal::{number, Offence};

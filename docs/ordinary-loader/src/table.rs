@@ -6,20 +6,20 @@ use crate::period::Period;
 use crate::route::Call;
 use crate::service::{Found, Ranges, Service};
 
-const HEADER_WORDS: usize = 9;
-const SERVICE_WORDS: usize = 12;
-const CALL_WORDS: usize = 7;
-const CATEGORY_WORDS: usize = 3;
-const DAYS_WORDS: usize = 3;
-const EXTRA_WORDS: usize = 4;
+pub const HEADER_WORDS: usize = 9;
+pub const SERVICE_WORDS: usize = 12;
+pub const CALL_WORDS: usize = 7;
+pub const CATEGORY_WORDS: usize = 3;
+pub const DAYS_WORDS: usize = 3;
+pub const EXTRA_WORDS: usize = 4;
 
 pub const KIND_Z: u32 = 0;
 pub const KIND_T: u32 = 1;
 
-const ARRIVAL: u32 = 1;
-const DEPARTURE: u32 = 2;
-const NO_ALIGHTING: u32 = 4;
-const NO_BOARDING: u32 = 8;
+pub const ARRIVAL: u32 = 1;
+pub const DEPARTURE: u32 = 2;
+pub const NO_ALIGHTING: u32 = 4;
+pub const NO_BOARDING: u32 = 8;
 
 /// A table as far as it is written: "Then per bit field 13, stop 3, interchange 3, then services, all in file order"; "a section of two words each (code,
 /// class) stands before the services" (document 02, No. 1).
