@@ -1,6 +1,8 @@
 //! `estelunya_index` and `estelunya_check_index` of the linked archive.
 
 use compare::functions::Indexes;
+// it has the archive
+use estelunya_planner as _;
 
 #[repr(C)]
 struct IndexResult {

@@ -1,6 +1,8 @@
 //! `estelunya_write` of the linked archive.
 
 use compare::functions::Writes;
+// it has the archive
+use estelunya_planner as _;
 
 #[repr(C)]
 struct WriteResult {
