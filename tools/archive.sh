@@ -1,4 +1,4 @@
-# Sourced by planner.sh, drift.sh, bench.sh, national.sh and walks.sh, from the repository's root: programs that link libestelunya.a.
+# Sourced by planner.sh, requests.sh, drift.sh, bench.sh, national.sh, walks.sh and questions.sh, from the repository's root: programs that link libestelunya.a.
 #
 #   ARCHIVE   the directory of a libestelunya.a to link; without it, the archive is proved and written first
 #   NATIVE    any non-empty value: that archive was compiled for the machine at hand, and so are the programs

@@ -1,11 +1,14 @@
 #!/bin/sh
 # planner.sh [SEED COUNT [FIRST]]: makes the planner's crate and the comparison with the archive, and runs them: the crate's tests and documentation, the data desk's program
-# and its tests, README's program, the program in C, the crate with cargo, the trial week, the standard's examples, the declarations (drift.sh), and COUNT generated cases of a SEED from case FIRST on.
+# and its tests, README's program, the program in C, the crate with cargo, the trial week, the standard's examples, 2,000 cases of each of the programs of requests.sh that are named below, the declarations (drift.sh), and COUNT generated cases of a SEED from case FIRST on.
 # Ends with 'planner.sh: ok'.
 set -eu
 cd "$(dirname "$0")/.."
 seed=${1:-1} count=${2:-20000} first=${3:-0}
 . tools/archive.sh
+
+# The programs of requests.sh whose functions the archive has; a further one is named here when its functions land.
+requests='isolation'
 
 # The crate as a user of cargo has it, where there is cargo: form, lints, documentation, tests.
 as_cargo_user() {
@@ -74,6 +77,11 @@ echo "  include/example.c: $(head -1 "$out/example.txt")"
 run "$out/readme"
 run "$out/trial_week"
 run "$out/standard"
+for name in $requests; do
+    linked "$name" "compare/src/bin/$name.rs"
+    run "$out/$name" 1 2000 >"$out/$name.txt" || { cat "$out/$name.txt"; die "$name differs"; }
+    tail -1 "$out/$name.txt"
+done
 tools/drift.sh
 trap - EXIT
 status=0

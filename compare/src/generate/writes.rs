@@ -289,14 +289,21 @@ fn unlisted(rng: &mut Rng, table: &mut RawTable) -> Option<()> {
     Some(())
 }
 
-/// A table with one cause of 44 or more, with something harmless, or with both.
-pub fn bent_for_writing(rng: &mut Rng, table: &RawTable) -> RawTable {
-    let mut raw = table.clone();
+/// A table with a cause of 44, with something harmless, or with both; and what they are called.
+pub fn bent_for_writing(rng: &mut Rng, table: &RawTable) -> (RawTable, Vec<&'static str>) {
+    let (mut raw, mut names) = (table.clone(), Vec::new());
+    let mut bend = |rng: &mut Rng, (name, bend): (&'static str, Bend)| {
+        if bend(rng, &mut raw).is_some() {
+            names.push(name);
+        }
+    };
     if rng.once_in(3) {
-        rng.pick(HARMLESS).1(rng, &mut raw);
+        let harmless = rng.pick(HARMLESS);
+        bend(rng, harmless);
     }
     if !rng.once_in(4) {
-        rng.pick(CAUSES).1(rng, &mut raw);
+        let cause = rng.pick(CAUSES);
+        bend(rng, cause);
     }
-    raw
+    (raw, names)
 }

@@ -7,7 +7,9 @@ use crate::boundary::Reader;
 use crate::edge::{Given, Left};
 use crate::functions::Boards;
 use crate::generate::boards::{board_question, board_room};
-use crate::reader::board::{departures, BOARD_ROW_WORDS};
+use crate::generate::raw_table::parts;
+use crate::layout::{KIND_AT, KIND_T, KIND_Z, STOP_NUMBER_AT, USED_AT};
+use crate::reader::board::{departures, Departure, BOARD_ROW_WORDS};
 use crate::reader::BoardQuestion;
 
 /// Whether a board looks at its index first.
@@ -22,7 +24,12 @@ pub enum By {
 pub const ANSWERS: &[&str] = &[
     "rows",
     "rows after midnight",
-    "rows of several runs",
+    "rows of *Z repeats",
+    "rows of *T runs",
+    "rows at the same time",
+    "rows of a number listed twice",
+    "a row at the first time",
+    "a row at the last time",
     "no rows",
     "first after last",
     "refused 21",
@@ -30,6 +37,7 @@ pub const ANSWERS: &[&str] = &[
     "refused 23",
     "refused 27",
     "refused 29",
+    "refused 29 by one word",
     "refused 43",
 ];
 
@@ -37,13 +45,19 @@ pub const ANSWERS: &[&str] = &[
 pub const QUICK_ANSWERS: &[&str] = &[
     "rows",
     "rows after midnight",
-    "rows of several runs",
+    "rows of *Z repeats",
+    "rows of *T runs",
+    "rows at the same time",
+    "rows of a number listed twice",
+    "a row at the first time",
+    "a row at the last time",
     "no rows",
     "first after last",
     "refused 22",
     "refused 23",
     "refused 27",
     "refused 29",
+    "refused 29 by one word",
     "of another index",
 ];
 
@@ -87,18 +101,35 @@ fn ask(
         [number, ..] => format!("refused {}", number),
     });
     if let ([0, ..], Ok(rows)) = (answer, &rows) {
-        if rows.iter().any(|row| row.time >= 1_440) {
-            turn.counts.count("rows after midnight");
-        }
-        if rows.iter().any(|row| row.repeat > 0) {
-            turn.counts.count("rows of several runs");
-        }
+        notable(turn, table, asked, rows);
+    }
+    if answer == [29, 0, room as u64 + 1] {
+        turn.counts.count("refused 29 by one word");
     }
     if found != expected {
         let text = format!("{:?} into {} words: {}", asked, room, told(&expected, &found));
         return Err(Difference::new(text, given));
     }
     Ok(())
+}
+
+/// What is notable about the rows of a board.
+fn notable(turn: &mut Turn<'_>, table: &[u32], asked: &BoardQuestion, rows: &[Departure]) {
+    let raw = parts(&table[..table[USED_AT] as usize]);
+    let kind = |row: &Departure| raw.services[row.service as usize].head[KIND_AT];
+    let listed = raw.stops.iter().filter(|stop| stop[STOP_NUMBER_AT] == asked.stop).count();
+    let is = |is: bool, what: &'static str| Some(what).filter(|_| is);
+    let any = |test: &dyn Fn(&Departure) -> bool, what| is(rows.iter().any(test), what);
+    let notable = [
+        any(&|row| row.time >= 1_440, "rows after midnight"),
+        any(&|row| row.repeat > 0 && kind(row) == KIND_Z, "rows of *Z repeats"),
+        any(&|row| row.repeat > 0 && kind(row) == KIND_T, "rows of *T runs"),
+        any(&|row| row.time == asked.first, "a row at the first time"),
+        any(&|row| row.time == asked.last, "a row at the last time"),
+        is(rows.windows(2).any(|pair| pair[0].time == pair[1].time), "rows at the same time"),
+        is(listed > 1 && !rows.is_empty(), "rows of a number listed twice"),
+    ];
+    notable.into_iter().flatten().for_each(|what| turn.counts.count(what));
 }
 
 /// A quick board by words that are not the table's index. It may be refused or list anything, but it answers the same each time, lists no more than its room holds, and leaves

@@ -7,6 +7,8 @@ use crate::boundary::Reader;
 use crate::edge::{Given, Left};
 use crate::functions::Connections;
 use crate::generate::connections::proposed;
+use crate::generate::raw_table::parts as parts_of;
+use crate::layout::{INTERCHANGE_FIRST_TIME_AT, USED_AT};
 use crate::reader::connection::PART_WORDS;
 
 /// Whether the question takes an index.
@@ -64,6 +66,15 @@ pub const ANSWERS: &[&str] = &[
     "refused 38, last",
     "refused 50, middle",
     "refused 50, last",
+    "a wait that is just enough",
+    "holds over dates",
+    "50 by an earlier date",
+    "50 by one minute",
+    "46 by 0 words",
+    "46 by 69 words",
+    "46 by 71 words",
+    "46 by 77 words",
+    "46 by 78 words",
 ];
 
 const CONNECTIONS: u32 = 12;
@@ -101,10 +112,34 @@ fn ask(
     let given = Given { table, index, parts, ..Given::default() };
     let found = turn.words(given, &[], |given, _| by.connection(given.table, given.index, given.parts));
     turn.counts.count(named(answer, parts.len() / PART_WORDS));
+    if turn.rng.once_in(4) {
+        notable(turn, table, parts, answer);
+    }
     if found != expected {
         return Err(Difference::new(format!("a connection: {}", told(&expected, &found)), given));
     }
     Ok(())
+}
+
+/// What is notable about the waits of a connection: equal to the time of a change, a minute short of it, and over dates.
+fn notable(turn: &mut Turn<'_>, table: &[u32], parts: &[u32], answer: [u32; 2]) {
+    let date = |part: &[u32]| [part[4], part[3], part[2]];
+    let dates: Vec<[u32; 3]> = parts.chunks_exact(PART_WORDS).map(date).collect();
+    let retimed = |by: i64| {
+        let mut raw = parts_of(&table[..table[USED_AT] as usize]);
+        let times = raw.records.iter_mut().flat_map(|record| record[INTERCHANGE_FIRST_TIME_AT..].iter_mut());
+        times.for_each(|time| *time = (i64::from(*time) + by).clamp(0, i64::from(u32::MAX)) as u32);
+        Reader.connection(&raw.words(), &[], parts)
+    };
+    let later = dates.windows(2).any(|pair| pair[0] < pair[1]);
+    match answer {
+        [0, _] if retimed(1)[0] == 50 => turn.counts.count("a wait that is just enough"),
+        [0, _] if later => turn.counts.count("holds over dates"),
+        [50, part] if dates[part as usize - 1] < dates[part as usize - 2] => turn.counts.count("50 by an earlier date"),
+        [50, _] if retimed(-1) != answer => turn.counts.count("50 by one minute"),
+        [46, _] => turn.counts.count(format!("46 by {} words", parts.len())),
+        _ => {}
+    }
 }
 
 fn named([number, part]: [u32; 2], parts: usize) -> String {

@@ -34,7 +34,11 @@ pub fn compare(turn: &mut Turn<'_>, by: &dyn Writes, load: &dyn Boundary) -> Res
             0 => turned(&mut turn.rng, &table, 0),
             1 => turned(&mut turn.rng, &table, 1),
             _ if turn.rng.once_in(50) => senseless(&mut turn.rng),
-            _ => bent_for_writing(&mut turn.rng, &parts(&table)).words(),
+            _ => {
+                let (bent, names) = bent_for_writing(&mut turn.rng, &parts(&table));
+                names.iter().for_each(|name| turn.counts.count(format!("bent: {}", name)));
+                bent.words()
+            }
         };
         ask(turn, &bent, by)?;
     }
