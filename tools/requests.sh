@@ -56,7 +56,7 @@ if [ $# -gt 0 ]; then
 else
     for name in indexes quick boards quick_boards connections quick_connections writes isolation; do
         absent=$(missing "$name")
-        if [ -z "$absent" ]; then compare_with "$name" 1 2000; else say "$name is left out: the archive has no" $absent; fi
+        if [ -z "$absent" ]; then compare_with "$name" 1 2000; else say "$name is left out: the archive has no $(echo "$absent" | tr "\n" " ")"; fi
     done
 fi
 echo "requests.sh: ok"

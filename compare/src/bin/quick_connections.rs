@@ -10,7 +10,7 @@ mod exported;
 use exported::Exported;
 
 fn main() {
-    run("quick_connections", connections::ANSWERS, |turn, _| {
+    run("quick_connections", &connections::quick_answers(), |turn, _| {
         connections::compare(turn, connections::By::Index, &Exported)
     });
 }

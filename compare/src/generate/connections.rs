@@ -137,7 +137,7 @@ fn next_part(rng: &mut Rng, courses: &Courses<'_>, before: Arrival, days: u32) -
             }
         }
     }
-    for _ in 0..4 {
+    for _ in 0..8 {
         if open.is_empty() {
             return None;
         }
@@ -148,10 +148,15 @@ fn next_part(rng: &mut Rng, courses: &Courses<'_>, before: Arrival, days: u32) -
         let wait = 1_440 * (i64::from(day) - i64::from(before.day)) + i64::from(row[ROW_DEPARTURE_AT])
             - i64::from(before.minutes);
         let run = reached(rng, courses, service, needed - wait);
+        let late = i64::from(courses.late(service, run).unwrap_or(0));
+        // mostly one that can be reached
+        if wait + late < needed && !rng.once_in(6) {
+            continue;
+        }
         let course = courses.course(service, run, day)?;
         let part = Part { service, run, day, boards: 0, alights: 0 };
         if let Some((part, arrival)) = ended(rng, &course.rows, course.first, boards, part) {
-            return Some((part, arrival, wait + i64::from(courses.late(service, run).unwrap_or(0))));
+            return Some((part, arrival, wait + late));
         }
     }
     None
@@ -258,7 +263,7 @@ fn spoil_part(rng: &mut Rng, words: &mut [u32], behind: u32) {
     let count = words.len() / PART_WORDS;
     let at = rng.pick(&[0, count / 2, count - 1]);
     let part = &mut words[PART_WORDS * at..PART_WORDS * (at + 1)];
-    match rng.below(10) {
+    match rng.below(12) {
         0 => part[2] = rng.pick(&[0, 32, u32::MAX]),
         1 => {
             let (d, m, y) = date_of(behind.min(LAST_DAY));
@@ -271,6 +276,8 @@ fn spoil_part(rng: &mut Rng, words: &mut [u32], behind: u32) {
         6 => part.swap(5, 6),
         7 => part[5] = part[6],
         8 => part[2] = part[2] % 28 + 1,
+        // at another stop, more often than not
+        9 | 10 => part[5] = rng.below(part[6].clamp(1, 200)),
         _ => part[rng.index(PART_WORDS)] = rng.draw() as u32,
     }
 }

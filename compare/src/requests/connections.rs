@@ -77,6 +77,12 @@ pub const ANSWERS: &[&str] = &[
     "46 by 78 words",
 ];
 
+/// The same by an index: words that are no table have none.
+pub fn quick_answers() -> Vec<&'static str> {
+    let plain = ANSWERS.iter().copied().filter(|answer| *answer != "refused 21");
+    plain.chain(["of another index"]).collect()
+}
+
 const CONNECTIONS: u32 = 12;
 
 pub fn compare(turn: &mut Turn<'_>, how: By, by: &dyn Connections) -> Result<(), Box<Difference>> {
