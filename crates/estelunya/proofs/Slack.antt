@@ -16,6 +16,14 @@ use Rattle.estelunya.proofs.estelunya_days_intersection.Reads.{Learnt a
 use Rattle.estelunya.proofs.estelunya_days_difference.Reads.{Learnt as difference-allows}
 use Rattle.estelunya.proofs.estelunya_days_complement.Reads.{Learnt as complement-allows}
 use Rattle.estelunya.proofs.estelunya_days_count.Reads.{Learnt as count-allows}
+use Rattle.estelunya.proofs.estelunya_index.Reads.{Learnt as index-allows}
+use Rattle.estelunya.proofs.estelunya_check_index.Reads.{Learnt as check-index-allows}
+use Rattle.estelunya.proofs.estelunya_quick_day.Reads.{Learnt as quick-day-allows}
+use Rattle.estelunya.proofs.estelunya_quick_interchange.Reads.{Learnt as quick-interchange-allows}
+use Rattle.estelunya.proofs.estelunya_quick_interchange_between.Reads.{Learnt as quick-between-allows}
+use Rattle.estelunya.proofs.estelunya_quick_stop_name.Reads.{Learnt as quick-name-allows}
+use Rattle.estelunya.proofs.estelunya_quick_walk.Reads.{Learnt as quick-walk-allows}
+use Rattle.estelunya.proofs.estelunya_write.Reads.{Learnt as write-allows}
 
 -- What a contract allows: of the lent arguments a, an answer, and what the arguments hold at exit (κ are their lifetimes). Two answers that it allows are one.
 abbrev pub OneAnswer : {K : Type 0} {A X S : K → Type 0} → ((κ : K) → A κ → X κ → S κ → Type 0) → Type 0
@@ -68,3 +76,27 @@ complement-no-slack κ a x y s t p q = (p .0 ∙ sym (q .0), p .1 ∙ sym (q .1)
 
 pub count-no-slack : OneAnswer count-allows
 count-no-slack κ a x y s t p q = p ∙ sym q
+
+pub index-no-slack : OneOutcome index-allows (λ κ s. s .1 .0 .now)
+index-no-slack κ a x y s t p q = (p .0 ∙ sym (q .0), p .1 ∙ sym (q .1))
+
+pub check-index-no-slack : OneAnswer check-index-allows
+check-index-no-slack κ a x y s t p q = p ∙ sym q
+
+pub quick-day-no-slack : OneAnswer quick-day-allows
+quick-day-no-slack κ a x y s t p q = p ∙ sym q
+
+pub quick-interchange-no-slack : OneAnswer quick-interchange-allows
+quick-interchange-no-slack κ a x y s t p q = p ∙ sym q
+
+pub quick-between-no-slack : OneAnswer quick-between-allows
+quick-between-no-slack κ a x y s t p q = p ∙ sym q
+
+pub quick-name-no-slack : OneAnswer quick-name-allows
+quick-name-no-slack κ a x y s t p q = p ∙ sym q
+
+pub quick-walk-no-slack : OneOutcome quick-walk-allows (λ κ s. s .1 .1 .1 .1 .1 .1 .1 .0 .now)
+quick-walk-no-slack κ a x y s t p q = (p .0 ∙ sym (q .0), p .1 ∙ sym (q .1))
+
+pub write-no-slack : OneOutcome write-allows (λ κ s. s .1 .0 .now)
+write-no-slack κ a x y s t p q = (p .0 ∙ sym (q .0), p .1 ∙ sym (q .1))

@@ -11,6 +11,14 @@ use Rattle.timetable.specs.declared.NameAnswer.{NameAnswer}
 use Rattle.timetable.specs.declared.NameAnswer.the-variants.{Part, Refused as NameRefused}
 use Rattle.timetable.specs.declared.Walked.{Walked}
 use Rattle.timetable.specs.declared.Walked.the-variants.{Listed, NotRunning, Refused as WalkRefused}
+use Rattle.whole_index.specs.declared.Made.{Made}
+use Rattle.whole_index.specs.declared.Made.the-variants.{Index, Refused as MadeRefused}
+use Rattle.index_check.specs.declared.IndexCheck.{IndexCheck}
+use Rattle.index_check.specs.declared.IndexCheck.the-variants.{Right, Refused as CheckRefused}
+use Rattle.plan_writing.specs.declared.WriteAnswer.{WriteAnswer}
+use Rattle.plan_writing.specs.declared.WriteAnswer.the-variants.{Bytes, Refused as WriteRefused}
+use Rattle.estelunya.specs.declared.IndexResult.{IndexResult}
+use Rattle.estelunya.specs.declared.WriteResult.{WriteResult}
 use Rattle.estelunya.specs.declared.LoadResult.{LoadResult}
 use Rattle.estelunya.specs.declared.DayResult.{DayResult}
 use Rattle.estelunya.specs.declared.InterchangeResult.{InterchangeResult}
@@ -44,7 +52,22 @@ walkResult (Listed rows) = record { number = 0; rows = rows; needed = 0 }
 walkResult NotRunning = record { number = 0; rows = 0; needed = 0 }
 walkResult (WalkRefused number needed) = record { number = number; rows = 0; needed = needed }
 
+-- making an index: the words made, or No. 9's "29 with the words needed"
+abbrev pub indexResult : Made → IndexResult
+indexResult (Index words) = record { number = 0; words = words }
+indexResult (MadeRefused number needed) = record { number = number; words = needed }
+
+-- 0 for a table's own index, 21, or No. 9's "43 words that are not this table's index"
+abbrev pub checkNumber : IndexCheck → ℕ
+checkNumber Right = 0
+checkNumber (CheckRefused number) = number
+
+-- No. 11: the bytes written, or "45 text buffer too short, with the bytes needed"
+abbrev pub writeResult : WriteAnswer → WriteResult
+writeResult (Bytes bytes) = record { number = 0; bytes = bytes }
+writeResult (WriteRefused number needed) = record { number = number; bytes = needed }
+
 -- ---- the version of the boundary, which crate and archive compare (docs/DECISIONS 109; 01 and 02 know none)
 
 abbrev pub version : ℕ
-version = 1
+version = 2

@@ -1,22 +1,29 @@
-// The C boundary: the version, words enough for a load, load, walk, day, interchange (between classes and between categories) and stop name, and the arithmetic on operating days, with numbers and slices. Nothing is asked of
+// The C boundary: the version, words enough for a load, load, walk, day, interchange (between classes and between categories) and stop name; an index and the same questions by it; FPLAN written back; and the arithmetic on operating days, with numbers and slices. Nothing is asked of
 // the caller: bad input gets its numbered refusal, and table, rows and result words then hold what they held (the helper words of a load: `helped`, timetable/specs/Load).
 use day_sets::CountAnswer;
 use day_sets::Operation;
 use day_sets::SetAnswer;
+use index_check::IndexCheck;
+use plan_writing::WriteAnswer;
 use timetable::DayAnswer;
 use timetable::InterchangeAnswer;
 use timetable::Loaded;
 use timetable::NameAnswer;
 use timetable::Walked;
+use whole_index::Made;
 ghost use mathlib.Core.Path.{_≡_};
 ghost use lib.ListN.{length};
 ghost use Rattle.timetable.specs.Delivery.{filesOf};
 ghost use Rattle.timetable.specs.Load.{loaded, written, helped};
-ghost use Rattle.timetable.specs.Questions.{dayAsked, interchangeAsked, betweenAsked, walked, walkRows};
+ghost use Rattle.timetable.specs.Questions.{dayAsked, interchangeAsked, betweenAsked, walkedBy, rowsBy, walked, walkRows};
 ghost use Rattle.timetable.specs.StopNames.{stopNameAsked};
 ghost use Rattle.day_sets.specs.declared.Operation.the-variants.{Union, Intersection, Difference};
 ghost use Rattle.day_sets.specs.DaySets.{combineAsked, combineWritten, complementAsked, complementWritten, countAsked};
-ghost use Rattle.estelunya.specs.Answers.{version, loadResult, dayResult, interchangeResult, nameResult, walkResult};
+ghost use Rattle.whole_index.specs.Whole.{madeOf, indexInto};
+ghost use Rattle.index_check.specs.Check.{checkedOf};
+ghost use Rattle.quick.specs.Quick.{dayQuick, interchangeQuick, betweenQuick, stopNameQuick, walkQuick};
+ghost use Rattle.plan_writing.specs.Writing.{planAnswer, planBytes};
+ghost use Rattle.estelunya.specs.Answers.{version, loadResult, dayResult, interchangeResult, nameResult, walkResult, indexResult, checkNumber, writeResult};
 ghost use Rattle.room.specs.Room.{roomFor, Enough};
 ghost use Rattle.estelunya.specs.DaySets.{daySetResult, dayCountResult};
 
@@ -61,6 +68,20 @@ pub struct WalkResult {
     pub needed: u32,
 }
 
+// number 0: so many words of index stand at the front; 29 with the words needed; another number is a refusal.
+#[repr(C)]
+pub struct IndexResult {
+    pub number: u32,
+    pub words: usize,
+}
+
+// number 0: so many bytes of FPLAN stand at the front; 45 with the bytes needed; another number is a refusal.
+#[repr(C)]
+pub struct WriteResult {
+    pub number: u32,
+    pub bytes: usize,
+}
+
 // number 0: the result holds the field; another number is a refusal.
 #[repr(C)]
 pub struct DaySetResult {
@@ -75,7 +96,7 @@ pub struct DayCountResult {
 }
 
 // The version of this boundary: it grows whenever a function here, or the table's words, changes. A caller compares it with the version that it was built for.
-pub const VERSION: u32 = 1;
+pub const VERSION: u32 = 2;
 
 #[no_mangle]
 pub extern "C" fn estelunya_version() -> u32
@@ -192,6 +213,106 @@ pub extern "C" fn estelunya_walk(
     ensures words { λ r. ⌜ now (rows .exit) ≡ walkRows (now (table .entry)) service repeat day month year (now (rows .entry)) ⌝ }
 {
     walk_result(walk::walk(table, service, repeat, day, month, year, rows))
+}
+
+// ---- the index, and the questions by it: what one costs does not grow with the table
+
+// Makes the index of a table in the words lent: 21, 29 too few.
+#[no_mangle]
+pub extern "C" fn estelunya_index(table: &[u32], index: &mut [u32]) -> IndexResult
+    ensures answer { λ r. ⌜ r ≡ indexResult (madeOf (now (table .entry)) (length (now (index .entry)))) ⌝ }
+    ensures words { λ r. ⌜ now (index .exit) ≡ indexInto (now (table .entry)) (now (index .entry)) ⌝ }
+{
+    index_result(whole_index::make_index(table, index))
+}
+
+// 0 where the words are exactly this table's index; else 21 or 43.
+#[no_mangle]
+pub extern "C" fn estelunya_check_index(table: &[u32], index: &[u32]) -> u32
+    ensures { λ r. ⌜ r ≡ checkNumber (checkedOf (now (table .entry)) (now (index .entry))) ⌝ }
+{
+    check_number(index_check::check_index(table, index))
+}
+
+#[no_mangle]
+pub extern "C" fn estelunya_quick_day(
+    table: &[u32],
+    index: &[u32],
+    day: u32,
+    month: u32,
+    year: u32,
+    field: u32,
+) -> DayResult
+    ensures { λ r. ⌜ r ≡ dayResult (dayQuick (now (table .entry)) (now (index .entry)) day month year field) ⌝ }
+{
+    day_result(quick::quick_day(table, index, day, month, year, field))
+}
+
+#[no_mangle]
+pub extern "C" fn estelunya_quick_interchange(
+    table: &[u32],
+    index: &[u32],
+    stop: u32,
+    arriving: u32,
+    departing: u32,
+) -> InterchangeResult
+    ensures { λ r. ⌜ r ≡ interchangeResult (interchangeQuick (now (table .entry)) (now (index .entry)) stop arriving departing) ⌝ }
+{
+    interchange_result(quick::quick_interchange(table, index, stop, arriving, departing))
+}
+
+#[no_mangle]
+pub extern "C" fn estelunya_quick_interchange_between(
+    table: &[u32],
+    index: &[u32],
+    stop: u32,
+    arriving: u32,
+    departing: u32,
+) -> InterchangeResult
+    ensures { λ r. ⌜ r ≡ interchangeResult (betweenQuick (now (table .entry)) (now (index .entry)) stop arriving departing) ⌝ }
+{
+    interchange_result(quick::quick_between(table, index, stop, arriving, departing))
+}
+
+#[no_mangle]
+pub extern "C" fn estelunya_quick_stop_name(
+    table: &[u32],
+    index: &[u32],
+    bahnhof: &[u8],
+    stop: u32,
+    language: u32,
+    kind: u32,
+) -> NameResult
+    ensures { λ r. ⌜ r ≡ nameResult (stopNameQuick (now (table .entry)) (now (index .entry)) (now (bahnhof .entry)) stop language kind) ⌝ }
+{
+    name_result(quick::quick_name(table, index, bahnhof, stop, language, kind))
+}
+
+#[no_mangle]
+pub extern "C" fn estelunya_quick_walk(
+    table: &[u32],
+    index: &[u32],
+    service: u32,
+    repeat: u32,
+    day: u32,
+    month: u32,
+    year: u32,
+    rows: &mut [u32],
+) -> WalkResult
+    ensures answer { λ r. ⌜ r ≡ walkResult (walkedBy (walkQuick (now (table .entry)) (now (index .entry)) service repeat day month year) (length (now (rows .entry)))) ⌝ }
+    ensures words { λ r. ⌜ now (rows .exit) ≡ rowsBy (walkQuick (now (table .entry)) (now (index .entry)) service repeat day month year) (now (rows .entry)) ⌝ }
+{
+    walk_result(quick::quick_walk(table, index, service, repeat, day, month, year, rows))
+}
+
+// ---- FPLAN written back (document 02, No. 11)
+
+#[no_mangle]
+pub extern "C" fn estelunya_write(table: &[u32], text: &mut [u8]) -> WriteResult
+    ensures answer { λ r. ⌜ r ≡ writeResult (planAnswer (now (table .entry)) (length (now (text .entry)))) ⌝ }
+    ensures bytes { λ r. ⌜ now (text .exit) ≡ planBytes (now (table .entry)) (now (text .entry)) ⌝ }
+{
+    write_result(plan_writing::write_plan(table, text))
 }
 
 #[no_mangle]
@@ -352,5 +473,38 @@ fn day_count_result(a: CountAnswer) -> DayCountResult
     match a {
         CountAnswer::Days(days) => DayCountResult { number: 0, days },
         CountAnswer::Refused(number) => DayCountResult { number, days: 0 },
+    }
+}
+
+fn index_result(a: Made) -> IndexResult
+    ensures { λ r. ⌜ r ≡ indexResult a ⌝ }
+{
+    match a {
+        Made::Index(words) => IndexResult { number: 0, words },
+        Made::Refused { number, needed } => IndexResult {
+            number,
+            words: needed,
+        },
+    }
+}
+
+fn check_number(a: IndexCheck) -> u32
+    ensures { λ r. ⌜ r ≡ checkNumber a ⌝ }
+{
+    match a {
+        IndexCheck::Right => 0,
+        IndexCheck::Refused(number) => number,
+    }
+}
+
+fn write_result(a: WriteAnswer) -> WriteResult
+    ensures { λ r. ⌜ r ≡ writeResult a ⌝ }
+{
+    match a {
+        WriteAnswer::Bytes(bytes) => WriteResult { number: 0, bytes },
+        WriteAnswer::Refused { number, needed } => WriteResult {
+            number,
+            bytes: needed,
+        },
     }
 }
