@@ -7,14 +7,11 @@ use native.Mathlib.Omega.{arith}
 use lib.ListN.{length, take, drop}
 use borrow.Author.Tests.{not-true, not-false}
 use Rattle.base.proofs.Laws.{tests}
-use Rattle.table.specs.JustTable.{JustTable}
-use Rattle.table.proofs.JustTable.{just-header}
 use Rattle.chains.specs.Chains.{chainWords}
 use Rattle.chain_check.specs.Tally.{same}
 use Rattle.index.specs.Index.{indexSize, fieldSection, stopSection, interchangeSection, classSection, chainsOf, Fits}
 use Rattle.index.specs.declared.Section.{Section}
 use Rattle.index.proofs.Places.{end-scaled, end-fits, records-fit}
-use Rattle.indexing.proofs.Chains.{just-fields, just-stops, just-interchanges, just-classes}
 use Rattle.index_check.specs.Parts.{chainsRight}
 
 -- ---- one section
@@ -43,11 +40,11 @@ module _ (w x : List ℕ) (l : length x ≡ indexSize w) (s : Section) where
   pub room-classes : s ≡ classSection w → s .from + 2 * s .n ≤ length x
   room-classes q = rw q (omega arith)
 
-module _ (w x : List ℕ) (a b s : Section) (t : Bool) (q : s ≡ a) (e : t ≡ chainsRight w x s) where
-  pub first-wrong : not t ≡ true → false ≡ (chainsRight w x a && chainsRight w x b)
-  first-wrong n = sym (rw (sym (rw q at e) ∙ not-true t n))
+module _ (w x : List ℕ) (s r : Section) (t : Bool) (e : t ≡ chainsRight w x s) where
+  pub first-wrong : not t ≡ true → false ≡ (chainsRight w x s && chainsRight w x r)
+  first-wrong n = sym (rw (sym e ∙ not-true t n))
 
-  pub then-second : not t ≡ false → (r : Section) → r ≡ b → (u : Bool) → u ≡ chainsRight w x r → u ≡ (chainsRight w x a && chainsRight w x b)
-  then-second n r p u f = (rw p at f) ∙ sym (rw (sym (rw q at e) ∙ not-false t n))
+  pub then-second : not t ≡ false → (u : Bool) → u ≡ chainsRight w x r → u ≡ (chainsRight w x s && chainsRight w x r)
+  then-second n u f = f ∙ sym (rw (sym e ∙ not-false t n))
 
-pub ruleset pairs = (tests, just-header, just-fields, just-stops, just-interchanges, just-classes, room-fields, room-stops, room-interchanges, room-classes, first-wrong, then-second)
+pub ruleset pairs = (tests, first-wrong, then-second)

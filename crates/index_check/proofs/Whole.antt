@@ -11,19 +11,22 @@ use lib.Dec.{eqb}
 use borrow.Author.Tests.{not-true, not-false}
 use Rattle.base.proofs.Laws.{tests}
 use Rattle.timetable.specs.Table.{bitFields#, stops#, interchanges#, services#, classes#, used, isTable}
-use Rattle.table.specs.JustTable.{JustTable}
-use Rattle.table.proofs.JustTable.{used-just, just-header}
+use Rattle.table.proofs.JustTable.{just-header}
 use Rattle.chain_check.specs.Tally.{same}
 use Rattle.chain_check.proofs.Needs.{differs}
 use Rattle.index.specs.Index.{stopsFrom, interchangesFrom, classesFrom, servicesFrom, indexSize, fieldSection, stopSection, interchangeSection, classSection, placesOf, chainsOf, indexOf}
+use Rattle.index.specs.declared.Section.{Section}
 use Rattle.index.proofs.Agrees.{length-of}
+use Rattle.indexing.proofs.Chains.{just-fields, just-stops, just-interchanges, just-classes}
 use Rattle.calls.specs.Calls.{callIndexOf}
 use Rattle.whole_index.specs.Whole.{wholeIndexOf}
 use Rattle.whole_index.proofs.Whole.{lookups-long, whole-long}
+use Rattle.whole_index.proofs.Answers.{is-table, is-just}
 use Rattle.index_check.specs.Check.{checkedOf}
 use Rattle.index_check.specs.Parts.{chainsRight}
 use Rattle.index_check.specs.declared.IndexCheck.{IndexCheck}
 use Rattle.index_check.specs.declared.IndexCheck.the-variants.{Right, Refused}
+use Rattle.index_check.proofs.Sections.{room-fields, room-stops, room-interchanges, room-classes}
 
 -- ---- words put together: the front is the same, and so is the rest
 
@@ -59,21 +62,28 @@ module _ (w x : List ℕ) where
       ∙ and-assoc (chainsRight w x (interchangeSection w)) (chainsRight w x (classSection w)) (same (drop (servicesFrom w) x) (placesOf w))
       )
 
-  module _ (a : Bool) (e : a ≡ (chainsRight w x (fieldSection w) && chainsRight w x (stopSection w))) where
+  -- a says whether the first two sections are right, b whether the other two are
+  module _ (r s : Section) (p : r ≡ fieldSection w) (q : s ≡ stopSection w) (a : Bool) (e : a ≡ (chainsRight w x r && chainsRight w x s)) where
+    early : a ≡ (chainsRight w x (fieldSection w) && chainsRight w x (stopSection w))
+    early = e ∙ rw (p, q)
+
     pub early-wrong : not a ≡ true → false ≡ same x (indexOf w)
-    early-wrong n = sym (lookups-are ∙ rw (sym e ∙ not-true a n))
+    early-wrong n = sym (lookups-are ∙ rw (sym early ∙ not-true a n))
 
-    module _ (n : not a ≡ false) (b : Bool) (f : b ≡ (chainsRight w x (interchangeSection w) && chainsRight w x (classSection w))) where
+    module _ (n : not a ≡ false) (u v : Section) (i : u ≡ interchangeSection w) (j : v ≡ classSection w) (b : Bool) (f : b ≡ (chainsRight w x u && chainsRight w x v)) where
+      late : b ≡ (chainsRight w x (interchangeSection w) && chainsRight w x (classSection w))
+      late = f ∙ rw (i, j)
+
       pub late-wrong : not b ≡ true → false ≡ same x (indexOf w)
-      late-wrong m = sym (lookups-are ∙ rw (sym e ∙ not-false a n, sym f ∙ not-true b m))
+      late-wrong m = sym (lookups-are ∙ rw (sym early ∙ not-false a n, sym late ∙ not-true b m))
 
-      pub places-tell : not b ≡ false → (p : ℕ) → p ≡ servicesFrom w → (c : Bool) → c ≡ same (drop p x) (placesOf w) → c ≡ same x (indexOf w)
-      places-tell m p q c g = g ∙ sym (lookups-are ∙ rw (sym e ∙ not-false a n, sym f ∙ not-false b m, q))
+      pub places-tell : not b ≡ false → (o : ℕ) → o ≡ servicesFrom w → (c : Bool) → c ≡ same (drop o x) (placesOf w) → c ≡ same x (indexOf w)
+      places-tell m o y c g = g ∙ sym (lookups-are ∙ rw (sym early ∙ not-false a n, sym late ∙ not-false b m, y))
 
 pub places-long : (w x : List ℕ) (p : ℕ) → length x ≡ indexSize w → p ≡ servicesFrom w → p + services# w ≡ length x
 places-long w x p l q = rw (q, l)
 
-pub ruleset lookups = (tests, just-header, early-wrong, late-wrong, places-long, places-tell)
+pub ruleset lookups = (tests, just-header, just-fields, just-stops, just-interchanges, just-classes, room-fields, room-stops, room-interchanges, room-classes, early-wrong, late-wrong, places-long, places-tell)
 
 -- ---- the index; n is how many words the look-ups have
 
@@ -98,28 +108,20 @@ module _ (w x : List ℕ) (n : ℕ) (q : n ≡ indexSize w) where
 
 pub ruleset wholes = (tests, just-header, whole-short, front-long, front-wrong, rest-tells)
 
--- ---- any words; a says whether they are a table, b whether x is the index of the words u that they use
+-- ---- any words; a says whether they are a table, b whether x is the index of the words u that it uses
 
 module _ (w x : List ℕ) (a : Bool) (e : a ≡ isTable w) where
   pub no-table : not a ≡ true → Refused 21 ≡ checkedOf w x
   unfolding checkedOf
   no-table n = sym (rw (sym e ∙ not-true a n))
 
-  module _ (n : not a ≡ false) where
-    pub is-table : isTable w ≡ true
-    is-table = sym e ∙ not-false a n
+  module _ (n : not a ≡ false) (u : List ℕ) (p : u ≡ used w) (b : Bool) (f : b ≡ same x (wholeIndexOf u)) where
+    pub no-index : not b ≡ true → Refused 43 ≡ checkedOf w x
+    unfolding checkedOf
+    no-index m = sym (rw (is-table w a e n, sym p, sym f ∙ not-true b m))
 
-    module _ (u : List ℕ) (p : u ≡ used w) where
-      pub is-just : JustTable u
-      is-just = rw p (used-just w is-table)
-
-      module _ (b : Bool) (f : b ≡ same x (wholeIndexOf u)) where
-        pub no-index : not b ≡ true → Refused 43 ≡ checkedOf w x
-        unfolding checkedOf
-        no-index m = sym (rw (is-table, sym p, sym f ∙ not-true b m))
-
-        pub its-index : not b ≡ false → Right ≡ checkedOf w x
-        unfolding checkedOf
-        its-index m = sym (rw (is-table, sym p, sym f ∙ not-false b m))
+    pub its-index : not b ≡ false → Right ≡ checkedOf w x
+    unfolding checkedOf
+    its-index m = sym (rw (is-table w a e n, sym p, sym f ∙ not-false b m))
 
 pub ruleset any = (tests, no-table, is-table, is-just, no-index, its-index)

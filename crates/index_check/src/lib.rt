@@ -10,7 +10,7 @@ ghost use lib.ListN.{length, drop};
 ghost use Rattle.timetable.specs.Table.{services#};
 ghost use Rattle.table.specs.JustTable.{JustTable};
 ghost use Rattle.chain_check.specs.Tally.{same};
-ghost use Rattle.index.specs.Index.{indexSize, fieldSection, stopSection, interchangeSection, classSection, placesOf, indexOf, Fits};
+ghost use Rattle.index.specs.Index.{indexSize, placesOf, indexOf, Fits};
 ghost use Rattle.whole_index.specs.Whole.{wholeIndexOf};
 ghost use Rattle.index_check.specs.Check.{checkedOf};
 ghost use Rattle.index_check.specs.Parts.{chainsRight};
@@ -57,37 +57,25 @@ fn are_lookups(w: &[u32], x: &[u32]) -> bool
     requires { ⌜ length (now x) ≡ indexSize (now w) ⌝ }
     ensures { λ r. ⌜ r ≡ same (now (x .entry)) (indexOf (now (w .entry))) ⌝ }
 {
-    if !early_right(w, x) {
+    if !both_right(w, x, index::field_section(w), index::stop_section(w)) {
         return false;
     }
-    if !late_right(w, x) {
+    if !both_right(w, x, index::interchange_section(w), index::class_section(w)) {
         return false;
     }
     places_right(w, x, index::services_from(w))
 }
 
-// Whether the chains of the bit fields and of the stops are right.
-fn early_right(w: &[u32], x: &[u32]) -> bool
-    requires { ⌜ JustTable (now w) ⌝ }
-    requires { ⌜ length (now x) ≡ indexSize (now w) ⌝ }
-    ensures { λ r. ⌜ r ≡ (chainsRight (now (w .entry)) (now (x .entry)) (fieldSection (now (w .entry))) && chainsRight (now (w .entry)) (now (x .entry)) (stopSection (now (w .entry)))) ⌝ }
+// Whether the chains of two sections are right.
+fn both_right(w: &[u32], x: &[u32], s: Section, r: Section) -> bool
+    requires { ⌜ Fits (now w) s × Fits (now w) r ⌝ }
+    requires { ⌜ (s .from + 2 * s .n ≤ length (now x)) × (r .from + 2 * r .n ≤ length (now x)) ⌝ }
+    ensures { λ o. ⌜ o ≡ (chainsRight (now (w .entry)) (now (x .entry)) s && chainsRight (now (w .entry)) (now (x .entry)) r) ⌝ }
 {
-    if !section_right(w, x, index::field_section(w)) {
+    if !section_right(w, x, s) {
         return false;
     }
-    section_right(w, x, index::stop_section(w))
-}
-
-// Whether those of the interchange records and of the categories are.
-fn late_right(w: &[u32], x: &[u32]) -> bool
-    requires { ⌜ JustTable (now w) ⌝ }
-    requires { ⌜ length (now x) ≡ indexSize (now w) ⌝ }
-    ensures { λ r. ⌜ r ≡ (chainsRight (now (w .entry)) (now (x .entry)) (interchangeSection (now (w .entry))) && chainsRight (now (w .entry)) (now (x .entry)) (classSection (now (w .entry)))) ⌝ }
-{
-    if !section_right(w, x, index::interchange_section(w)) {
-        return false;
-    }
-    section_right(w, x, index::class_section(w))
+    section_right(w, x, r)
 }
 
 // Whether the chains of a section are right.

@@ -89,7 +89,14 @@ module _ (w : List ℕ) (h : JustTable w) (a b : ℕ) (p : a ≡ indexSize w) (q
 
 pub ruleset makes = (tests, just-header, whole-fits, whole-is, short-answer, short-kept, made-answer, made-words)
 
--- ---- any words; x says whether they are a table
+-- ---- any words; x says whether they are a table, and u are those that it uses
+
+module _ (w : List ℕ) (x : Bool) (e : x ≡ isTable w) (n : not x ≡ false) where
+  pub is-table : isTable w ≡ true
+  is-table = sym e ∙ not-false x n
+
+  pub is-just : (u : List ℕ) → u ≡ used w → JustTable u
+  is-just u p = rw p (used-just w is-table)
 
 module _ (w t : List ℕ) (x : Bool) (e : x ≡ isTable w) where
   pub barred-answer : not x ≡ true → Refused 21 0 ≡ madeOf w (length t)
@@ -100,23 +107,22 @@ module _ (w t : List ℕ) (x : Bool) (e : x ≡ isTable w) where
   unfolding indexInto
   barred-kept n = sym (rw (sym e ∙ not-true x n))
 
-  module _ (n : not x ≡ false) where
-    pub is-table : isTable w ≡ true
-    is-table = sym e ∙ not-false x n
+  module _ (n : not x ≡ false) (u : List ℕ) (p : u ≡ used w) where
+    table-is : isTable w ≡ true
+    table-is = is-table w x e n
 
-    module _ (u : List ℕ) (p : u ≡ used w) where
-      pub is-just : JustTable u
-      is-just = rw p (used-just w is-table)
+    just-is : JustTable u
+    just-is = is-just w x e n u p
 
-      used-twice : used u ≡ used w
-      used-twice = just-used u is-just ∙ p
+    used-twice : used u ≡ used w
+    used-twice = just-used u just-is ∙ p
 
-      pub same-answer : (r : Made) → r ≡ madeOf u (length t) → r ≡ madeOf w (length t)
-      unfolding madeOf
-      same-answer r f = f ∙ rw (is-just .table, is-table, used-twice)
+    pub same-answer : (r : Made) → r ≡ madeOf u (length t) → r ≡ madeOf w (length t)
+    unfolding madeOf
+    same-answer r f = f ∙ rw (just-is .table, table-is, used-twice)
 
-      pub same-words : (y : List ℕ) → y ≡ indexInto u t → y ≡ indexInto w t
-      unfolding indexInto
-      same-words y f = f ∙ rw (is-just .table, is-table, used-twice)
+    pub same-words : (y : List ℕ) → y ≡ indexInto u t → y ≡ indexInto w t
+    unfolding indexInto
+    same-words y f = f ∙ rw (just-is .table, table-is, used-twice)
 
 pub ruleset any = (tests, barred-answer, barred-kept, is-table, is-just, same-answer, same-words)

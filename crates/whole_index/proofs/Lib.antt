@@ -1,3 +1,4 @@
 pub mod Whole
 pub mod Answers
 pub mod Stale
+pub mod Examples

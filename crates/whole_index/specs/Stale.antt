@@ -12,6 +12,6 @@ pub record Numbered (w : List ℕ) (s : Section) (number p : ℕ) : Type 0 where
   pub at : p ≡ s .at + s .size * place
   pub says : word w p ≡ number
 
--- the section lists no number twice, as that of an accepted delivery
+-- the section lists no number twice (6 refuses a file that does)
 pub record Once (w : List ℕ) (s : Section) : Type 0 where
   pub once : (i j : ℕ) → i < s .n → j < s .n → word w (s .at + s .size * i) ≡ word w (s .at + s .size * j) → i ≡ j
