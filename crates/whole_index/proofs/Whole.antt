@@ -1,9 +1,10 @@
 -- The index as a whole: its length, that it is not longer than its table, and its two parts. Assumes nothing.
-use mathlib.Core.Path.{_≡_, refl, ap}
+use mathlib.Core.Path.{_≡_, refl, ap, _∙_}
 use mathlib.Core.List.{List, _++_}
 use Prim.Native.Nat.{ℕ, zero, suc, _+_, _≤_}
 use native.Mathlib.Omega.{arith}
-use lib.ListN.{length, length-append}
+use lib.ListN.{length, take, drop, length-append}
+use lib.Seq.{take-at, drop-at}
 use Rattle.timetable.specs.Table.{word, services#, servicesPlace}
 use Rattle.table.specs.JustTable.{JustTable}
 use Rattle.table.proofs.JustTable.{just-says}
@@ -48,3 +49,14 @@ whole-long w = omega (arith, length-append (indexOf w) (callIndexOf w), lookups-
 -- the index is never longer than the table: a bit field has 13 words there and 2 here, a stop 3 and 3, an interchange record 3 and 2, a category 2 and 2, a service 12 at least and 1, a call 7 and 4
 pub whole-within : (w : List ℕ) → JustTable w → wholeIndexSize w ≤ length w
 whole-within w h = omega (arith, just-says w h .place, all-few w h)
+
+-- ---- the two parts of an index: the first `indexSize` words are asked by look-ups, the rest by boards
+
+module _ (w x : List ℕ) (q : x ≡ wholeIndexOf w) where
+  pub lookups-part : take (indexSize w) x ≡ indexOf w
+  unfolding wholeIndexOf
+  lookups-part = ap (take (indexSize w)) q ∙ take-at (indexOf w) (callIndexOf w) (indexSize w) (lookups-long w)
+
+  pub calls-part : drop (indexSize w) x ≡ callIndexOf w
+  unfolding wholeIndexOf
+  calls-part = ap (drop (indexSize w)) q ∙ drop-at (indexOf w) (callIndexOf w) (indexSize w) (lookups-long w)
