@@ -339,7 +339,7 @@ record-is-sound n u e =
     let r = and-true (sizesSound u) _ e in
     record { sound = r .1; few = omega (arith, length-rows callAt callSize (calls# u) (drop serviceHead u), sizes-say u (r .0) .calls-high) }
 
-records-are-sound : (n v : ℕ) (u : List ℕ) → recordsSound n v u ≡ true → All (Sound n) (servicesIn v u)
+pub records-are-sound : (n v : ℕ) (u : List ℕ) → recordsSound n v u ≡ true → All (Sound n) (servicesIn v u)
 unfolding recordsSound servicesIn
 records-are-sound n zero u e = nil
 records-are-sound n (suc v) u e =

@@ -1,3 +1,5 @@
 pub mod Held
 pub mod Words
 pub mod Round
+pub mod Bytes
+pub mod Back

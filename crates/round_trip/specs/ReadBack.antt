@@ -1,0 +1,21 @@
+-- What 44 keeps out: a text that would answer 4 when read, or would not be read back as it is (document 02, No. 11). Assumes nothing.
+use Prim.Native.Nat.{ℕ}
+use mathlib.Core.Path.{_≡_}
+use mathlib.Core.List.{List, map}
+use Rattle.base.specs.Lists.{All}
+use Rattle.lines.specs.Lines.{linesOf}
+use Rattle.timetable.specs.Delivery.{Service}
+use Rattle.timetable.specs.Plan.{tolds}
+use Rattle.timetable.specs.Service.{blocks, serviceOf}
+use Rattle.timetable.specs.declared.Told.{Told}
+use Rattle.timetable.specs.declared.Told.the-variants.{Other, Broken}
+use Rattle.plan_services.specs.Services.{planText, renumbered}
+
+-- neither of another kind (11) nor broken (4)
+abbrev pub Formed : Told → Type 0
+Formed t = (t ≡ Other → ⊥) × ((c : ℕ) → t ≡ Broken c → ⊥)
+
+-- services whose text is read back as they are, but for their opening lines' numbers
+pub record ReadBack (ss : List Service) : Type 0 where
+  pub formed : All Formed (tolds (linesOf (planText ss)))
+  pub services : map serviceOf (blocks (linesOf (planText ss))) ≡ renumbered 1 ss
