@@ -1,3 +1,4 @@
 pub mod Lines
 pub mod Services
 pub mod Answers
+pub mod Examples
