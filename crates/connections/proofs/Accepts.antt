@@ -140,7 +140,7 @@ module _ (v : View) (s t : Stage) where
 
 module _ (v : View) where
   -- a stage after a stage
-  changed-is : (s t : Stage) (p : Part) → changedTo v s (stageOf v p) ≡ Is t → IsStage v p t × IsChange v s t
+  pub changed-is : (s t : Stage) (p : Part) → changedTo v s (stageOf v p) ≡ Is t → IsStage v p t × IsChange v s t
   changed-is s t p = go (stageOf v p) refl
     where
       go : (x : Staged) → stageOf v p ≡ x → changedTo v s x ≡ Is t → IsStage v p t × IsChange v s t
