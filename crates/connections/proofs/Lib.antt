@@ -1,3 +1,4 @@
 pub mod Words
 pub mod Accepts
+pub mod Walks
 pub mod Examples

@@ -1,8 +1,11 @@
 // Whether a proposed connection holds (document 02, No. 12): of its parts, one after another, the stage along the day's run, and the change from the stage before.
 ghost use mathlib.Core.Path.{_≡_};
-ghost use Prim.Native.Nat.{_+_, _≤_};
+ghost use mathlib.Core.Bool.{_&&_};
+ghost use Prim.Native.Nat.{_+_, _/_, _%_, _^_, _≤_, _<_};
 ghost use lib.ListN.{length, drop};
-ghost use Rattle.connections.specs.Connection.{partSize, partAt, wholeParts};
+ghost use lib.Dec.{ltb, leb, eqb};
+ghost use Rattle.timetable.specs.Layout.{mostPeriodDays, latestTime, mostDelay};
+ghost use Rattle.connections.specs.Connection.{partSize, partAt, wholeParts, moment};
 
 // A part: a run by its service, its repeat and its date, and the calls where it is boarded and left, counted from 0 along the route.
 pub struct Part {
@@ -73,4 +76,45 @@ fn part_at(parts: &[u32], at: usize) -> Part
         board: parts[at + 5],
         alight: parts[at + 6],
     }
+}
+
+// ---- numbers
+
+// Whether a call, by its place in the route, is among the rows of a stretch from call `start` on with so many legs.
+fn in_rows(start: u32, legs: u32, call: u32) -> bool
+    requires { ⌜ start + legs < 2 ^ 32 ⌝ }
+    ensures { λ r. ⌜ r ≡ (leb start call && leb call (start + legs)) ⌝ }
+{
+    if call < start {
+        return false;
+    }
+    call <= start + legs
+}
+
+// Whether boarding comes before alighting and both are allowed, by the flags of the two calls.
+fn may_ride(board: u32, alight: u32, boarding: u32, alighting: u32) -> bool
+    ensures { λ r. ⌜ r ≡ (ltb board alight && (eqb (boarding / 8 % 2) 0 && eqb (alighting / 4 % 2) 0)) ⌝ }
+{
+    if alight <= board {
+        return false;
+    }
+    if boarding / 8 % 2 != 0 {
+        return false;
+    }
+    alighting / 4 % 2 == 0
+}
+
+// A minute of a run that starts on day k of the period and is late, counted from the period's first day on.
+fn moment_of(k: u32, minute: u32, late: u32) -> u32
+    requires { ⌜ (k < mostPeriodDays) × (minute ≤ latestTime) × (late ≤ mostDelay) ⌝ }
+    ensures { λ r. ⌜ r ≡ moment k (minute + late) ⌝ }
+{
+    1440 * k + (minute + late)
+}
+
+// Whether so many minutes pass from one moment to another: no word is so large that the sum wraps.
+fn waits(arrives: u32, minutes: u32, departs: u32) -> bool
+    ensures { λ r. ⌜ r ≡ leb (arrives + minutes) departs ⌝ }
+{
+    arrives as u64 + minutes as u64 <= departs as u64
 }
