@@ -113,7 +113,8 @@ pub fn between_by(w: &[u32], x: &[u32], stop: u32, a: u32, b: u32) -> Interchang
     InterchangeAnswer::Refused(27)
 }
 
-fn both_listed(w: &[u32], x: &[u32], a: u32, b: u32) -> bool
+// Whether two categories are listed.
+pub fn both_listed(w: &[u32], x: &[u32], a: u32, b: u32) -> bool
     requires { ⌜ Ready (now w) (now x) ⌝ }
     ensures { λ r. ⌜ r ≡ (viewIn (now (w .entry)) (now (x .entry)) .listed a && viewIn (now (w .entry)) (now (x .entry)) .listed b) ⌝ }
 {
@@ -124,7 +125,7 @@ fn both_listed(w: &[u32], x: &[u32], a: u32, b: u32) -> bool
 }
 
 // The time at a stop for the classes of two categories.
-fn minutes_between(w: &[u32], x: &[u32], stop: u32, a: u32, b: u32) -> u32
+pub fn minutes_between(w: &[u32], x: &[u32], stop: u32, a: u32, b: u32) -> u32
     requires { ⌜ Ready (now w) (now x) ⌝ }
     ensures { λ r. ⌜ r ≡ minutesFor (viewIn (now (w .entry)) (now (x .entry)) .times stop) (viewIn (now (w .entry)) (now (x .entry)) .class a) (viewIn (now (w .entry)) (now (x .entry)) .class b) ⌝ }
 {
