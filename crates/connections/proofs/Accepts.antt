@@ -42,17 +42,17 @@ call-row x k c a b e = rw (le-leb (x .start) k a, le-leb k (x .start + x .legs) 
 
 module _ (v : View) (p : Part) (s : Stage) where
   module _ (k : ℕ) (x : Run) (d : dateOf v (p .day) (p .month) (p .year) ≡ dated k) (g : runOf v (p .service) (p .repeat) k ≡ aRun x) where
-    between-is : (b a : Option Call) → rowCall x (p .board) ≡ b → rowCall x (p .alight) ≡ a → stageBetween x k p b a ≡ Is s → IsStage v p s
+    between-is : (b a : Option Call) → rowCall x (p .board) ≡ b → rowCall x (p .alight) ≡ a → stageBetween (x .service) (x .late) k p b a ≡ Is s → IsStage v p s
     between-is none a e f h = apart (cc)
     between-is (some b) none e f h = apart (cc)
     between-is (some b) (some a) e f h = go (ltb (p .board) (p .alight) && (boardingAllowed b && alightingAllowed a)) refl h
       where
-        go : (t : Bool) → (ltb (p .board) (p .alight) && (boardingAllowed b && alightingAllowed a)) ≡ t → cond t (Is (stageAlong x k p b a)) (Refused 48) ≡ Is s → IsStage v p s
+        go : (t : Bool) → (ltb (p .board) (p .alight) && (boardingAllowed b && alightingAllowed a)) ≡ t → cond t (Is (stageAlong (x .service) (x .late) k p b a)) (Refused 48) ≡ Is s → IsStage v p s
         go false q h = apart (cc)
         go true q h =
             let (o, r) = and-true (ltb (p .board) (p .alight)) (boardingAllowed b && alightingAllowed a) q in
             let (m, n) = and-true (boardingAllowed b) (alightingAllowed a) r in
-            let z : stageAlong x k p b a ≡ s = cc in
+            let z : stageAlong (x .service) (x .late) k p b a ≡ s = cc in
             record {
               k = k;
               run = x;
@@ -101,7 +101,7 @@ module _ (v : View) (p : Part) (s : Stage) where
         i .may-alight,
       ) (ap Is same)
     where
-      same : stageAlong (i .run) (i .k) p (i .boarding) (i .alighting) ≡ s
+      same : stageAlong (i .run .service) (i .run .late) (i .k) p (i .boarding) (i .alighting) ≡ s
       same = λ j. record {
         from = sym (i .from) j;
         departs = sym (i .departs) j;

@@ -9,7 +9,8 @@ use Prim.Native.Nat.{ℕ}
 use lib.Dec.{ltb}
 use Rattle.base.proofs.Laws.{apart}
 use Rattle.timetable.specs.View.{View}
-use Rattle.timetable.specs.Run.{Run, RunFound, barred, atRest, aRun, runOf}
+use Rattle.timetable.specs.Delivery.{Service}
+use Rattle.timetable.specs.Run.{RunFound, barred, atRest, aRun, runOf}
 use Rattle.timetable.specs.Questions.{Dated, undated, dated, dateOf, Journey, refused, idle, rows, rowsAlong, datedRun, journey}
 use Rattle.timetable.specs.declared.Call.{Call}
 use Rattle.connections.specs.declared.Part.{Part}
@@ -23,12 +24,12 @@ ByWalk (refused number) x = x ≡ Refused number
 ByWalk idle x = x ≡ Refused 47
 ByWalk (rows ws) x = (number : ℕ) → x ≡ Refused number → (number ≡ 47) ⊎ (number ≡ 48)
 
-between-by : (x : Run) (k : ℕ) (p : Part) (b a : Option Call) (number : ℕ) → stageBetween x k p b a ≡ Refused number → (number ≡ 47) ⊎ (number ≡ 48)
-between-by x k p none a number e = inl (cc)
-between-by x k p (some b) none number e = inl (cc)
-between-by x k p (some b) (some a) number e = go (ltb (p .board) (p .alight) && (boardingAllowed b && alightingAllowed a)) e
+between-by : (s : Service) (late k : ℕ) (p : Part) (b a : Option Call) (number : ℕ) → stageBetween s late k p b a ≡ Refused number → (number ≡ 47) ⊎ (number ≡ 48)
+between-by s late k p none a number e = inl (cc)
+between-by s late k p (some b) none number e = inl (cc)
+between-by s late k p (some b) (some a) number e = go (ltb (p .board) (p .alight) && (boardingAllowed b && alightingAllowed a)) e
   where
-    go : (t : Bool) → cond t (Is (stageAlong x k p b a)) (Refused 48) ≡ Refused number → (number ≡ 47) ⊎ (number ≡ 48)
+    go : (t : Bool) → cond t (Is (stageAlong s late k p b a)) (Refused 48) ≡ Refused number → (number ≡ 47) ⊎ (number ≡ 48)
     go true e = apart (cc)
     go false e = inr (cc)
 
@@ -36,7 +37,7 @@ module _ (v : View) (p : Part) where
   by-run : (k : ℕ) (x : RunFound) → ByWalk (rowsAlong v x) (stageBy k p x)
   by-run k (barred number) = refl
   by-run k atRest = refl
-  by-run k (aRun x) = λ number e. between-by x k p (rowCall x (p .board)) (rowCall x (p .alight)) number e
+  by-run k (aRun x) = λ number e. between-by (x .service) (x .late) k p (rowCall x (p .board)) (rowCall x (p .alight)) number e
 
   by-date : (t : Dated) → ByWalk (rowsAlong v (datedRun v (p .service) (p .repeat) t)) (stageDated v p t)
   by-date (undated number) = refl

@@ -6,6 +6,7 @@ use mathlib.Core.Bool.{Bool, cond, _&&_}
 use mathlib.Core.Option.{Option, none, some}
 use lib.ListN.{length, getElem?}
 use lib.Dec.{ltb, leb, eqb}
+use Rattle.timetable.specs.Delivery.{Service}
 use Rattle.timetable.specs.Table.{word, rowsIn}
 use Rattle.timetable.specs.View.{View}
 use Rattle.timetable.specs.Run.{categoryOn, Run, RunFound, barred, atRest, aRun, runOf}
@@ -62,30 +63,30 @@ alightingAllowed c = eqb (c .flags / 4 % 2) 0
 abbrev pub moment : ℕ → ℕ → ℕ
 moment k minutes = 1440 * k + minutes
 
--- where and when it boards at b and alights at a, with "the categories of the leg arriving and the leg departing": of the leg into the call where it alights, and
+-- where and when a run of service s, so late, boards at b and alights at a, with "the categories of the leg arriving and the leg departing": of the leg into the call where it alights, and
 -- of the leg out of the call where it boards
-abbrev pub stageAlong : Run → ℕ → Part → Call → Call → Stage
-stageAlong x k p b a = record {
+abbrev pub stageAlong : Service → ℕ → ℕ → Part → Call → Call → Stage
+stageAlong s late k p b a = record {
   from = b .stop;
-  departs = moment k (b .departure + x .late);
-  departing = categoryOn (x .service) (p .board);
+  departs = moment k (b .departure + late);
+  departing = categoryOn s (p .board);
   to = a .stop;
-  arrives = moment k (a .arrival + x .late);
-  arriving = categoryOn (x .service) (p .alight - 1);
+  arrives = moment k (a .arrival + late);
+  arriving = categoryOn s (p .alight - 1);
 }
 
 -- "47 not among the rows, 48 order or permission"
-abbrev pub stageBetween : Run → ℕ → Part → Option Call → Option Call → Staged
-stageBetween x k p none a = Refused 47
-stageBetween x k p (some b) none = Refused 47
-stageBetween x k p (some b) (some a) =
-    cond (ltb (p .board) (p .alight) && (boardingAllowed b && alightingAllowed a)) (Is (stageAlong x k p b a)) (Refused 48)
+abbrev pub stageBetween : Service → ℕ → ℕ → Part → Option Call → Option Call → Staged
+stageBetween s late k p none a = Refused 47
+stageBetween s late k p (some b) none = Refused 47
+stageBetween s late k p (some b) (some a) =
+    cond (ltb (p .board) (p .alight) && (boardingAllowed b && alightingAllowed a)) (Is (stageAlong s late k p b a)) (Refused 48)
 
 -- "per part the walk's own refusals except 29" (which is of room); on a day without a run there are no rows
 abbrev pub stageBy : ℕ → Part → RunFound → Staged
 stageBy k p (barred number) = Refused number
 stageBy k p atRest = Refused 47
-stageBy k p (aRun x) = stageBetween x k p (rowCall x (p .board)) (rowCall x (p .alight))
+stageBy k p (aRun x) = stageBetween (x .service) (x .late) k p (rowCall x (p .board)) (rowCall x (p .alight))
 
 abbrev pub stageDated : View → Part → Dated → Staged
 stageDated v p (undated number) = Refused number

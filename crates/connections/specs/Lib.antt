@@ -1,2 +1,4 @@
 pub mod Connection
+pub mod Quick
 pub mod Promise
+pub mod Inner

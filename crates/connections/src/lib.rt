@@ -1,11 +1,25 @@
 // Whether a proposed connection holds (document 02, No. 12): of its parts, one after another, the stage along the day's run, and the change from the stage before.
+// `w` are words with a sound header, `x` their index or none (crate index).
+use index::ServiceRecord;
+use lookups::PeriodDay;
+use timetable::Call;
+use timetable::Course;
 ghost use mathlib.Core.Path.{_≡_};
-ghost use mathlib.Core.Bool.{_&&_};
-ghost use Prim.Native.Nat.{_+_, _/_, _%_, _^_, _≤_, _<_};
+ghost use mathlib.Core.Bool.{true, _&&_};
+ghost use mathlib.Core.Option.{some};
+ghost use Prim.Native.Nat.{_+_, _-_, _*_, _/_, _%_, _^_, _≤_, _<_};
 ghost use lib.ListN.{length, drop};
 ghost use lib.Dec.{ltb, leb, eqb};
-ghost use Rattle.timetable.specs.Layout.{mostPeriodDays, latestTime, mostDelay};
-ghost use Rattle.connections.specs.Connection.{partSize, partAt, wholeParts, moment};
+ghost use Rattle.timetable.specs.Layout.{serviceHead, callSize, mostPeriodDays, latestTime, mostDelay};
+ghost use Rattle.timetable.specs.Table.{stops#, calls#, callAt, openingAt, serviceAt, sizesSound, recordSound};
+ghost use Rattle.timetable.specs.View.{aService};
+ghost use Rattle.timetable.specs.Run.{categoryOn, aRun, runBy, runOf};
+ghost use Rattle.timetable.specs.Runs.{hasRun, lateness};
+ghost use Rattle.index.specs.Index.{Ready, viewIn};
+ghost use Rattle.rows.specs.Rows.{callShown, serviceShown};
+ghost use Rattle.connections.specs.Inner.{runIn};
+ghost use Rattle.connections.specs.Connection.{partSize, partAt, partsOf, wholeParts, moment, stageAlong, stageBetween, stageBy, stageOf, changeTo, changedTo, partsAfter, partsHold, connectionIn, connectionAsked};
+ghost use Rattle.connections.specs.Quick.{connectionQuick};
 
 // A part: a run by its service, its repeat and its date, and the calls where it is boarded and left, counted from 0 along the route.
 pub struct Part {
@@ -46,6 +60,222 @@ pub const PART_WORDS: usize = 7;
 
 // "1 to 10 parts"
 pub const MOST_PARTS: usize = 10;
+
+// ---- the connection
+
+// Whether a proposed connection holds, on any words: 21, 46, then part by part.
+pub fn connection(w: &[u32], parts: &[u32]) -> ConnectionAnswer
+    ensures { λ r. ⌜ r ≡ connectionAsked (now (w .entry)) (now (parts .entry)) ⌝ }
+{
+    if !table::is_table(w) {
+        return ConnectionAnswer::Refused {
+            number: 21,
+            part: 0,
+        };
+    }
+    connection_by(table::used_words(w), &w[0..0], parts)
+}
+
+// The same on any words with any words lent as their index: 21, 43 (which names 0), 46, then part by part.
+pub fn quick_connection(w: &[u32], x: &[u32], parts: &[u32]) -> ConnectionAnswer
+    ensures { λ r. ⌜ r ≡ connectionQuick (now (w .entry)) (now (x .entry)) (now (parts .entry)) ⌝ }
+{
+    let number = index::quick_refusal(w, x.len());
+    if number != 0 {
+        return ConnectionAnswer::Refused { number, part: 0 };
+    }
+    let u = index::headed_words(w);
+    connection_by(u, index::lookup_words(u, x), parts)
+}
+
+// Whether the parts proposed hold: 46 not 1 to 10 whole parts, then part by part.
+pub fn connection_by(w: &[u32], x: &[u32], parts: &[u32]) -> ConnectionAnswer
+    requires { ⌜ Ready (now w) (now x) ⌝ }
+    ensures { λ r. ⌜ r ≡ connectionIn (viewIn (now (w .entry)) (now (x .entry))) (now (parts .entry)) ⌝ }
+{
+    if !whole_parts(parts.len()) {
+        return ConnectionAnswer::Refused {
+            number: 46,
+            part: 0,
+        };
+    }
+    parts_hold(w, x, parts)
+}
+
+// The first part, then the others.
+fn parts_hold(w: &[u32], x: &[u32], parts: &[u32]) -> ConnectionAnswer
+    requires { ⌜ Ready (now w) (now x) ⌝ }
+    requires { ⌜ wholeParts (length (now parts)) ≡ true ⌝ }
+    ensures { λ r. ⌜ r ≡ partsHold (viewIn (now (w .entry)) (now (x .entry))) (partsOf (now (parts .entry))) ⌝ }
+{
+    let first = stage_of(w, x, part_at(parts, 0));
+    match first {
+        Staged::Refused(number) => ConnectionAnswer::Refused { number, part: 1 },
+        Staged::Is(stage) => parts_after(w, x, parts, stage),
+    }
+}
+
+// The parts from the second on, after the stage of the first.
+fn parts_after(w: &[u32], x: &[u32], parts: &[u32], first: Stage) -> ConnectionAnswer
+    requires { ⌜ Ready (now w) (now x) ⌝ }
+    requires { ⌜ wholeParts (length (now parts)) ≡ true ⌝ }
+    ensures { λ r. ⌜ r ≡ partsAfter (viewIn (now (w .entry)) (now (x .entry))) first 2 (partsOf (drop partSize (now (parts .entry)))) ⌝ }
+{
+    let mut before = first;
+    let mut n: u32 = 2;
+    let mut at = PART_WORDS;
+    while at < parts.len() {
+        let next = next_stage(w, x, before, part_at(parts, at));
+        match next {
+            Staged::Refused(number) => {
+                return ConnectionAnswer::Refused { number, part: n };
+            }
+            Staged::Is(stage) => {
+                before = stage;
+                n += 1;
+                at += PART_WORDS;
+            }
+        }
+    }
+    ConnectionAnswer::Holds
+}
+
+// The stage of the next part, after a change.
+fn next_stage(w: &[u32], x: &[u32], before: Stage, part: Part) -> Staged
+    requires { ⌜ Ready (now w) (now x) ⌝ }
+    ensures { λ r. ⌜ r ≡ changedTo (viewIn (now (w .entry)) (now (x .entry))) before (stageOf (viewIn (now (w .entry)) (now (x .entry))) part) ⌝ }
+{
+    let next = stage_of(w, x, part);
+    match next {
+        Staged::Refused(number) => Staged::Refused(number),
+        Staged::Is(stage) => change_to(w, x, before, stage),
+    }
+}
+
+// ---- a change
+
+// The next stage, where a change to it is right: 49 other stop, 38 a category not listed, 50 wait too short.
+fn change_to(w: &[u32], x: &[u32], before: Stage, next: Stage) -> Staged
+    requires { ⌜ Ready (now w) (now x) ⌝ }
+    ensures { λ r. ⌜ r ≡ changeTo (viewIn (now (w .entry)) (now (x .entry))) before next ⌝ }
+{
+    if before.to != next.from {
+        return Staged::Refused(49);
+    }
+    if !questions::both_listed(w, x, before.arriving, next.departing) {
+        return Staged::Refused(38);
+    }
+    let minutes = questions::minutes_between(w, x, next.from, before.arriving, next.departing);
+    if !waits(before.arrives, minutes, next.departs) {
+        return Staged::Refused(50);
+    }
+    Staged::Is(next)
+}
+
+// ---- a stage
+
+// The stage of a part: the walk's own refusals but 29, 47 not among the rows, 48 order or permission.
+fn stage_of(w: &[u32], x: &[u32], part: Part) -> Staged
+    requires { ⌜ Ready (now w) (now x) ⌝ }
+    ensures { λ r. ⌜ r ≡ stageOf (viewIn (now (w .entry)) (now (x .entry))) part ⌝ }
+{
+    let on = index::dated(w, x, part.day, part.month, part.year);
+    match on {
+        PeriodDay::Refused(number) => Staged::Refused(number),
+        PeriodDay::On(k) => stage_on(w, x, part, k),
+    }
+}
+
+// On day k of the period: 24 service index not below V.
+fn stage_on(w: &[u32], x: &[u32], part: Part, k: u32) -> Staged
+    requires { ⌜ Ready (now w) (now x) × (k < mostPeriodDays) ⌝ }
+    ensures { λ r. ⌜ r ≡ stageBy k part (runOf (viewIn (now (w .entry)) (now (x .entry))) (part .service) (part .repeat) k) ⌝ }
+{
+    let record = index::service_record(w, x, part.service);
+    match record {
+        ServiceRecord::Refused(number) => Staged::Refused(number),
+        ServiceRecord::From(p) => stage_in(w, x, index::words_from(w, p), part, k),
+    }
+}
+
+// Of the service at the front of `s`: what its course is refused for, and 47 on a day without a run.
+fn stage_in(w: &[u32], x: &[u32], s: &[u32], part: Part, k: u32) -> Staged
+    requires { ⌜ Ready (now w) (now x) × (k < mostPeriodDays) ⌝ }
+    requires { ⌜ recordSound (stops# (now w)) (now s) ≡ true ⌝ }
+    ensures { λ r. ⌜ r ≡ stageBy k part (runBy (viewIn (now (w .entry)) (now (x .entry))) (aService (serviceShown (viewIn (now (w .entry)) (now (x .entry))) (now (s .entry)))) (part .repeat) k) ⌝ }
+{
+    let course = course::service_course(w, x, s, part.repeat, k);
+    match course {
+        Course::Refused(number) => Staged::Refused(number),
+        Course::NotRunning => Staged::Refused(47),
+        Course::Along { start, legs } => stage_along(w, x, s, part, k, start, legs),
+    }
+}
+
+// Along the stretch from call `start` on with so many legs: 47 not among the rows, 48 order or permission.
+fn stage_along(w: &[u32], x: &[u32], s: &[u32], part: Part, k: u32, start: u32, legs: u32) -> Staged
+    requires { ⌜ Ready (now w) (now x) × (k < mostPeriodDays) ⌝ }
+    requires { ⌜ recordSound (stops# (now w)) (now s) ≡ true ⌝ }
+    requires { ⌜ (start + legs < calls# (now s)) × (hasRun (openingAt (now s)) (part .repeat) ≡ true) ⌝ }
+    ensures { λ r. ⌜ r ≡ stageBy k part (aRun (runIn (viewIn (now (w .entry)) (now (x .entry))) (now (s .entry)) (part .repeat) start legs)) ⌝ }
+{
+    if !both_in_rows(start, legs, part.board, part.alight) {
+        return Staged::Refused(47);
+    }
+    stage_ridden(w, x, s, part, k)
+}
+
+// Of two calls that are among the rows.
+fn stage_ridden(w: &[u32], x: &[u32], s: &[u32], part: Part, k: u32) -> Staged
+    requires { ⌜ Ready (now w) (now x) × (k < mostPeriodDays) ⌝ }
+    requires { ⌜ recordSound (stops# (now w)) (now s) ≡ true ⌝ }
+    requires { ⌜ (part .board < calls# (now s)) × (part .alight < calls# (now s)) × (hasRun (openingAt (now s)) (part .repeat) ≡ true) ⌝ }
+    ensures { λ r. ⌜ r ≡ stageBetween (serviceShown (viewIn (now (w .entry)) (now (x .entry))) (now (s .entry))) (lateness (openingAt (now (s .entry))) (part .repeat)) k part (some (callShown (viewIn (now (w .entry)) (now (x .entry))) (callAt (drop (serviceHead + callSize * (part .board)) (now (s .entry)))))) (some (callShown (viewIn (now (w .entry)) (now (x .entry))) (callAt (drop (serviceHead + callSize * (part .alight)) (now (s .entry)))))) ⌝ }
+{
+    let boarding = rows::call_of(s, part.board);
+    let alighting = rows::call_of(s, part.alight);
+    if !may_ride(part.board, part.alight, boarding.flags, alighting.flags) {
+        return Staged::Refused(48);
+    }
+    Staged::Is(stage_between(w, x, s, part, k, boarding, alighting))
+}
+
+// From the call where it boards to the call where it alights.
+fn stage_between(
+    w: &[u32],
+    x: &[u32],
+    s: &[u32],
+    part: Part,
+    k: u32,
+    boarding: Call,
+    alighting: Call,
+) -> Stage
+    requires { ⌜ Ready (now w) (now x) × (k < mostPeriodDays) ⌝ }
+    requires { ⌜ recordSound (stops# (now w)) (now s) ≡ true ⌝ }
+    requires { ⌜ (part .board < calls# (now s)) × (boarding ≡ callAt (drop (serviceHead + callSize * (part .board)) (now s))) ⌝ }
+    requires { ⌜ (part .alight < calls# (now s)) × (alighting ≡ callAt (drop (serviceHead + callSize * (part .alight)) (now s))) ⌝ }
+    requires { ⌜ (1 ≤ part .alight) × (hasRun (openingAt (now s)) (part .repeat) ≡ true) ⌝ }
+    ensures { λ r. ⌜ r ≡ stageAlong (serviceShown (viewIn (now (w .entry)) (now (x .entry))) (now (s .entry))) (lateness (openingAt (now (s .entry))) (part .repeat)) k part (callShown (viewIn (now (w .entry)) (now (x .entry))) boarding) (callShown (viewIn (now (w .entry)) (now (x .entry))) alighting) ⌝ }
+{
+    let late = runs::lateness(table::opening_at(s), part.repeat);
+    Stage {
+        from: index::stop_number(w, x, boarding.stop),
+        departs: moment_of(k, boarding.departure, late),
+        departing: rows::category_on(s, part.board),
+        to: index::stop_number(w, x, alighting.stop),
+        arrives: moment_of(k, alighting.arrival, late),
+        arriving: arriving_at(s, part.alight),
+    }
+}
+
+// The category of the leg into a call.
+fn arriving_at(s: &[u32], call: u32) -> u32
+    requires { ⌜ sizesSound (now s) ≡ true ⌝ }
+    requires { ⌜ 1 ≤ call ⌝ }
+    ensures { λ r. ⌜ r ≡ categoryOn (serviceAt (now (s .entry))) (call - 1) ⌝ }
+{
+    rows::category_on(s, call - 1)
+}
 
 // ---- the words of the parts
 
@@ -89,6 +319,16 @@ fn in_rows(start: u32, legs: u32, call: u32) -> bool
         return false;
     }
     call <= start + legs
+}
+
+fn both_in_rows(start: u32, legs: u32, board: u32, alight: u32) -> bool
+    requires { ⌜ start + legs < 2 ^ 32 ⌝ }
+    ensures { λ r. ⌜ r ≡ ((leb start board && leb board (start + legs)) && (leb start alight && leb alight (start + legs))) ⌝ }
+{
+    if !in_rows(start, legs, board) {
+        return false;
+    }
+    in_rows(start, legs, alight)
 }
 
 // Whether boarding comes before alighting and both are allowed, by the flags of the two calls.

@@ -18,7 +18,7 @@ use Rattle.timetable.specs.Legs.{legCount}
 use Rattle.timetable.specs.Load.{delivered, loaded, written}
 use Rattle.timetable.specs.Runs.{hasRun, lateness}
 use Rattle.timetable.specs.View.{View, viewOf, serviceBy}
-use Rattle.timetable.specs.Run.{Run, RunFound, barred, atRest, aRun, runAlong, runBy, runOf, courseOn, serviceCourse}
+use Rattle.timetable.specs.Run.{RunFound, barred, atRest, aRun, runAlong, runBy, runOf, courseOn, serviceCourse}
 use Rattle.timetable.specs.Questions.{Dated, undated, dated, datedBy, dateOf}
 use Rattle.timetable.specs.declared.Call.{Call}
 use Rattle.timetable.specs.declared.Course.{Course}
@@ -55,13 +55,13 @@ date-left p (Day k) n e = go (leb (p .start) k && ltb k (p .start + p .n)) e
     go true e = apart (cc)
     go false e = is-left 23 n refl (cc)
 
-between-left : (x : Run) (k : ℕ) (p : Part) (b a : Option Call) (n : ℕ) → stageBetween x k p b a ≡ Refused n → Left n
+between-left : (s : Service) (late k : ℕ) (p : Part) (b a : Option Call) (n : ℕ) → stageBetween s late k p b a ≡ Refused n → Left n
 unfolding isLeft some-of
-between-left x k p none a n e = is-left 47 n refl (cc)
-between-left x k p (some b) none n e = is-left 47 n refl (cc)
-between-left x k p (some b) (some a) n e = go (ltb (p .board) (p .alight) && (boardingAllowed b && alightingAllowed a)) e
+between-left s late k p none a n e = is-left 47 n refl (cc)
+between-left s late k p (some b) none n e = is-left 47 n refl (cc)
+between-left s late k p (some b) (some a) n e = go (ltb (p .board) (p .alight) && (boardingAllowed b && alightingAllowed a)) e
   where
-    go : (t : Bool) → cond t (Is (stageAlong x k p b a)) (Refused 48) ≡ Refused n → Left n
+    go : (t : Bool) → cond t (Is (stageAlong s late k p b a)) (Refused 48) ≡ Refused n → Left n
     go true e = apart (cc)
     go false e = is-left 48 n refl (cc)
 
@@ -106,7 +106,7 @@ module _ (f : Files) (t : List ℕ) (helper u : ℕ) (e : loaded f (length t) he
     unfolding isLeft some-of
     by-run k (barred number) on is h = let z : number ≡ n = cc in run-left k on (is ∙ rw z refl)
     by-run k atRest on is h = is-left 47 n refl (cc)
-    by-run k (aRun x) on is h = between-left x k p (rowCall x (p .board)) (rowCall x (p .alight)) n h
+    by-run k (aRun x) on is h = between-left (x .service) (x .late) k p (rowCall x (p .board)) (rowCall x (p .alight)) n h
 
     by-date : (x : Dated) → dateOf v (p .day) (p .month) (p .year) ≡ x → stageDated v p x ≡ Refused n → Left n
     by-date (undated number) on h = let z : number ≡ n = cc in date-left (d .period) (dayOf (p .day) (p .month) (p .year)) n (on ∙ rw z refl)
