@@ -31,7 +31,7 @@ use Rattle.connections.specs.declared.Stage.{Stage}
 use Rattle.connections.specs.declared.Staged.{Staged}
 use Rattle.connections.specs.declared.Staged.the-variants.{Is, Refused}
 use Rattle.connections.specs.Connection.{moment, rowCall, stageAlong, stageBetween, stageBy}
-use Rattle.connections.specs.Inner.{runIn}
+use Rattle.connections.specs.Inner.{runIn, callIn, stageIn, stageRidden, stageCalls}
 
 -- ---- the course c of the service at the front of s, for a part p on day k
 
@@ -43,14 +43,14 @@ module _ (v : View) (s : List ℕ) (p : Part) (k : ℕ) (c : Course) (e : c ≡ 
   course-is : runBy v (aService (serviceShown v s)) (p .repeat) k ≡ runAlong (serviceShown v s) (lateness (openingAt s) (p .repeat)) c
   course-is = rw (course-shown v (serviceAt s) (p .repeat) k, opening-is, sym e)
 
-  pub course-refused : (number : ℕ) → c ≡ Barred number → Refused number ≡ stageBy k p (runBy v (aService (serviceShown v s)) (p .repeat) k)
+  pub course-refused : (number : ℕ) → c ≡ Barred number → Refused number ≡ stageIn v s p k
   course-refused number g = rw (course-is, g)
 
-  pub course-idle : c ≡ NotRunning → Refused 47 ≡ stageBy k p (runBy v (aService (serviceShown v s)) (p .repeat) k)
+  pub course-idle : c ≡ NotRunning → Refused 47 ≡ stageIn v s p k
   course-idle g = rw (course-is, g)
 
   module _ (a n : ℕ) (g : c ≡ Along a n) where
-    pub course-along : (y : Staged) → y ≡ stageBy k p (aRun (runIn v s (p .repeat) a n)) → y ≡ stageBy k p (runBy v (aService (serviceShown v s)) (p .repeat) k)
+    pub course-along : (y : Staged) → y ≡ stageBy k p (aRun (runIn v s (p .repeat) a n)) → y ≡ stageIn v s p k
     course-along y f = rw (course-is, g) f
 
     shown-along : serviceCourse v (serviceShown v s) (p .repeat) k ≡ Along a n
@@ -79,7 +79,7 @@ map-there f [] i x e = apart (cc)
 map-there f (y ∷ l) zero x e = let z : y ≡ x = cc in rw z
 map-there f (y ∷ l) (suc i) x e = map-there f l i x e
 
-call-there : (v : View) (s : List ℕ) (i : ℕ) (c : Call) → i < calls# s → c ≡ callAt (drop (serviceHead + callSize * i) s) → getElem? (serviceShown v s .calls) i ≡ some (callShown v c)
+call-there : (v : View) (s : List ℕ) (i : ℕ) (c : Call) → i < calls# s → c ≡ callIn s i → getElem? (serviceShown v s .calls) i ≡ some (callShown v c)
 unfolding shownBy serviceAt
 call-there v s i c h e =
     map-there (callShown v) (rowsIn callAt callSize (calls# s) (drop serviceHead s)) i c
@@ -93,9 +93,6 @@ none-47 s late k p (some b) = refl
 
 abbrev among : ℕ → ℕ → ℕ → Bool
 among a n i = leb a i && leb i (a + n)
-
-abbrev pub callIn : List ℕ → ℕ → Call
-callIn s i = callAt (drop (serviceHead + callSize * i) s)
 
 module _ (p : Part) (a n : ℕ) (t : Bool) (e : t ≡ (among a n (p .board) && among a n (p .alight))) where
   pub along-47 : (v : View) (s : List ℕ) (k : ℕ) → not t ≡ true → Refused 47 ≡ stageBy k p (aRun (runIn v s (p .repeat) a n))
@@ -122,14 +119,14 @@ module _ (p : Part) (a n : ℕ) (t : Bool) (e : t ≡ (among a n (p .board) && a
     pub along-alight : p .alight < calls# s
     along-alight = omega (arith, leb-true (p .alight) (a + n) (and-true (leb a (p .alight)) (leb (p .alight) (a + n)) (both .1) .1))
 
-    pub along-calls : (v : View) (k : ℕ) (y : Staged) → y ≡ stageBetween (serviceShown v s) (lateness (openingAt s) (p .repeat)) k p (some (callShown v (callIn s (p .board)))) (some (callShown v (callIn s (p .alight)))) → y ≡ stageBy k p (aRun (runIn v s (p .repeat) a n))
+    pub along-calls : (v : View) (k : ℕ) (y : Staged) → y ≡ stageRidden v s p k → y ≡ stageBy k p (aRun (runIn v s (p .repeat) a n))
     along-calls v k y g = rw (both .0, both .1, call-there v s (p .board) (callIn s (p .board)) along-board refl, call-there v s (p .alight) (callIn s (p .alight)) along-alight refl) g
 
 pub along-fits : (stops : ℕ) (s : List ℕ) → recordSound stops s ≡ true → (a n : ℕ) → a + n < calls# s → a + n < 2 ^ 32
 along-fits stops s e a n h = omega (arith, record-says stops s e .0 .calls-high)
 
 -- what a call of a sound record keeps
-module _ (stops : ℕ) (s : List ℕ) (e : recordSound stops s ≡ true) (i : ℕ) (h : i < calls# s) (c : Call) (q : c ≡ callAt (drop (serviceHead + callSize * i) s)) where
+module _ (stops : ℕ) (s : List ℕ) (e : recordSound stops s ≡ true) (i : ℕ) (h : i < calls# s) (c : Call) (q : c ≡ callIn s i) where
   keeps : (c .stop < stops) × (c .arrival ≤ latestTime) × (c .departure ≤ latestTime) × (c .flags ≤ 15)
   keeps = call-says stops c (rw q (call-sound stops s e i h))
 
@@ -157,10 +154,10 @@ module _ (p : Part) (b c : Call) (z : Bool) (g : z ≡ (ltb (p .board) (p .aligh
     as-read : ridden b c ≡ ridden (callIn s (p .board)) (callIn s (p .alight))
     as-read = ap (λ (x : Call). ridden x c) q ∙ ap (ridden (callIn s (p .board))) r
 
-    pub ride-48 : not z ≡ true → Refused 48 ≡ stageBetween (serviceShown v s) (lateness (openingAt s) (p .repeat)) k p (some (callShown v (callIn s (p .board)))) (some (callShown v (callIn s (p .alight))))
+    pub ride-48 : not z ≡ true → Refused 48 ≡ stageRidden v s p k
     ride-48 o = rw (sym g ∙ not-true z o) at as-read
 
-    pub ride-is : not z ≡ false → (y : Stage) → y ≡ stageAlong (serviceShown v s) (lateness (openingAt s) (p .repeat)) k p (callShown v b) (callShown v c) → Is y ≡ stageBetween (serviceShown v s) (lateness (openingAt s) (p .repeat)) k p (some (callShown v (callIn s (p .board)))) (some (callShown v (callIn s (p .alight))))
+    pub ride-is : not z ≡ false → (y : Stage) → y ≡ stageCalls v s p k b c → Is y ≡ stageRidden v s p k
     ride-is o y i = ap Is i ∙ (rw (sym g ∙ not-false z o) at as-read)
 
 pub ruleset rides = (tests, record-sized, ride-order, ride-48, ride-is)
@@ -185,7 +182,7 @@ pub between-is : (v : View) (s : List ℕ) (p : Part) (k : ℕ) (b c : Call) (o 
     → (from to departs arrives departing arriving : ℕ) → from ≡ v .shown (b .stop) → departs ≡ moment k (b .departure + late) → departing ≡ categoryOn (serviceAt s) (p .board)
     → to ≡ v .shown (c .stop) → arrives ≡ moment k (c .arrival + late) → arriving ≡ categoryOn (serviceAt s) (p .alight - 1)
     → record { from = from; departs = departs; departing = departing; to = to; arrives = arrives; arriving = arriving }
-    ≡ stageAlong (serviceShown v s) (lateness (openingAt s) (p .repeat)) k p (callShown v b) (callShown v c)
+    ≡ stageCalls v s p k b c
 between-is v s p k b c o q late l from to departs arrives departing arriving ef ed eg et ea ei =
     rw (category-shown v s (p .board), category-shown v s (p .alight - 1), sym q, sym l, ef, ed, eg, et, ea, ei)
 

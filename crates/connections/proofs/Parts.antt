@@ -79,7 +79,7 @@ module _ (ws : List ℕ) (h : wholeParts (length ws) ≡ true) where
 
 pub ruleset firsts = (tests, first-room, first-refused, first-staged)
 
--- ---- the parts after a stage s, part n at place `at` on; r is what all of them answer
+-- ---- the parts after a stage s, where n are passed and the next is at place `at`; r is what all of them answer
 
 pub after-start : (ws : List ℕ) → wholeParts (length ws) ≡ true → (length ws - partSize) % partSize ≡ 0
 after-start ws h = omega (arith, whole-says (length ws) h .parted)
@@ -100,12 +100,12 @@ module _ (ws : List ℕ) (at : ℕ) (l : at < length ws) (m : (length ws - at) %
   pub after-counts : (n : ℕ) → n ≤ at → n + 1 ≤ at + partSize
   after-counts n g = omega arith
 
-  module _ (v : View) (s : Stage) (n : ℕ) (r : ConnectionAnswer) (i : partsAfter v s n (partsOf (drop at ws)) ≡ r) (p : Part) (q : p ≡ partAt (drop at ws)) (x : Staged) (e : x ≡ changedTo v s (stageOf v p)) where
-    pub after-out : (number : ℕ) → x ≡ Refused number → BadPart number n ≡ r
+  module _ (v : View) (s : Stage) (n : ℕ) (r : ConnectionAnswer) (i : partsAfter v s (n + 1) (partsOf (drop at ws)) ≡ r) (p : Part) (q : p ≡ partAt (drop at ws)) (x : Staged) (e : x ≡ changedTo v s (stageOf v p)) where
+    pub after-out : (number : ℕ) → x ≡ Refused number → BadPart number (n + 1) ≡ r
     unfolding partsAfter
     after-out number g = rw (parts-next ws at l m, sym q, sym e ∙ g) at i
 
-    pub after-again : (t : Stage) → x ≡ Is t → partsAfter v t (n + 1) (partsOf (drop (at + partSize) ws)) ≡ r
+    pub after-again : (t : Stage) → x ≡ Is t → partsAfter v t (n + 1 + 1) (partsOf (drop (at + partSize) ws)) ≡ r
     unfolding partsAfter
     after-again t g = rw (parts-next ws at l m, sym q, sym e ∙ g) at i
 

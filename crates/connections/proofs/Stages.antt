@@ -1,14 +1,15 @@
 -- A stage and a change, a ruleset for each function: `stages`, `changes`, `nexts`. Assumes nothing.
 use mathlib.Core.Path.{_≡_, refl, sym, ap, _∙_}
 use mathlib.Core.List.{List}
-use mathlib.Core.Bool.{Bool, true, false, not, _&&_}
+use mathlib.Core.Bool.{Bool, true, false, cond, not, _&&_}
 use Prim.Native.Nat.{ℕ, _+_}
+use native.Mathlib.Omega.{arith}
 use lib.ListN.{drop}
-use lib.Dec.{leb}
-use borrow.Author.Tests.{eq-eqb, ne-eqb, not-true, not-false}
+use lib.Dec.{leb, eqb}
+use borrow.Author.Tests.{not-true, not-false}
 use Rattle.base.proofs.Laws.{tests}
-use Rattle.timetable.specs.View.{View, aService}
-use Rattle.timetable.specs.Run.{runBy, runOf}
+use Rattle.timetable.specs.View.{View}
+use Rattle.timetable.specs.Run.{runOf}
 use Rattle.timetable.specs.Questions.{dateOf, minutesFor}
 use Rattle.lookups.specs.Lookups.{periodDay}
 use Rattle.lookups.specs.declared.PeriodDay.{PeriodDay}
@@ -19,11 +20,12 @@ use Rattle.index.specs.declared.ServiceRecord.{ServiceRecord}
 use Rattle.index.specs.declared.ServiceRecord.the-variants.{From, Refused as NoRecord}
 use Rattle.index.proofs.Records.{record-refused, record-service, record-sound, record-within}
 use Rattle.index.proofs.Shows.{day-low}
-use Rattle.rows.specs.Rows.{shownBy, serviceShown}
+use Rattle.rows.specs.Rows.{shownBy}
 use Rattle.connections.specs.declared.Part.{Part}
 use Rattle.connections.specs.declared.Stage.{Stage}
 use Rattle.connections.specs.declared.Staged.{Staged}
 use Rattle.connections.specs.declared.Staged.the-variants.{Is, Refused}
+use Rattle.connections.specs.Inner.{stageIn, changeNumber}
 use Rattle.connections.specs.Connection.{stageBy, stageDated, stageOf, changeTo, changedTo}
 
 -- ---- two tests in a row: x answers the first, y the second
@@ -57,34 +59,49 @@ module _ (w x : List ℕ) (p : Part) (k : ℕ) (r : ServiceRecord) (e : r ≡ re
   unfolding runOf
   on-refused number g = rw (record-refused w x (p .service) r e number g)
 
-  pub on-record : (q : ℕ) → r ≡ From q → (s : List ℕ) → s ≡ drop q w → (y : Staged) → y ≡ stageBy k p (runBy (viewIn w x) (aService (serviceShown (viewIn w x) s)) (p .repeat) k) → y ≡ stageBy k p (runOf (viewIn w x) (p .service) (p .repeat) k)
+  pub on-record : (q : ℕ) → r ≡ From q → (s : List ℕ) → s ≡ drop q w → (y : Staged) → y ≡ stageIn (viewIn w x) s p k → y ≡ stageBy k p (runOf (viewIn w x) (p .service) (p .repeat) k)
   unfolding runOf shownBy
   on-record q g s d y f = f ∙ rw (record-service w x (p .service) r e q g s d)
 
 pub ruleset records = (tests, record-sound, record-within, on-refused, on-record)
 
--- ---- a change from s to t: b says whether both categories are listed, m is the interchange time, z says whether the wait is long enough
+-- ---- a change from s to t: b says whether both categories are listed, m is the interchange time, z says whether the wait is long enough, n is the refusal
 
-module _ (v : View) (s t : Stage) where
-  pub change-49 : (s .to ≡ t .from → ⊥) → Refused 49 ≡ changeTo v s t
+-- three tests in their order
+pub refusal-49 : (same listed long : Bool) → not same ≡ true → 49 ≡ changeNumber same listed long
+refusal-49 same listed long o = rw (not-true same o)
+
+module _ (same listed long : Bool) (h : not same ≡ false) where
+  pub refusal-38 : not listed ≡ true → 38 ≡ changeNumber same listed long
+  refusal-38 o = rw (not-false same h, not-true listed o)
+
+  pub refusal-50 : not listed ≡ false → not long ≡ true → 50 ≡ changeNumber same listed long
+  refusal-50 i o = rw (not-false same h, not-false listed i, not-true long o)
+
+  pub refusal-0 : not listed ≡ false → not long ≡ false → 0 ≡ changeNumber same listed long
+  refusal-0 i o = rw (not-false same h, not-false listed i, not-false long o)
+
+pub ruleset refusals = (tests, refusal-49, refusal-38, refusal-50, refusal-0)
+
+module _ (v : View) (s t : Stage) (b : Bool) (f : b ≡ (v .listed (s .arriving) && v .listed (t .departing))) (m : ℕ) (g : m ≡ minutesFor (v .times (t .from)) (v .class (s .arriving)) (v .class (t .departing))) (z : Bool) (h : z ≡ leb (s .arrives + m) (t .departs)) (n : ℕ) (e : n ≡ changeNumber (eqb (s .to) (t .from)) b z) where
+  by-number : (a c d : Bool) (r : ℕ) → r ≡ changeNumber a c d → ((r ≡ 0 → ⊥) → Refused r ≡ cond a (cond c (cond d (Is t) (Refused 50)) (Refused 38)) (Refused 49)) × (r ≡ 0 → Is t ≡ cond a (cond c (cond d (Is t) (Refused 50)) (Refused 38)) (Refused 49))
+  by-number true true true r q = (λ o. absurd (o q), λ o. refl)
+  by-number true true false r q = (λ o. rw q, λ o. absurd (omega (arith, q)))
+  by-number true false d r q = (λ o. rw q, λ o. absurd (omega (arith, q)))
+  by-number false c d r q = (λ o. rw q, λ o. absurd (omega (arith, q)))
+
+  long-is : leb (s .arrives + minutesFor (v .times (t .from)) (v .class (s .arriving)) (v .class (t .departing))) (t .departs) ≡ z
+  long-is = ap (λ (i : ℕ). leb (s .arrives + i) (t .departs)) (sym g) ∙ sym h
+
+  pub change-refused : (n ≡ 0 → ⊥) → Refused n ≡ changeTo v s t
   unfolding changeTo
-  change-49 o = rw (ne-eqb (s .to) (t .from) o)
+  change-refused o = rw (sym f, long-is) (by-number (eqb (s .to) (t .from)) b z n e .0 o)
 
-  module _ (q : s .to ≡ t .from) (b : Bool) (f : b ≡ (v .listed (s .arriving) && v .listed (t .departing))) where
-    pub change-38 : not b ≡ true → Refused 38 ≡ changeTo v s t
-    unfolding changeTo
-    change-38 n = rw (eq-eqb (s .to) (t .from) q, sym f ∙ not-true b n)
+  pub change-right : n ≡ 0 → Is t ≡ changeTo v s t
+  unfolding changeTo
+  change-right o = rw (sym f, long-is) (by-number (eqb (s .to) (t .from)) b z n e .1 o)
 
-    module _ (n : not b ≡ false) (m : ℕ) (g : m ≡ minutesFor (v .times (t .from)) (v .class (s .arriving)) (v .class (t .departing))) (z : Bool) (h : z ≡ leb (s .arrives + m) (t .departs)) where
-      pub change-50 : not z ≡ true → Refused 50 ≡ changeTo v s t
-      unfolding changeTo
-      change-50 k = rw (eq-eqb (s .to) (t .from) q, sym f ∙ not-false b n, sym (h ∙ ap (λ (i : ℕ). leb (s .arrives + i) (t .departs)) g) ∙ not-true z k)
-
-      pub change-right : not z ≡ false → Is t ≡ changeTo v s t
-      unfolding changeTo
-      change-right k = rw (eq-eqb (s .to) (t .from) q, sym f ∙ not-false b n, sym (h ∙ ap (λ (i : ℕ). leb (s .arrives + i) (t .departs)) g) ∙ not-false z k)
-
-pub ruleset changes = (tests, change-49, change-38, change-50, change-right)
+pub ruleset changes = (tests, change-refused, change-right)
 
 -- ---- the next part after a stage s: y is what its stage is, x what was answered
 

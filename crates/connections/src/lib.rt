@@ -6,19 +6,16 @@ use timetable::Call;
 use timetable::Course;
 ghost use mathlib.Core.Path.{_≡_};
 ghost use mathlib.Core.Bool.{true, _&&_};
-ghost use mathlib.Core.Option.{some};
-ghost use Prim.Native.Nat.{_+_, _-_, _*_, _/_, _%_, _^_, _≤_, _<_};
+ghost use Prim.Native.Nat.{_+_, _-_, _/_, _%_, _^_, _≤_, _<_};
 ghost use lib.ListN.{length, drop};
 ghost use lib.Dec.{ltb, leb, eqb};
-ghost use Rattle.timetable.specs.Layout.{serviceHead, callSize, mostPeriodDays, latestTime, mostDelay};
-ghost use Rattle.timetable.specs.Table.{stops#, calls#, callAt, openingAt, serviceAt, sizesSound, recordSound};
-ghost use Rattle.timetable.specs.View.{aService};
-ghost use Rattle.timetable.specs.Run.{categoryOn, aRun, runBy, runOf};
-ghost use Rattle.timetable.specs.Runs.{hasRun, lateness};
+ghost use Rattle.timetable.specs.Layout.{mostPeriodDays, latestTime, mostDelay};
+ghost use Rattle.timetable.specs.Table.{stops#, calls#, openingAt, serviceAt, sizesSound, recordSound};
+ghost use Rattle.timetable.specs.Run.{categoryOn, aRun, runOf};
+ghost use Rattle.timetable.specs.Runs.{hasRun};
 ghost use Rattle.index.specs.Index.{Ready, viewIn};
-ghost use Rattle.rows.specs.Rows.{callShown, serviceShown};
-ghost use Rattle.connections.specs.Inner.{runIn};
-ghost use Rattle.connections.specs.Connection.{partSize, partAt, partsOf, wholeParts, moment, stageAlong, stageBetween, stageBy, stageOf, changeTo, changedTo, partsAfter, partsHold, connectionIn, connectionAsked};
+ghost use Rattle.connections.specs.Inner.{runIn, callIn, stageIn, stageRidden, stageCalls, changeNumber};
+ghost use Rattle.connections.specs.Connection.{partSize, partAt, partsOf, wholeParts, moment, stageBy, stageOf, changeTo, changedTo, partsAfter, partsHold, connectionIn, connectionAsked};
 ghost use Rattle.connections.specs.Quick.{connectionQuick};
 
 // A part: a run by its service, its repeat and its date, and the calls where it is boarded and left, counted from 0 along the route.
@@ -122,17 +119,20 @@ fn parts_after(w: &[u32], x: &[u32], parts: &[u32], first: Stage) -> ConnectionA
     ensures { λ r. ⌜ r ≡ partsAfter (viewIn (now (w .entry)) (now (x .entry))) first 2 (partsOf (drop partSize (now (parts .entry)))) ⌝ }
 {
     let mut before = first;
-    let mut n: u32 = 2;
+    let mut passed: u32 = 1;
     let mut at = PART_WORDS;
     while at < parts.len() {
         let next = next_stage(w, x, before, part_at(parts, at));
         match next {
             Staged::Refused(number) => {
-                return ConnectionAnswer::Refused { number, part: n };
+                return ConnectionAnswer::Refused {
+                    number,
+                    part: passed + 1,
+                };
             }
             Staged::Is(stage) => {
                 before = stage;
-                n += 1;
+                passed += 1;
                 at += PART_WORDS;
             }
         }
@@ -154,22 +154,35 @@ fn next_stage(w: &[u32], x: &[u32], before: Stage, part: Part) -> Staged
 
 // ---- a change
 
-// The next stage, where a change to it is right: 49 other stop, 38 a category not listed, 50 wait too short.
+// The next stage, where a change to it is right.
 fn change_to(w: &[u32], x: &[u32], before: Stage, next: Stage) -> Staged
     requires { ⌜ Ready (now w) (now x) ⌝ }
     ensures { λ r. ⌜ r ≡ changeTo (viewIn (now (w .entry)) (now (x .entry))) before next ⌝ }
 {
-    if before.to != next.from {
-        return Staged::Refused(49);
-    }
-    if !questions::both_listed(w, x, before.arriving, next.departing) {
-        return Staged::Refused(38);
-    }
+    let listed = questions::both_listed(w, x, before.arriving, next.departing);
     let minutes = questions::minutes_between(w, x, next.from, before.arriving, next.departing);
-    if !waits(before.arrives, minutes, next.departs) {
-        return Staged::Refused(50);
+    let long = waits(before.arrives, minutes, next.departs);
+    let number = change_refusal(before.to == next.from, listed, long);
+    if number != 0 {
+        return Staged::Refused(number);
     }
     Staged::Is(next)
+}
+
+// What a change is refused for: 49 other stop, 38 a category not listed, 50 wait too short; 0 for nothing.
+fn change_refusal(same: bool, listed: bool, long: bool) -> u32
+    ensures { λ r. ⌜ r ≡ changeNumber same listed long ⌝ }
+{
+    if !same {
+        return 49;
+    }
+    if !listed {
+        return 38;
+    }
+    if !long {
+        return 50;
+    }
+    0
 }
 
 // ---- a stage
@@ -202,7 +215,7 @@ fn stage_on(w: &[u32], x: &[u32], part: Part, k: u32) -> Staged
 fn stage_in(w: &[u32], x: &[u32], s: &[u32], part: Part, k: u32) -> Staged
     requires { ⌜ Ready (now w) (now x) × (k < mostPeriodDays) ⌝ }
     requires { ⌜ recordSound (stops# (now w)) (now s) ≡ true ⌝ }
-    ensures { λ r. ⌜ r ≡ stageBy k part (runBy (viewIn (now (w .entry)) (now (x .entry))) (aService (serviceShown (viewIn (now (w .entry)) (now (x .entry))) (now (s .entry)))) (part .repeat) k) ⌝ }
+    ensures { λ r. ⌜ r ≡ stageIn (viewIn (now (w .entry)) (now (x .entry))) (now (s .entry)) part k ⌝ }
 {
     let course = course::service_course(w, x, s, part.repeat, k);
     match course {
@@ -230,7 +243,7 @@ fn stage_ridden(w: &[u32], x: &[u32], s: &[u32], part: Part, k: u32) -> Staged
     requires { ⌜ Ready (now w) (now x) × (k < mostPeriodDays) ⌝ }
     requires { ⌜ recordSound (stops# (now w)) (now s) ≡ true ⌝ }
     requires { ⌜ (part .board < calls# (now s)) × (part .alight < calls# (now s)) × (hasRun (openingAt (now s)) (part .repeat) ≡ true) ⌝ }
-    ensures { λ r. ⌜ r ≡ stageBetween (serviceShown (viewIn (now (w .entry)) (now (x .entry))) (now (s .entry))) (lateness (openingAt (now (s .entry))) (part .repeat)) k part (some (callShown (viewIn (now (w .entry)) (now (x .entry))) (callAt (drop (serviceHead + callSize * (part .board)) (now (s .entry)))))) (some (callShown (viewIn (now (w .entry)) (now (x .entry))) (callAt (drop (serviceHead + callSize * (part .alight)) (now (s .entry)))))) ⌝ }
+    ensures { λ r. ⌜ r ≡ stageRidden (viewIn (now (w .entry)) (now (x .entry))) (now (s .entry)) part k ⌝ }
 {
     let boarding = rows::call_of(s, part.board);
     let alighting = rows::call_of(s, part.alight);
@@ -252,10 +265,10 @@ fn stage_between(
 ) -> Stage
     requires { ⌜ Ready (now w) (now x) × (k < mostPeriodDays) ⌝ }
     requires { ⌜ recordSound (stops# (now w)) (now s) ≡ true ⌝ }
-    requires { ⌜ (part .board < calls# (now s)) × (boarding ≡ callAt (drop (serviceHead + callSize * (part .board)) (now s))) ⌝ }
-    requires { ⌜ (part .alight < calls# (now s)) × (alighting ≡ callAt (drop (serviceHead + callSize * (part .alight)) (now s))) ⌝ }
+    requires { ⌜ (part .board < calls# (now s)) × (boarding ≡ callIn (now s) (part .board)) ⌝ }
+    requires { ⌜ (part .alight < calls# (now s)) × (alighting ≡ callIn (now s) (part .alight)) ⌝ }
     requires { ⌜ (1 ≤ part .alight) × (hasRun (openingAt (now s)) (part .repeat) ≡ true) ⌝ }
-    ensures { λ r. ⌜ r ≡ stageAlong (serviceShown (viewIn (now (w .entry)) (now (x .entry))) (now (s .entry))) (lateness (openingAt (now (s .entry))) (part .repeat)) k part (callShown (viewIn (now (w .entry)) (now (x .entry))) boarding) (callShown (viewIn (now (w .entry)) (now (x .entry))) alighting) ⌝ }
+    ensures { λ r. ⌜ r ≡ stageCalls (viewIn (now (w .entry)) (now (x .entry))) (now (s .entry)) part k boarding alighting ⌝ }
 {
     let late = runs::lateness(table::opening_at(s), part.repeat);
     Stage {

@@ -1,5 +1,5 @@
 use mathlib.Core.Path.{_≡_}
-use Prim.Native.Nat.{_-_, _%_, _≤_}
+use Prim.Native.Nat.{_+_, _-_, _%_, _≤_}
 use lib.ListN.{length, drop}
 use Rattle.index.specs.Index.{viewIn}
 use Rattle.connections.specs.Connection.{partSize, partsOf, partsAfter}
@@ -8,14 +8,14 @@ use Rattle.connections.proofs.parts_after.Statement.{statement}
 use Rattle.connections.proofs.parts_after.Tie as tie
 
 abbrev Inv-loop : tie.InvT-loop
-Inv-loop w x parts before₀ n₀ at₀ before n at =
+Inv-loop w x parts before₀ passed₀ at₀ before passed at =
     ((length parts - at) % partSize ≡ 0)
     × (at ≤ length parts)
-    × (n ≤ at)
-    × (partsAfter (viewIn w x) before n (partsOf (drop at parts)) ≡ partsAfter (viewIn w x) before₀ 2 (partsOf (drop partSize parts)))
+    × (passed ≤ at)
+    × (partsAfter (viewIn w x) before (passed + 1) (partsOf (drop at parts)) ≡ partsAfter (viewIn w x) before₀ 2 (partsOf (drop partSize parts)))
 
 abbrev μ-loop : tie.MeasureT-loop
-μ-loop w x parts before₀ n₀ at₀ before n at = length parts - at
+μ-loop w x parts before₀ passed₀ at₀ before passed at = length parts - at
 
 loop-holds : tie.Need-loop-holds Inv-loop μ-loop
 loop-holds c = search afters
@@ -29,14 +29,17 @@ next-stage-requires c κs = search afters
 enum-known-next : tie.Need-enum-known-next Inv-loop μ-loop
 enum-known-next c = search afters
 
+add-t14 : tie.Need-add-t14 Inv-loop μ-loop
+add-t14 c = search afters
+
 returns : tie.Need-returns Inv-loop μ-loop
 returns c = search afters
 
 enum-known-next-2 : tie.Need-enum-known-next-2 Inv-loop μ-loop
 enum-known-next-2 c = search afters
 
-add-n : tie.Need-add-n Inv-loop μ-loop
-add-n c = search afters
+add-passed : tie.Need-add-passed Inv-loop μ-loop
+add-passed c = search afters
 
 add-at : tie.Need-add-at Inv-loop μ-loop
 add-at c = search afters
@@ -60,9 +63,10 @@ parts-after-spec =
     part-at-requires
     next-stage-requires
     enum-known-next
+    add-t14
     returns
     enum-known-next-2
-    add-n
+    add-passed
     add-at
     loop-less
     loop-again
