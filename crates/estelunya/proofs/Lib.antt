@@ -4,3 +4,4 @@ pub mod DaySets
 pub mod StopNames
 pub mod Between
 pub mod Contracts
+pub mod Isolation
