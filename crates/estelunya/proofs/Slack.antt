@@ -24,6 +24,8 @@ use Rattle.estelunya.proofs.estelunya_quick_interchange_between.Reads.{
 use Rattle.estelunya.proofs.estelunya_quick_stop_name.Reads.{Learnt as quick-name-allows}
 use Rattle.estelunya.proofs.estelunya_quick_walk.Reads.{Learnt as quick-walk-allows}
 use Rattle.estelunya.proofs.estelunya_write.Reads.{Learnt as write-allows}
+use Rattle.estelunya.proofs.estelunya_connection.Reads.{Learnt as connection-allows}
+use Rattle.estelunya.proofs.estelunya_quick_connection.Reads.{Learnt as quick-connection-allows}
 
 -- What a contract allows: of the lent arguments a, an answer, and what the arguments hold at exit (κ are their lifetimes). Two answers that it allows are one.
 abbrev pub OneAnswer : {K : Type 0} {A X S : K → Type 0} → ((κ : K) → A κ → X κ → S κ → Type 0) → Type 0
@@ -100,3 +102,9 @@ quick-walk-no-slack κ a x y s t p q = (p .0 ∙ sym (q .0), p .1 ∙ sym (q .1)
 
 pub write-no-slack : OneOutcome write-allows (λ κ s. s .1 .0 .now)
 write-no-slack κ a x y s t p q = (p .0 ∙ sym (q .0), p .1 ∙ sym (q .1))
+
+pub connection-no-slack : OneAnswer connection-allows
+connection-no-slack κ a x y s t p q = p ∙ sym q
+
+pub quick-connection-no-slack : OneAnswer quick-connection-allows
+quick-connection-no-slack κ a x y s t p q = p ∙ sym q

@@ -15,9 +15,12 @@ use Rattle.whole_index.specs.declared.Made.{Made}
 use Rattle.whole_index.specs.declared.Made.the-variants.{Index, Refused as MadeRefused}
 use Rattle.index_check.specs.declared.IndexCheck.{IndexCheck}
 use Rattle.index_check.specs.declared.IndexCheck.the-variants.{Right, Refused as CheckRefused}
+use Rattle.connections.specs.declared.ConnectionAnswer.{ConnectionAnswer}
+use Rattle.connections.specs.declared.ConnectionAnswer.the-variants.{Holds, Refused as ConnectionRefused}
 use Rattle.plan_writing.specs.declared.WriteAnswer.{WriteAnswer}
 use Rattle.plan_writing.specs.declared.WriteAnswer.the-variants.{Bytes, Refused as WriteRefused}
 use Rattle.estelunya.specs.declared.IndexResult.{IndexResult}
+use Rattle.estelunya.specs.declared.ConnectionResult.{ConnectionResult}
 use Rattle.estelunya.specs.declared.WriteResult.{WriteResult}
 use Rattle.estelunya.specs.declared.LoadResult.{LoadResult}
 use Rattle.estelunya.specs.declared.DayResult.{DayResult}
@@ -61,6 +64,11 @@ indexResult (MadeRefused number needed) = record { number = number; words = need
 abbrev pub checkNumber : IndexCheck → ℕ
 checkNumber Right = 0
 checkNumber (CheckRefused number) = number
+
+-- No. 12: "number of the first bad part and" the refusal
+abbrev pub connectionResult : ConnectionAnswer → ConnectionResult
+connectionResult Holds = record { number = 0; part = 0 }
+connectionResult (ConnectionRefused number part) = record { number = number; part = part }
 
 -- No. 11: the bytes written, or "45 text buffer too short, with the bytes needed"
 abbrev pub writeResult : WriteAnswer → WriteResult

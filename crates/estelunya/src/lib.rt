@@ -1,5 +1,6 @@
 // The C boundary: the version, words enough for a load, load, walk, day, interchange (between classes and between categories) and stop name; an index and the same questions by it; FPLAN written back; and the arithmetic on operating days, with numbers and slices. Nothing is asked of
 // the caller: bad input gets its numbered refusal, and table, rows and result words then hold what they held (the helper words of a load: `helped`, timetable/specs/Load).
+use connections::ConnectionAnswer;
 use day_sets::CountAnswer;
 use day_sets::Operation;
 use day_sets::SetAnswer;
@@ -22,8 +23,10 @@ ghost use Rattle.day_sets.specs.DaySets.{combineAsked, combineWritten, compleme
 ghost use Rattle.whole_index.specs.Whole.{madeOf, indexInto};
 ghost use Rattle.index_check.specs.Check.{checkedOf};
 ghost use Rattle.quick.specs.Quick.{dayQuick, interchangeQuick, betweenQuick, stopNameQuick, walkQuick};
+ghost use Rattle.connections.specs.Connection.{connectionAsked};
+ghost use Rattle.connections.specs.Quick.{connectionQuick};
 ghost use Rattle.plan_writing.specs.Writing.{planAnswer, planBytes};
-ghost use Rattle.estelunya.specs.Answers.{version, loadResult, dayResult, interchangeResult, nameResult, walkResult, indexResult, checkNumber, writeResult};
+ghost use Rattle.estelunya.specs.Answers.{version, loadResult, dayResult, interchangeResult, nameResult, walkResult, indexResult, checkNumber, connectionResult, writeResult};
 ghost use Rattle.room.specs.Room.{roomFor, Enough};
 ghost use Rattle.estelunya.specs.DaySets.{daySetResult, dayCountResult};
 
@@ -73,6 +76,13 @@ pub struct WalkResult {
 pub struct IndexResult {
     pub number: u32,
     pub words: usize,
+}
+
+// number 0: the connection holds; another number is a refusal, and part the first bad part, from 1 (0 for 21, 43 by the index's length, and 46).
+#[repr(C)]
+pub struct ConnectionResult {
+    pub number: u32,
+    pub part: u32,
 }
 
 // number 0: so many bytes of FPLAN stand at the front; 45 with the bytes needed; another number is a refusal.
@@ -305,6 +315,26 @@ pub extern "C" fn estelunya_quick_walk(
     walk_result(quick::quick_walk(table, index, service, repeat, day, month, year, rows))
 }
 
+// ---- a proposed connection (document 02, No. 12): parts of seven words, service, repeat, day, month, year, boarding call, alighting call
+
+#[no_mangle]
+pub extern "C" fn estelunya_connection(table: &[u32], parts: &[u32]) -> ConnectionResult
+    ensures { λ r. ⌜ r ≡ connectionResult (connectionAsked (now (table .entry)) (now (parts .entry))) ⌝ }
+{
+    connection_result(connections::connection(table, parts))
+}
+
+#[no_mangle]
+pub extern "C" fn estelunya_quick_connection(
+    table: &[u32],
+    index: &[u32],
+    parts: &[u32],
+) -> ConnectionResult
+    ensures { λ r. ⌜ r ≡ connectionResult (connectionQuick (now (table .entry)) (now (index .entry)) (now (parts .entry))) ⌝ }
+{
+    connection_result(connections::quick_connection(table, index, parts))
+}
+
 // ---- FPLAN written back (document 02, No. 11)
 
 #[no_mangle]
@@ -506,5 +536,14 @@ fn write_result(a: WriteAnswer) -> WriteResult
             number,
             bytes: needed,
         },
+    }
+}
+
+fn connection_result(a: ConnectionAnswer) -> ConnectionResult
+    ensures { λ r. ⌜ r ≡ connectionResult a ⌝ }
+{
+    match a {
+        ConnectionAnswer::Holds => ConnectionResult { number: 0, part: 0 },
+        ConnectionAnswer::Refused { number, part } => ConnectionResult { number, part },
     }
 }
