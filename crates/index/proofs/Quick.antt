@@ -2,18 +2,18 @@
 -- AGREEMENT of every question at once (`quickly-agrees`, `asked-plain`). Assumes nothing.
 use mathlib.Core.Path.{_≡_, refl, ap, _∙_, sym}
 use mathlib.Core.List.{List, [], _++_}
-use mathlib.Core.Bool.{Bool, true, false, cond, not, _&&_}
+use mathlib.Core.Bool.{Bool, true, false, cond, not}
 use Prim.Native.Nat.{ℕ, zero, suc, _+_, _-_, _*_, _%_, _^_, _≤_, _<_}
 use native.Mathlib.Nat.{sub-zero}
 use native.Mathlib.Omega.{arith}
-use lib.ListN.{length, getD, take, drop, length-append}
+use lib.ListN.{length, getD, take, length-append}
 use lib.Seq.{getD-take, length-take-le, take-at}
 use lib.Dec.{leb, eqb}
-use borrow.Author.Tests.{le-leb, lt-leb, leb-true, eq-eqb, not-true, not-false}
+use borrow.Author.Tests.{le-leb, lt-leb, leb-true, not-true, not-false}
 use Rattle.base.proofs.Laws.{tests}
 use Rattle.base.proofs.Loops.{and-true}
 use Rattle.timetable.specs.Layout.{headerSize}
-use Rattle.timetable.specs.Table.{usedWords, firstDay, periodDays, bitFields#, stops#, interchanges#, services#, servicesPlace, classes#, used, tableOf, headSound, isTable}
+use Rattle.timetable.specs.Table.{usedWords, firstDay, periodDays, bitFields#, stops#, interchanges#, services#, servicesPlace, classes#, used, tableOf, isTable}
 use Rattle.timetable.specs.View.{View, viewOf}
 use Rattle.timetable.specs.Questions.{asked}
 use Rattle.table.specs.JustTable.{JustTable, headerSound}

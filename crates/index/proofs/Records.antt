@@ -7,16 +7,15 @@ use Prim.Native.Nat.{ℕ, zero, suc, _+_, _-_, _*_, _^_, _≤_, _<_}
 use native.Mathlib.Nat.{add-zero}
 use native.Mathlib.Omega.{arith}
 use lib.ListN.{length, getD, take, drop, drop-of-length-le, length-drop, List·getD-eq-default}
-use lib.Dec.{ltb, eqb}
+use lib.Dec.{ltb}
 use borrow.Author.Tests.{eq-eqb, ne-eqb, lt-ltb, le-ltb, not-true, not-false}
 use Rattle.base.proofs.Laws.{tests, apart}
-use Rattle.timetable.specs.Table.{word, stops#, services#, servicesPlace, serviceAt, withStops, recordSound}
-use Rattle.timetable.specs.View.{ServiceFound, noService, aService}
-use Rattle.table.specs.JustTable.{headerSound}
+use Rattle.timetable.specs.Table.{stops#, services#, servicesPlace, serviceAt, withStops, recordSound}
+use Rattle.timetable.specs.View.{noService, aService}
 use Rattle.table.proofs.Says.{record-says, header-word}
 use Rattle.table.proofs.Records.{rest-from}
 use Rattle.lookups.specs.Lookups.{recordPlace, servicePlace}
-use Rattle.index.specs.Index.{servicesFrom, indexSize, Ready, recordPlaceIn, recordFrom, recordIn, serviceFrom, viewIn}
+use Rattle.index.specs.Index.{servicesFrom, Ready, recordPlaceIn, recordFrom, recordIn, serviceFrom, viewIn}
 use Rattle.index.specs.declared.ServiceRecord.{ServiceRecord}
 use Rattle.index.specs.declared.ServiceRecord.the-variants.{From, Refused}
 use Rattle.index.proofs.Sections.{sections-fit}
