@@ -14,6 +14,10 @@ use Rattle.timetable.specs.Table.{rowsIn, callAt, calls#, stops#, stopNumberAt,
 use Rattle.timetable.specs.declared.Call.{Call}
 use Rattle.timetable.proofs.Rows.{rows-left, rows-again, rows-out, rows-done}
 use Rattle.table.specs.JustTable.{JustTable}
+use Rattle.timetable.specs.View.{View}
+use Rattle.table.proofs.JustTable.{just-header}
+use Rattle.index.specs.Index.{Ready, viewIn}
+use Rattle.index.proofs.Agrees.{view-plain}
 use Rattle.table.proofs.Says.{sizes-say, head-word, record-says, record-sized, call-says}
 use Rattle.writable.specs.Writable.{callWritable}
 use Rattle.service_lines.specs.Record.{shownCall, callRows, Standing}
@@ -28,6 +32,16 @@ module _ (w s : List ℕ) (p : ℕ) (c : Call) (e : c ≡ callAt (drop p s)) whe
   call-is n f = rw (f, e)
 
 pub ruleset call = (tests, place-low, call-is)
+
+-- the number of the stop at a place, by an empty index x
+module _ (w x : List ℕ) (h : JustTable w) (z : length x ≡ 0) where
+  pub none-ready : Ready w x
+  none-ready = record { head = just-header w h; ends = h .ends; sized = λ k. absurd (k z) }
+
+  pub number-shown : (place n : ℕ) → n ≡ viewIn w x .shown place → n ≡ stopNumberAt (tableOf w .stops) place
+  number-shown place n e = e ∙ ap (λ (v : View). v .shown place) (view-plain w x h z)
+
+pub ruleset shown = (tests, none-ready, number-shown)
 
 -- ---- the loop over them: k are left from p on
 

@@ -19,7 +19,7 @@ ghost use Prim.Native.Nat.{_+_, _^_, _≤_, _<_};
 ghost use lib.ListN.{length, drop};
 ghost use Rattle.base.specs.Lists.{every};
 ghost use Rattle.timetable.specs.Layout.{serviceHead, callSize};
-ghost use Rattle.timetable.specs.Table.{stops#, callAt, tableOf, sizesSound, callSound};
+ghost use Rattle.timetable.specs.Table.{stops#, stopNumberAt, callAt, tableOf, sizesSound, callSound};
 ghost use Rattle.table.specs.JustTable.{JustTable, recordEnd};
 ghost use Rattle.plan_services.specs.Services.{serviceLines, planLines};
 ghost use Rattle.writable.specs.Writable.{callWritable, serviceWritable};
@@ -101,7 +101,7 @@ pub fn call_shown(w: &[u32], s: &[u32], p: usize) -> Call
 {
     let c = timetable::call_at(s, p);
     Call {
-        stop: lookups::stop_number(w, c.stop),
+        stop: stop_number(w, c.stop),
         arrival: c.arrival,
         departure: c.departure,
         flags: c.flags,
@@ -109,6 +109,14 @@ pub fn call_shown(w: &[u32], s: &[u32], p: usize) -> Call
         high: c.high,
         low: c.low,
     }
+}
+
+// The number of the stop at a place of the stop section.
+fn stop_number(w: &[u32], place: u32) -> u32
+    requires { ⌜ JustTable (now w) × (place < stops# (now w)) ⌝ }
+    ensures { λ r. ⌜ r ≡ stopNumberAt (tableOf (now (w .entry)) .stops) place ⌝ }
+{
+    index::stop_number(w, &w[0..0], place)
 }
 
 // Whether all calls can be written.
