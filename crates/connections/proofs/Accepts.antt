@@ -14,8 +14,9 @@ use Rattle.base.proofs.Laws.{apart}
 use Rattle.base.proofs.Loops.{and-true}
 use Rattle.timetable.specs.View.{View}
 use Rattle.timetable.specs.Run.{Run, RunFound, barred, atRest, aRun, runOf}
-use Rattle.timetable.specs.Questions.{Dated, undated, dated, dateOf}
+use Rattle.timetable.specs.Questions.{Dated, undated, dated, dateOf, betweenIn}
 use Rattle.timetable.specs.declared.Call.{Call}
+use Rattle.timetable.specs.declared.InterchangeAnswer.the-variants.{Minutes}
 use Rattle.connections.specs.declared.Part.{Part}
 use Rattle.connections.specs.declared.Stage.{Stage}
 use Rattle.connections.specs.declared.Staged.{Staged}
@@ -135,6 +136,11 @@ module _ (v : View) (s t : Stage) where
   pub is-change : IsChange v s t → changeTo v s t ≡ Is t
   unfolding changeTo
   is-change i = rw (eq-eqb (s .to) (t .from) (i .same-stop), i .arriving-listed, i .departing-listed, le-leb (s .arrives + changeTime v s t) (t .departs) (i .wait))
+
+-- the time asked is what the question between two categories answers of them at that stop (No. 1)
+pub change-between : (v : View) (s t : Stage) → v .stop (t .from) ≡ true → IsChange v s t → betweenIn v (t .from) (s .arriving) (t .departing) ≡ Minutes (changeTime v s t)
+unfolding betweenIn
+change-between v s t k i = rw (k, i .arriving-listed, i .departing-listed)
 
 -- ---- the parts
 
