@@ -34,7 +34,7 @@ one-differs (x ∷ a) m n c p q (suc i) h = one-differs a m n c p q i (λ e. h (
 
 -- ---- the services of the two
 
-abbrev same : ℕ → ℕ
+abbrev pub same : ℕ → ℕ
 same b = b
 
 map-same : {X : Type 0} (f : X → X) → ((x : X) → f x ≡ x) → (xs : List X) → map f xs ≡ xs
@@ -79,7 +79,7 @@ module _ (f g : Files) (e : Edited f g) where
       (λ q. other (q ∙ length-map (blocks (linesOf (e .pre))) (λ (b : List Line). bare (serviceOf b))))
       ∙ sym (ap (λ (ss : List Service). getElem? ss i) services-after))
 
-  deliveries-alike : Alike same (delivered f) (delivered g)
+  pub deliveries-alike : Alike same (delivered f) (delivered g)
   unfolding delivered
   deliveries-alike = record {
     period = ap (λ (s : List ℕ). periodIn (linesOf s)) (e .eckdaten);
@@ -89,7 +89,7 @@ module _ (f g : Files) (e : Edited f g) where
     classes = ap classesIn (e .zugart);
   }
 
-  service-alike : (i : ℕ) → (i ≡ place e → ⊥) → ServiceAlike same (delivered f) (delivered g) i
+  pub service-alike : (i : ℕ) → (i ≡ place e → ⊥) → ServiceAlike same (delivered f) (delivered g) i
   service-alike i other = service-kept i other ∙ ap (λ (ss : List Service). getElem? ss i) (sym (map-by (serviceFor same 0) bare own-numbers (delivered g .services)))
 
   module _ (t t′ : List ℕ) (helper helper′ u u′ : ℕ) (a : loaded f (length t) helper ≡ Accepted u) (a′ : loaded g (length t′) helper′ ≡ Accepted u′) where

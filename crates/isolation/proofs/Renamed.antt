@@ -8,16 +8,19 @@ use Rattle.timetable.specs.Load.{delivered, loaded, written}
 use Rattle.timetable.specs.Questions.{dayAsked}
 use Rattle.timetable.specs.declared.Loaded.the-variants.{Accepted}
 use Rattle.isolation.specs.Rename.{OneToOne, renamed, AnswersAlike, Renaming}
-use Rattle.isolation.proofs.Tables.{Alike, walks-alike, days-alike, stops-alike}
+use Rattle.isolation.proofs.Tables.{Alike, ServiceAlike, walks-alike, days-alike, stops-alike}
 use Rattle.isolation.proofs.Changed.{Everywhere}
 use Rattle.isolation.proofs.Again.{extended, inside, everywhere, renamed-extended, loaded-same, knows-now, bare-now}
 
 -- ---- for a change that is one-to-one on all numbers
 
 module _ (σ : ℕ → ℕ) (g : Everywhere σ) (f : Files) where
-  again : Alike σ (delivered (renamed σ f)) (delivered f)
+  pub again : Alike σ (delivered (renamed σ f)) (delivered f)
   unfolding delivered renamed
   again = record { period = refl; fields = knows-now σ g f; stops = refl; interchanges = refl; classes = refl }
+
+  pub services-again : (i : ℕ) → ServiceAlike σ (delivered (renamed σ f)) (delivered f) i
+  services-again i = ap (λ (ss : List Service). getElem? ss i) (bare-now σ g f)
 
 -- ---- for one that is one-to-one on numbers of six digits
 
@@ -41,7 +44,7 @@ module _ (σ : ℕ → ℕ) (o : OneToOne σ) (f : Files) where
         let g = everywhere σ o in
         let h = again ρ g f in
         record {
-          walks = λ i. walks-alike ρ new f t′ t helper′ helper u′ u accepted-new a h i (ap (λ (ss : List Service). getElem? ss i) (bare-now ρ g f));
+          walks = λ i. walks-alike ρ new f t′ t helper′ helper u′ u accepted-new a h i (services-again ρ g f i);
           days = λ day month year m l. ap (dayAsked (written new t′ helper′) day month year) (sym (inside σ o m l)) ∙ days-alike ρ new f t′ t helper′ helper u′ u accepted-new a h day month year m;
           stops = stops-alike ρ new f t′ t helper′ helper u′ u accepted-new a h;
         }

@@ -38,12 +38,15 @@ found-map f (s ∷ ss) zero = refl
 found-map f (s ∷ ss) (suc i) = found-map f ss i
 
 module _ (σ : ℕ → ℕ) (d e : Delivery) (h : Alike σ d e) where
-  views-alike : ViewsAlike σ (viewOf d) (viewOf e)
+  pub views-alike : ViewsAlike σ (viewOf d) (viewOf e)
   unfolding interchangeAtStop
   views-alike = record { period = h .period; known = h .fields .known; runs = h .fields .runs; times = λ stop. rw (h .interchanges) }
 
+  pub found-alike : (i : ℕ) → ServiceAlike σ d e i → foundBy bare (viewOf d .service i) ≡ foundBy (serviceFor σ 0) (viewOf e .service i)
+  found-alike i q = found-map bare (d .services) i ∙ (ap serviceBy q ∙ sym (found-map (serviceFor σ 0) (e .services) i))
+
   journey-same : (i : ℕ) → ServiceAlike σ d e i → (r day month year : ℕ) → journey (viewOf d) i r day month year ≡ journey (viewOf e) i r day month year
-  journey-same i q = journey-alike σ (viewOf d) (viewOf e) views-alike i (found-map bare (d .services) i ∙ (ap serviceBy q ∙ sym (found-map (serviceFor σ 0) (e .services) i)))
+  journey-same i q = journey-alike σ (viewOf d) (viewOf e) views-alike i (found-alike i q)
 
   day-same : (day month year b : ℕ) → dayIn (viewOf d) day month year (σ b) ≡ dayIn (viewOf e) day month year b
   unfolding dayIn
