@@ -1,12 +1,12 @@
 /*
  * Estelunya: the proved timetable loader. Link libestelunya.a.
  *
- * A load makes a table from the six files of a delivery; day, interchange (between classes or between categories), stop name and walk are asked of a table;
- * and there is arithmetic on operating days.
+ * A load makes a table from the six files of a delivery; day, interchange (between classes or between categories), stop name and walk are asked of a table, or of a table and
+ * its index at the cost of the answer (estelunya_quick_..); FPLAN is written back from a table; and there is arithmetic on operating days.
  * The rules, and the numbers of the refusals, are those of documents 01 and 02; docs/REFUSALS.md tells them to people.
  *
  * What the caller owes: each pointer is good for its length, given in items (bytes or 32-bit words), and aligned as its type is; it may be null
- * where that length is 0. The words that a call writes (table and helper of a load, rows of a walk, result of arithmetic) overlap none of its
+ * where that length is 0. The words and bytes that a call writes (table and helper of a load, rows of a walk, an index, a text, result of arithmetic) overlap none of its
  * other arguments.
  * Nothing else: any bytes, any words and any numbers may be given, and have exactly one answer.
  *
@@ -28,7 +28,7 @@ extern "C" {
  * once, before any other call, with estelunya_version() of the archive that it was linked with; where they differ it has to be built again, and words that
  * were kept have to be loaded again.
  */
-#define ESTELUNYA_VERSION 1
+#define ESTELUNYA_VERSION 2
 
 typedef struct EstelunyaLoadResult {
     uint32_t number; /* 0: accepted; else the refusal, 1 to 20, 37, 38, 39 or 51 */
@@ -39,7 +39,7 @@ typedef struct EstelunyaLoadResult {
 } EstelunyaLoadResult;
 
 typedef struct EstelunyaDayResult {
-    uint32_t number; /* 0: answered; else the refusal: 21, 22, 23 or 28 */
+    uint32_t number; /* 0: answered; else the refusal: 21, 22, 23 or 28; of a quick question also 43, here and below */
     uint32_t runs;   /* 1 if the bit field runs on the date; else, and if refused, 0 */
 } EstelunyaDayResult;
 
@@ -59,6 +59,16 @@ typedef struct EstelunyaWalkResult {
     uint32_t rows;   /* the rows listed, two or more; 0 if the service is not running on the date, and if refused */
     uint32_t needed; /* 29: the words needed; else 0 */
 } EstelunyaWalkResult;
+
+typedef struct EstelunyaIndexResult {
+    uint32_t number; /* 0: made; else the refusal: 21 or 29 */
+    size_t words;    /* the words of the index; 29: the words needed, which are the same; 21: 0 */
+} EstelunyaIndexResult;
+
+typedef struct EstelunyaWriteResult {
+    uint32_t number; /* 0: written; else the refusal: 21, 44 or 45 */
+    size_t bytes;    /* the bytes written; 45: the bytes needed, which are the same; else 0 */
+} EstelunyaWriteResult;
 
 typedef struct EstelunyaDaySetResult {
     uint32_t number; /* 0: the result holds the bit field; else the refusal, 42 */
@@ -181,6 +191,19 @@ typedef struct EstelunyaDayCountResult {
 #define ESTELUNYA_ROW_FIRST_TIME_AT 8     /* the stop's interchange time for two classes that are both 0, 1 or 2 */
 #define ESTELUNYA_ROW_SECOND_TIME_AT 9    /* the stop's interchange time for all other classes */
 
+/*
+ * Index: words beside a table, made of it by estelunya_index. It is never longer than the table. With B bit fields, S stops, M interchange records, C categories and
+ * V services it holds, one after the other:
+ *
+ *     2 words for each bit field, then for each stop, for each interchange record, and for each category: chains, by which a record is found by its first word;
+ *     V words: the place of each service;
+ *     S words: the last call at each stop, 0 if there is none. Calls are numbered through the table, from 1;
+ *     4 words for each call: the call before it at the same stop (0 if there is none), its service, the place of that service's record, and its place in the route.
+ *
+ * The chains of a section of n records: its records are counted from the end, 1 to n, so that the first is record n. Word 2 * b is the greatest record in bucket b, and
+ * word 2 * e - 1 the next lower record in the bucket of record e; 0 ends a chain. A record whose first word is k is in bucket (k * 2654435761 mod 2^32) * n / 2^32.
+ */
+
 /* Helper words of a load: these, and so many for each line of BITFELD, BAHNHOF and UMSTEIGB. */
 #define ESTELUNYA_HELPER_HEAD_WORDS 64
 #define ESTELUNYA_HELPER_LINE_WORDS 4
@@ -236,6 +259,27 @@ EstelunyaLoadResult estelunya_load(
     uint32_t *helper, size_t helper_len);
 
 /*
+ * AN INDEX BELONGS TO THE WORDS IT WAS MADE OF: beside the words of another table, or of last night's, a quick question may refuse, or walk ANOTHER SERVICE than the one that was
+ * meant; so make the index anew with every load, keep the two together, and ask estelunya_check_index once whenever words or index came out of a file.
+ *
+ * (A bit field, a stop, an interchange record or a category is only ever answered from a record of the words given that has the number asked for.)
+ */
+
+/*
+ * Makes the index of a table. Made: `index` begins with its words, as many as the answer says, and the words after them hold what they held. Refused (21, or 29: fewer
+ * words were lent than it needs, and the answer says how many): all words of `index` hold what they held. A call with none asks for their number. The time that it
+ * takes grows with the table, once.
+ */
+EstelunyaIndexResult estelunya_index(
+    const uint32_t *table, size_t table_len,
+    uint32_t *index, size_t index_len);
+
+/* 0 exactly if the words of `index`, all of them and no more, are the index of this table; else 21, or 43. Its time grows with the table. */
+uint32_t estelunya_check_index(
+    const uint32_t *table, size_t table_len,
+    const uint32_t *index, size_t index_len);
+
+/*
  * In the five questions `table` may be any words. Words that are not a table are refused with 21; words after the table's own are not looked at,
  * so that all words lent to the load may be given.
  */
@@ -284,6 +328,53 @@ EstelunyaWalkResult estelunya_walk(
     uint32_t service, uint32_t repeat,
     uint32_t day, uint32_t month, uint32_t year,
     uint32_t *rows, size_t rows_len);
+
+/*
+ * The same questions by an index: of a table and its own index exactly the answers and the rows of the questions above, and what one costs does not grow with the table. `table`
+ * and `index` may be any words. The words are not looked through: 21 where there is no header of a table, 43 where the index has a length that this table's cannot have, or
+ * points to a place where no sound record stands. That both belong together is for the caller to keep: see above.
+ */
+
+EstelunyaDayResult estelunya_quick_day(
+    const uint32_t *table, size_t table_len,
+    const uint32_t *index, size_t index_len,
+    uint32_t day, uint32_t month, uint32_t year,
+    uint32_t field);
+
+EstelunyaInterchangeResult estelunya_quick_interchange(
+    const uint32_t *table, size_t table_len,
+    const uint32_t *index, size_t index_len,
+    uint32_t stop, uint32_t arriving, uint32_t departing);
+
+EstelunyaInterchangeResult estelunya_quick_interchange_between(
+    const uint32_t *table, size_t table_len,
+    const uint32_t *index, size_t index_len,
+    uint32_t stop, uint32_t arriving, uint32_t departing);
+
+EstelunyaNameResult estelunya_quick_stop_name(
+    const uint32_t *table, size_t table_len,
+    const uint32_t *index, size_t index_len,
+    const uint8_t *bahnhof, size_t bahnhof_len,
+    uint32_t stop, uint32_t language, uint32_t kind);
+
+EstelunyaWalkResult estelunya_quick_walk(
+    const uint32_t *table, size_t table_len,
+    const uint32_t *index, size_t index_len,
+    uint32_t service, uint32_t repeat,
+    uint32_t day, uint32_t month, uint32_t year,
+    uint32_t *rows, size_t rows_len);
+
+/*
+ * Writes the services of a table back as FPLAN, in one clean form: lines of 60 bytes, the last of them LF. Loaded beside the same other files it gives the same table but for the opening
+ * lines, if the table is that of an accepted delivery.
+ *
+ * Written: `text` begins with the bytes, as many as the answer says, and the bytes after them hold what they held; none for a table without services. Refused: all bytes hold what they
+ * held: 21; 44, a value does not fit its columns or would not be read back as it is (never for the table of an accepted delivery); 45, fewer bytes were lent than are needed, and the
+ * answer says how many. A call with none asks for their number.
+ */
+EstelunyaWriteResult estelunya_write(
+    const uint32_t *table, size_t table_len,
+    uint8_t *text, size_t text_len);
 
 /*
  * Arithmetic on operating days, inside a period of `n` days: no table is asked for. A field is the BIT_WORDS words that a table has after a bit field's

@@ -52,7 +52,7 @@ static inline const char *estelunya_refusal_text(uint32_t number) {
     case 26: return "a class is over 13";
     case 27: return "the stop is not in the table";
     case 28: return "there is no such bit field in the table";
-    case 29: return "the rows lent are too short";
+    case 29: return "the words lent are too few";
     case 31: return "the bit field of a leg is not in the table";
     case 33: return "a leg does not have exactly one category";
     case 34: return "a leg does not have exactly one range of operating days";
@@ -63,6 +63,9 @@ static inline const char *estelunya_refusal_text(uint32_t number) {
     case 40: return "there is no such language or type";
     case 41: return "the names of the stop are not inside the bytes of BAHNHOF given";
     case 42: return "the words are not a bit field with the frame of the period";
+    case 43: return "the words are not this table's index";
+    case 44: return "a value of the table does not fit its columns of FPLAN, or would not be read back as it is";
+    case 45: return "the bytes lent are too few for the text";
     default: return "";
     }
 }

@@ -1,5 +1,5 @@
 /*
- * A whole program in C: loads a delivery, asks the name of its last call's stop, and walks its first service on 05.12.2025 and 06.12.2025.
+ * A whole program in C: loads a delivery, makes its index, asks the name of its last call's stop, and walks its first service on 05.12.2025 and 06.12.2025.
  *
  *     cc -Iinclude include/example.c -Llib -lestelunya -o example
  *     ./example [DIRECTORY]
@@ -18,6 +18,15 @@ typedef struct File {
     uint8_t *bytes;
     size_t length;
 } File;
+
+/* A table, the index that was made of it, and the bytes of BAHNHOF that were loaded with it: the three stay together. */
+typedef struct Loaded {
+    const uint32_t *table;
+    size_t words;
+    const uint32_t *index;
+    size_t index_words;
+    const File *bahnhof;
+} Loaded;
 
 /* In the order in which a load is given them. */
 enum { ECKDATEN, BITFELD, BAHNHOF, UMSTEIGB, FPLAN, ZUGART, FILES };
@@ -70,8 +79,10 @@ static const char *clock_text(char *text, const uint32_t *row, size_t at, uint32
     return text;
 }
 
-static void show_name(const uint32_t *table, size_t words, const File *bahnhof, uint32_t stop) {
-    EstelunyaNameResult name = estelunya_stop_name(table, words, bahnhof->bytes, bahnhof->length, stop, 'e', 0);
+static void show_name(const Loaded *of, uint32_t stop) {
+    const File *bahnhof = of->bahnhof;
+    EstelunyaNameResult name =
+        estelunya_quick_stop_name(of->table, of->words, of->index, of->index_words, bahnhof->bytes, bahnhof->length, stop, 'e', 0);
     if (name.number != 0) {
         printf("refused %u: %s", (unsigned)name.number, estelunya_refusal_text(name.number));
     } else {
@@ -80,10 +91,10 @@ static void show_name(const uint32_t *table, size_t words, const File *bahnhof, 
 }
 
 /* The run itself of the first service, on a day of a month of 2025. */
-static void walk(const uint32_t *table, size_t words, const File *bahnhof, uint32_t day, uint32_t month) {
+static void walk(const Loaded *of, uint32_t day, uint32_t month) {
     static uint32_t rows[ESTELUNYA_MOST_ROW_WORDS];
-    EstelunyaWalkResult walked =
-        estelunya_walk(table, words, 0, 0, day, month, 2025, rows, ESTELUNYA_MOST_ROW_WORDS);
+    EstelunyaWalkResult walked = estelunya_quick_walk(
+        of->table, of->words, of->index, of->index_words, 0, 0, day, month, 2025, rows, ESTELUNYA_MOST_ROW_WORDS);
     const uint32_t *row = rows;
     printf("on %02u.%02u.2025: ", (unsigned)day, (unsigned)month);
     if (walked.number != 0) {
@@ -100,7 +111,7 @@ static void walk(const uint32_t *table, size_t words, const File *bahnhof, uint3
         printf("  %s %s ", clock_text(arrival, row, ESTELUNYA_ROW_ARRIVAL_AT, ESTELUNYA_ARRIVAL),
                clock_text(departure, row, ESTELUNYA_ROW_DEPARTURE_AT, ESTELUNYA_DEPARTURE));
         printf("%07u ", (unsigned)row[ESTELUNYA_ROW_STOP_AT]);
-        show_name(table, words, bahnhof, row[ESTELUNYA_ROW_STOP_AT]);
+        show_name(of, row[ESTELUNYA_ROW_STOP_AT]);
         putchar('\n');
     }
 }
@@ -113,17 +124,33 @@ static uint32_t last_stop(const uint32_t *table) {
     return stops[ESTELUNYA_STOP_WORDS * (size_t)call[ESTELUNYA_CALL_PLACE_AT] + ESTELUNYA_STOP_NUMBER_AT];
 }
 
-static void ask(const uint32_t *table, size_t words, const File *bahnhof) {
+static void ask(const Loaded *of) {
+    const uint32_t *table = of->table;
     if (table[ESTELUNYA_SERVICES_AT] == 0) {
         puts("no services");
         return;
     }
     printf("service %05u ends at ", (unsigned)table[table[ESTELUNYA_FIRST_SERVICE_AT] + ESTELUNYA_NUMBER_AT]);
-    show_name(table, words, bahnhof, last_stop(table));
+    show_name(of, last_stop(table));
     putchar('\n');
-    walk(table, words, bahnhof, 5, 12);
-    walk(table, words, bahnhof, 6, 12);
-    walk(table, words, bahnhof, 31, 11);
+    walk(of, 5, 12);
+    walk(of, 6, 12);
+    walk(of, 31, 11);
+}
+
+/* Makes the index, once after the load, and asks by it. */
+static void ask_by_index(const uint32_t *table, size_t words, const File *bahnhof) {
+    /* An index lent no words says how many it needs: 29. */
+    size_t needed = estelunya_index(table, words, NULL, 0).words;
+    uint32_t *index = lent(needed, sizeof *index);
+    Loaded of;
+    of.table = table;
+    of.words = words;
+    of.index = index;
+    of.index_words = estelunya_index(table, words, index, needed).words;
+    of.bahnhof = bahnhof;
+    ask(&of);
+    free(index);
 }
 
 int main(int count, char **words) {
@@ -149,7 +176,7 @@ int main(int count, char **words) {
 
     if (loaded.number == 0) {
         printf("accepted: %u words, and %lu are enough\n", (unsigned)loaded.words, (unsigned long)room);
-        ask(table, loaded.words, &files[BAHNHOF]);
+        ask_by_index(table, loaded.words, &files[BAHNHOF]);
     } else {
         printf("refused %u file %u line %u column %lu: %s\n", (unsigned)loaded.number, (unsigned)loaded.file, (unsigned)loaded.line,
                (unsigned long)loaded.column, estelunya_offence_text(loaded.number));

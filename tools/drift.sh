@@ -41,7 +41,7 @@ of_rust() {
 }
 
 of_c() {
-    types='s/const uint8_t \*\([a-z_]*\)/\1: *const u8/g; s/const uint32_t \*\([a-z_]*\)/\1: *const u32/g; s/uint32_t \*\([a-z_]*\)/\1: *mut u32/g
+    types='s/const uint8_t \*\([a-z_]*\)/\1: *const u8/g; s/const uint32_t \*\([a-z_]*\)/\1: *const u32/g; s/uint8_t \*\([a-z_]*\)/\1: *mut u8/g; s/uint32_t \*\([a-z_]*\)/\1: *mut u32/g
         s/size_t \([a-z_]*\)/\1: usize/g; s/uint32_t \([a-z_]*\)/\1: u32/g'
     bare_c "$1" | grep -o 'typedef struct Estelunya[A-Za-z]* {[^}]*}' | sed -e 's/typedef struct Estelunya/struct /' -e "$types" -e 's/;/,/g' | tidy
     bare_c "$1" | grep -o '\(Estelunya[A-Za-z]*\|uint32_t\|size_t\) estelunya_[a-z_]*([^)]*)' | sed -e 's/(void)/()/' \

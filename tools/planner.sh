@@ -33,7 +33,7 @@ cases=$!
 trap 'kill "$cases" 2>/dev/null || true' EXIT
 
 linked trial_week planner/examples/trial_week.rs
-tests='dates days handles helper largest names refusals room rows runs table'
+tests='dates days handles helper index largest names refusals room rows runs table'
 for test in $tests; do linked "$test" "planner/tests/$test.rs" --test; done
 program own_tests planner/src/lib.rs --test -L "$ARCHIVE" -l static=estelunya
 linked desk planner/src/bin/desk/main.rs
@@ -63,6 +63,11 @@ mended=$out/delivery-of-desk
 rm -rf "$mended"
 cp -r crates/ferry/data "$mended"
 desk_says 0 'accepted days 7 bitfields 1 stops 3 interchange 1 categories 1 services 1 words 82' "$mended"
+# Written back clean, and that loaded again; the trial week's services have 7 lines.
+rm -rf "$mended-clean"
+run "$out/desk" --clean "$mended" "$mended-clean" | grep -q '^clean: loaded again from there: the same timetable' || die 'desk --clean'
+[ "$(wc -c <"$mended-clean/FPLAN")" = 420 ] || die 'desk --clean: the length of FPLAN'
+desk_says 0 'accepted days 7 bitfields 1 stops 3 interchange 1 categories 1 services 1 words 82' "$mended-clean"
 sed -i '2s/%$//' "$mended/FPLAN"
 desk_says 1 'refused 4 file 5 line 2 column 59' "$mended"
 rm "$mended/UMSTEIGB"

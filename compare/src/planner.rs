@@ -73,7 +73,7 @@ impl Boundary for Planner {
         match walked {
             Ok(Walk::Rows(rows)) => [0, rows.iter().len() as u32, 0],
             Ok(Walk::NotRunning) => [0, 0, 0],
-            Err(Refusal::RowsTooShort { needed }) => [29, 0, needed],
+            Err(Refusal::RowsTooShort { needed }) => [29, 0, size_word(needed)],
             Err(refusal) => [refusal.number(), 0, 0],
         }
     }

@@ -4,7 +4,7 @@
 //!
 //! [`Timetable::load`](crate::Timetable::load) takes what it needs from the heap, and knows beforehand how much that is: the words that are enough for files of these sizes ([`room`](crate::by_number::room); that they are is
 //! proved), which take less than the bytes of the files once again, and four words of four bytes (helper words) for each line of BITFELD, BAHNHOF and UMSTEIGB. A delivery is loaded once, never a second time with more words. Afterwards the
-//! timetable keeps the table's own words, BAHNHOF's bytes, and eight bytes a service; the rest is given back. No file is over 16 MiB (16,777,216 bytes): a longer one is refused. So a host can say its most before it reads a file
+//! timetable keeps the table's own words, its index, which is shorter, and BAHNHOF's bytes; the rest is given back. No file is over 16 MiB (16,777,216 bytes): a longer one is refused. So a host can say its most before it reads a file
 //! ([`room_for`](crate::by_number::room_for)): 55 MB for the words of the table if all files have 16 MiB. The helper words are the larger part, since every line counts, a blank one too: three files of 16 MiB that are nothing but LF
 //! need 805,306,624 bytes, so that the most is about 860 MB, besides the files themselves. No delivery that is meant needs that (BAHNHOF's shortest line has 13 bytes), but a broken export may: a host whose memory is
 //! bounded caps the sizes of the files, or the number of lines of BITFELD, BAHNHOF and UMSTEIGB ([`helper_words`](crate::by_number::helper_words) says the words before a load), and does not load what is over. The archive itself takes no heap, and little stack: the crate's tests load and walk the largest service on a thread of 64 KiB.
@@ -101,11 +101,13 @@
 //!
 //! # What a question costs
 //!
-//! A question that the archive answers first looks whether the words are a table, every time: that is proved, and grows with the table, about 0.3 ns a word (docs/MEASURED.md); a tenth of a
-//! millisecond for 300,000 words. That is so for [`Service::runs`](crate::Service::runs), [`Run::calls`](crate::Run::calls), [`BitField::runs_on`](crate::BitField::runs_on), [`Stop::name`](crate::Stop::name),
-//! [`Stop::interchange`](crate::Stop::interchange) and [`Call::interchange_to`](crate::Call::interchange_to). Who asks them in an inner loop asks once for the day, and keeps the answers. Arithmetic on days takes some microseconds whatever the table.
-//! What is only read (numbers, routes, ranges, periods) takes no call of the archive, but [`Opened::stop_by_number`](crate::Opened::stop_by_number) and a range's bit field are looked for
-//! from the first.
+//! Its answer, and not the timetable's size: with the load an index is made, and every question of a handle is asked by it. A walk takes some microseconds, a day, a name or an interchange
+//! time a fraction of one (docs/MEASURED.md), of a village's ferry and of a nation's railway alike. So ask when you need to know, and ask again the next time. **Put no cache in front**: what a
+//! cache holds is last night's once the timetable has been swapped, and a ferry has sailed empty for that. A list costs as much as it gives: [`Opened::bit_fields`](crate::Opened::bit_fields) and its like
+//! a step for each, [`Service::runs`](crate::Service::runs) one walk and a step for each run, [`Run::calls`](crate::Run::calls) one walk. Arithmetic on days takes some microseconds.
+//!
+//! The index is made of the words that were just loaded, and the timetable keeps the two together: nothing can part them. (Who lends the words himself has to, see
+//! [`Table::with_index`](crate::by_number::Table::with_index).)
 //!
 //! # What a class is
 //!

@@ -42,6 +42,17 @@
 //! let saturday = Date { day: 6, month: 12, year: 2025 };
 //! assert_eq!(table.walk(0, 0, saturday, &mut lent)?, Walk::NotRunning);
 //!
+//! // the same by an index, made once: what a question costs does not grow with the table then
+//! let mut index = vec![0; table.index_words()?];
+//! table.make_index(&mut index)?;
+//! assert_eq!(table.check_index(&index), Ok(()));
+//! let indexed = table.with_index(&index);
+//! assert_eq!(indexed.walk(0, 0, saturday, &mut lent)?, Walk::NotRunning);
+//! assert_eq!(indexed.interchange_between(1_000_022, boat, boat)?, 3);
+//!
+//! // FPLAN in one clean form, lines of 60 bytes
+//! assert_eq!(table.fplan()?.len(), 7 * 60);
+//!
 //! // operating days as sets: bit field 000001 is Monday to Friday, 000000 each day of the period
 //! let (weekdays, daily) = (table.bit_field(1)?, table.bit_field(0)?);
 //! assert_eq!((weekdays.day_count(), (daily - weekdays).day_count()), (5, 2));
@@ -68,12 +79,15 @@
 mod ask;
 mod contents;
 mod days;
+pub(crate) mod index;
 pub(crate) mod load;
 pub(crate) mod names;
+mod write;
 
 pub use crate::row::category_word;
 pub use crate::runs::Run;
 pub use ask::{Date, Table, Walk};
 pub use days::BitField;
+pub use index::Indexed;
 pub use load::{helper_words, load, load_with, room, room_for, Lengths, Loaded};
 pub use names::Stop;

@@ -10,18 +10,19 @@ use std::ops::{BitAnd, BitOr, Not, Sub};
 use crate::by_number;
 use crate::by_number::names::{Language, NameType};
 
-use crate::by_number::Table;
+use crate::by_number::{Indexed, Table};
 use crate::date::Date;
 use crate::layout::{
-    ADMINISTRATION_AT, ARRIVAL, BIT_FIELD_NUMBER_AT, CALLS_AT, CALL_ADMINISTRATION_AT, CALL_ARRIVAL_AT,
-    CALL_DEPARTURE_AT, CALL_FLAGS_AT, CALL_NUMBER_AT, CALL_PLACE_AT, CALL_WORDS, CATEGORIES_AT, CATEGORY_CODE_AT,
-    CATEGORY_FROM_AT, CATEGORY_TO_AT, CATEGORY_WORDS, CLASS_AT, CLASS_CODE_AT, DAYS_AT, DAYS_FIELD_AT, DAYS_FROM_AT,
-    DAYS_TO_AT, DAYS_WORDS, DEPARTURE, EVERY_STOP, EXTRAS_AT, EXTRA_CODE_AT, EXTRA_FIELD_AT, EXTRA_FROM_AT,
-    EXTRA_TO_AT, EXTRA_WORDS, INTERCHANGE_FIRST_TIME_AT, INTERCHANGE_SECOND_TIME_AT, INTERCHANGE_STOP_AT, NO_ALIGHTING,
-    NO_BOARDING, NUMBER_AT, OPENING_LINE_AT, ROW_CATEGORY_AT, ROW_WORDS, SERVICE_WORDS, STOP_NUMBER_AT,
+    ADMINISTRATION_AT, ARRIVAL, BIT_FIELD_BITS_AT, BIT_FIELD_NUMBER_AT, CALLS_AT, CALL_ADMINISTRATION_AT,
+    CALL_ARRIVAL_AT, CALL_DEPARTURE_AT, CALL_FLAGS_AT, CALL_NUMBER_AT, CALL_PLACE_AT, CALL_WORDS, CATEGORIES_AT,
+    CATEGORY_CODE_AT, CATEGORY_FROM_AT, CATEGORY_TO_AT, CATEGORY_WORDS, CLASS_AT, CLASS_CODE_AT, DAYS_AT,
+    DAYS_FIELD_AT, DAYS_FROM_AT, DAYS_TO_AT, DAYS_WORDS, DEPARTURE, EVERY_STOP, EXTRAS_AT, EXTRA_CODE_AT,
+    EXTRA_FIELD_AT, EXTRA_FROM_AT, EXTRA_TO_AT, EXTRA_WORDS, INTERCHANGE_FIRST_TIME_AT, INTERCHANGE_SECOND_TIME_AT,
+    INTERCHANGE_STOP_AT, NO_ALIGHTING, NO_BOARDING, NUMBER_AT, OPENING_LINE_AT, ROW_CATEGORY_AT, ROW_WORDS,
+    SERVICE_WORDS, STOP_NUMBER_AT,
 };
 use crate::refusal::Refusal;
-use crate::row::{six_bytes, three_bytes, Row};
+use crate::row::{category_word, six_bytes, three_bytes, Row};
 use crate::runs::Runs;
 use crate::timetable::{Period, Timetable};
 
@@ -48,6 +49,10 @@ impl<'t> Opened<'t> {
         self.timetable.by_number()
     }
 
+    fn indexed(self) -> Indexed<'t> {
+        self.timetable.indexed()
+    }
+
     /// The period of the delivery.
     #[must_use]
     pub fn period(self) -> Period {
@@ -66,7 +71,9 @@ impl<'t> Opened<'t> {
 
     /// All bit fields, in BITFELD's order.
     pub fn bit_fields(self) -> impl Listed<BitField<'t>> + 't {
-        self.table().bit_field_records().map(move |record| self.bit_field(record[BIT_FIELD_NUMBER_AT]))
+        self.table()
+            .bit_field_records()
+            .map(move |record| self.days_of(record[BIT_FIELD_NUMBER_AT], &record[BIT_FIELD_BITS_AT..]))
     }
 
     /// All categories that a service may have, in ZUGART's order.
@@ -100,28 +107,37 @@ impl<'t> Opened<'t> {
     /// The stop with this number.
     #[must_use]
     pub fn stop_by_number(self, number: u32) -> Option<Stop<'t>> {
-        self.stops().find(|stop| stop.number == number)
+        Some(number).filter(|number| self.indexed().has_stop(*number)).map(|number| self.stop(number))
     }
 
     /// The bit field with this number; 0 is [`Opened::each_day`]. Numbers of bit fields change from delivery to delivery: only one that was read in
     /// this delivery finds the days that were meant.
     #[must_use]
     pub fn bit_field_by_number(self, number: u32) -> Option<BitField<'t>> {
-        match self.table().bit_field(number) {
-            Ok(days) => Some(BitField { opened: self, number: Some(number), days }),
-            Err(_) => None,
+        match number {
+            0 => self.table().bit_field(0).ok().map(|days| BitField { opened: self, number: Some(0), days }),
+            _ => self.indexed().bit_field_words(number).map(|bits| self.days_of(number, bits)),
         }
     }
 
     /// The category with this code, three bytes as they stand in ZUGART.
     #[must_use]
     pub fn category_by_code(self, code: [u8; 3]) -> Option<ServiceCategory<'t>> {
-        self.categories().find(|category| category.code() == code)
+        let code = category_word(code);
+        self.indexed().class_of(code).map(|class| ServiceCategory { mark: PhantomData, code, class })
     }
 
     /// A category that the table names. That each category of a service is in ZUGART is proved.
     fn category(self, code: [u8; 3]) -> ServiceCategory<'t> {
         self.category_by_code(code).unwrap_or_else(|| panic!("the timetable does not list category {:?}", code))
+    }
+
+    /// A bit field of the table, by the words of its bits: that they have the frame of the period is proved.
+    fn days_of(self, number: u32, bits: &[u32]) -> BitField<'t> {
+        match self.table().bit_field_from(bits) {
+            Ok(days) => BitField { opened: self, number: Some(number), days },
+            Err(refusal) => panic!("the archive accepted bit field {}: {}", number, refusal),
+        }
     }
 
     /// A bit field that the table names.
@@ -188,9 +204,9 @@ impl<'t> Service<'t> {
     /// [`Refusal::OutsidePeriod`], and no other.
     pub fn runs(self, date: Date) -> Result<impl Listed<Run<'t>> + 't, Refusal> {
         // Lent no rows, a walk says whether the service runs, and if it does, how many words its rows need.
-        let calls = match self.opened.table().walk(self.index as u32, 0, date.into(), &mut []) {
+        let calls = match self.opened.indexed().walk(self.index as u32, 0, date.into(), &mut []) {
             Ok(_) => 0,
-            Err(Refusal::RowsTooShort { needed }) => needed as usize / ROW_WORDS,
+            Err(Refusal::RowsTooShort { needed }) => needed / ROW_WORDS,
             Err(refusal) => return Err(refusal),
         };
         let count = if calls == 0 { 0 } else { self.kind().last() + 1 };
@@ -426,7 +442,7 @@ impl<'t> Run<'t> {
         let mut words = vec![0; self.calls * ROW_WORDS];
         let opened = self.service.opened;
         // That no run of an accepted delivery is refused is proved.
-        match opened.table().walk(self.service.index as u32, self.number, self.date.into(), &mut words) {
+        match opened.indexed().walk(self.service.index as u32, self.number, self.date.into(), &mut words) {
             Ok(by_number::Walk::Rows(rows)) if rows.len() == self.calls => {}
             other => panic!("the archive walked {:?} to {:?}", self, other),
         }
@@ -584,13 +600,13 @@ impl<'t> Stop<'t> {
     ///
     /// [`Refusal::NoSuchLanguageOrType`], and no other.
     pub fn name(self, language: Language, kind: NameType) -> Result<&'t [u8], Refusal> {
-        self.opened.table().stop(self.number, self.opened.timetable.bahnhof()).name(language, kind)
+        self.opened.indexed().stop_name(self.number, self.opened.timetable.bahnhof(), language, kind)
     }
 
     /// All its names with their patterns, as they stand from column 13 of its line on.
     #[must_use]
     pub fn name_field(self) -> &'t [u8] {
-        self.opened.table().stop_name(self.number, self.opened.timetable.bahnhof()).unwrap_or(b"")
+        self.opened.indexed().name_field(self.number, self.opened.timetable.bahnhof()).unwrap_or(b"")
     }
 
     /// The minutes to change here from a service of one class to a service of another, each 0 to 13: see
@@ -600,7 +616,7 @@ impl<'t> Stop<'t> {
     ///
     /// [`Refusal::ClassOver13`], and no other.
     pub fn interchange(self, arriving: u32, departing: u32) -> Result<u32, Refusal> {
-        self.opened.table().interchange(self.number, arriving, departing)
+        self.opened.indexed().interchange(self.number, arriving, departing)
     }
 
     /// The minutes to change here from a service of one category to a service of another, by their classes.
@@ -617,7 +633,7 @@ impl<'t> Stop<'t> {
     /// ```
     #[must_use]
     pub fn interchange_between(self, arriving: ServiceCategory<'t>, departing: ServiceCategory<'t>) -> u32 {
-        let answer = self.opened.table().interchange_between(self.number, arriving.code, departing.code);
+        let answer = self.opened.indexed().interchange_between(self.number, arriving.code, departing.code);
         // A stop and categories of the table are never refused.
         answer.unwrap_or_else(|refusal| panic!("{:?}, {:?} to {:?}: {}", self, arriving, departing, refusal))
     }
@@ -723,7 +739,7 @@ impl<'t> BitField<'t> {
     ///
     /// [`Refusal::OutsidePeriod`], and no other.
     pub fn runs_on(self, date: Date) -> Result<bool, Refusal> {
-        let runs = self.opened.table().day(self.number.unwrap_or(0), date.into())?;
+        let runs = self.opened.indexed().day(self.number.unwrap_or(0), date.into())?;
         // Of a field that has no number the archive can only be asked about the date.
         Ok(runs && (self.number.is_some() || self.has(date.day_number() - self.opened.period().first.day_number())))
     }

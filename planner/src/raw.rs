@@ -3,7 +3,7 @@
 
 /// The version of the archive's functions and of a table's words that this crate was written for. The crate compares it with
 /// [`estelunya_version`] before its first call; who calls a function of this module compares it himself.
-pub const VERSION: u32 = 1;
+pub const VERSION: u32 = 2;
 
 /// The answer of [`estelunya_load`].
 #[repr(C)]
@@ -65,6 +65,26 @@ pub struct WalkResult {
     pub needed: u32,
 }
 
+/// The answer of [`estelunya_index`].
+#[repr(C)]
+#[derive(Clone, Copy, Debug, PartialEq, Eq)]
+pub struct IndexResult {
+    /// 0: made; else the refusal: 21, 29.
+    pub number: u32,
+    /// The words of the index, also for 29; 0 for 21.
+    pub words: usize,
+}
+
+/// The answer of [`estelunya_write`].
+#[repr(C)]
+#[derive(Clone, Copy, Debug, PartialEq, Eq)]
+pub struct WriteResult {
+    /// 0: written; else the refusal: 21, 44, 45.
+    pub number: u32,
+    /// The bytes of the text, also for 45; else 0.
+    pub bytes: usize,
+}
+
 /// The answer of [`estelunya_days_union`], [`estelunya_days_intersection`], [`estelunya_days_difference`] and
 /// [`estelunya_days_complement`].
 #[repr(C)]
@@ -84,7 +104,7 @@ pub struct DayCountResult {
     pub days: u32,
 }
 
-// The contract of all: each pointer is good for its length (reads, and writes for `table` and `helper` of the load, `rows` and `result`);
+// The contract of all: each pointer is good for its length (reads, and writes for `table` and `helper` of the load, `index` of the making, `rows`, `text` and `result`);
 // the words lent overlap no other argument. Nothing is asked of what the bytes, words and numbers say.
 extern "C" {
     /// The version of the archive, which grows whenever a function of it, or a table's words, change.
@@ -160,6 +180,77 @@ extern "C" {
         rows: *mut u32,
         rows_len: usize,
     ) -> WalkResult;
+
+    /// Makes the index of a table in the words lent. Made: later words stay. Refused: all words stay.
+    pub fn estelunya_index(table: *const u32, table_len: usize, index: *mut u32, index_len: usize) -> IndexResult;
+
+    /// 0 exactly if the words are this table's index; else 21 or 43.
+    pub fn estelunya_check_index(table: *const u32, table_len: usize, index: *const u32, index_len: usize) -> u32;
+
+    /// [`estelunya_day`] by an index.
+    pub fn estelunya_quick_day(
+        table: *const u32,
+        table_len: usize,
+        index: *const u32,
+        index_len: usize,
+        day: u32,
+        month: u32,
+        year: u32,
+        field: u32,
+    ) -> DayResult;
+
+    /// [`estelunya_interchange`] by an index.
+    pub fn estelunya_quick_interchange(
+        table: *const u32,
+        table_len: usize,
+        index: *const u32,
+        index_len: usize,
+        stop: u32,
+        arriving: u32,
+        departing: u32,
+    ) -> InterchangeResult;
+
+    /// [`estelunya_interchange_between`] by an index.
+    pub fn estelunya_quick_interchange_between(
+        table: *const u32,
+        table_len: usize,
+        index: *const u32,
+        index_len: usize,
+        stop: u32,
+        arriving: u32,
+        departing: u32,
+    ) -> InterchangeResult;
+
+    /// [`estelunya_stop_name`] by an index.
+    pub fn estelunya_quick_stop_name(
+        table: *const u32,
+        table_len: usize,
+        index: *const u32,
+        index_len: usize,
+        bahnhof: *const u8,
+        bahnhof_len: usize,
+        stop: u32,
+        language: u32,
+        kind: u32,
+    ) -> NameResult;
+
+    /// [`estelunya_walk`] by an index.
+    pub fn estelunya_quick_walk(
+        table: *const u32,
+        table_len: usize,
+        index: *const u32,
+        index_len: usize,
+        service: u32,
+        repeat: u32,
+        day: u32,
+        month: u32,
+        year: u32,
+        rows: *mut u32,
+        rows_len: usize,
+    ) -> WalkResult;
+
+    /// Writes FPLAN back from a table into the bytes lent. Written: later bytes stay. Refused: all bytes stay.
+    pub fn estelunya_write(table: *const u32, table_len: usize, text: *mut u8, text_len: usize) -> WriteResult;
 
     /// The days of either of two bit fields of n days. Refused: the result words stay.
     pub fn estelunya_days_union(

@@ -192,7 +192,7 @@ impl fmt::Display for LoadRefusal {
 impl Error for LoadRefusal {}
 
 /// Why a question, or arithmetic on operating days, is refused. 32 is retired (document 02, No. 10). 31 to 36 cannot occur on the
-/// unaltered table of an accepted delivery, nor 38 for categories of its own runs, nor 39 and 41 with its own BAHNHOF: that is proved.
+/// unaltered table of an accepted delivery, nor 38 for categories of its own runs, nor 39 and 41 with its own BAHNHOF, nor 44, nor 43 with its own index: that is proved.
 #[derive(Clone, Copy, Debug, PartialEq, Eq)]
 #[non_exhaustive]
 pub enum Refusal {
@@ -213,10 +213,10 @@ pub enum Refusal {
     StopUnknown,
     /// 28: the bit field is not in the table.
     NoSuchBitField,
-    /// 29: the rows lent are too short for the walk.
+    /// 29: the words lent are too few: rows for the walk, or words for the index.
     RowsTooShort {
-        /// The words that the rows need.
-        needed: u32,
+        /// The words that are needed.
+        needed: usize,
     },
     /// 31: the bit field of a leg's operating days is not in the table.
     BitFieldUnknown,
@@ -238,9 +238,18 @@ pub enum Refusal {
     NameOutside,
     /// 42: the words are not twelve with the frame of the period, or the period does not have 1 to 380 days.
     NotAField,
+    /// 43: the words are not this table's index. Mend: make the index again, of the words that are asked.
+    NotItsIndex,
+    /// 44: a value of the table does not fit its columns of FPLAN, or would not be read back as it is.
+    NotWritable,
+    /// 45: the bytes lent are too few for the text.
+    TextTooShort {
+        /// The bytes that the text needs.
+        needed: usize,
+    },
 }
 
-const REFUSALS: [(u32, Refusal, &str); 19] = [
+const REFUSALS: [(u32, Refusal, &str); 22] = [
     (21, Refusal::NotATable, "the words are not a table"),
     (22, Refusal::NoSuchDate, "there is no such date"),
     (23, Refusal::OutsidePeriod, "the date is outside the period"),
@@ -249,7 +258,7 @@ const REFUSALS: [(u32, Refusal, &str); 19] = [
     (26, Refusal::ClassOver13, "a class is over 13"),
     (27, Refusal::StopUnknown, "the stop is not in the table"),
     (28, Refusal::NoSuchBitField, "there is no such bit field in the table"),
-    (29, Refusal::RowsTooShort { needed: 0 }, "the rows lent are too short"),
+    (29, Refusal::RowsTooShort { needed: 0 }, "the words lent are too few"),
     (31, Refusal::BitFieldUnknown, "the bit field of a leg is not in the table"),
     (33, Refusal::Categories, "a leg does not have exactly one category"),
     (34, Refusal::OperatingDays, "a leg does not have exactly one range of operating days"),
@@ -260,18 +269,26 @@ const REFUSALS: [(u32, Refusal, &str); 19] = [
     (40, Refusal::NoSuchLanguageOrType, "there is no such language or type"),
     (41, Refusal::NameOutside, "the names of the stop are not inside the bytes of BAHNHOF given"),
     (42, Refusal::NotAField, "the words are not a bit field with the frame of the period"),
+    (43, Refusal::NotItsIndex, "the words are not this table's index"),
+    (
+        44,
+        Refusal::NotWritable,
+        "a value of the table does not fit its columns of FPLAN, or would not be read back as it is",
+    ),
+    (45, Refusal::TextTooShort { needed: 0 }, "the bytes lent are too few for the text"),
 ];
 
 impl Refusal {
-    /// Its number, 21 to 29, 31, 33 to 36 or 38 to 42.
+    /// Its number, 21 to 29, 31, 33 to 36 or 38 to 45.
     pub fn number(self) -> u32 {
         self.entry().0
     }
 
-    /// The refusal of a number, with the words needed if it is 29; `None` unless 21 to 29, 31, 33 to 36 or 38 to 42.
-    pub fn from_number(number: u32, needed: u32) -> Option<Refusal> {
+    /// The refusal of a number, with the words needed if it is 29, and the bytes if it is 45; `None` unless 21 to 29, 31, 33 to 36 or 38 to 45.
+    pub fn from_number(number: u32, needed: usize) -> Option<Refusal> {
         match REFUSALS.iter().find(|entry| entry.0 == number)?.1 {
             Refusal::RowsTooShort { .. } => Some(Refusal::RowsTooShort { needed }),
+            Refusal::TextTooShort { .. } => Some(Refusal::TextTooShort { needed }),
             other => Some(other),
         }
     }
@@ -289,6 +306,7 @@ impl fmt::Display for Refusal {
         write!(f, "refused {}: {}", number, text)?;
         match self {
             Refusal::RowsTooShort { needed } => write!(f, ": {} words are needed", needed),
+            Refusal::TextTooShort { needed } => write!(f, ": {} bytes are needed", needed),
             _ => Ok(()),
         }
     }

@@ -5,29 +5,31 @@ use std::path::{Path, PathBuf};
 use std::{fmt, fs, io};
 
 use crate::by_number::load::Files;
-use crate::by_number::{load, room, room_for, Lengths, Table};
+use crate::by_number::{load, room, room_for, Indexed, Lengths, Table};
 use crate::date::Date;
 use crate::handles::Opened;
-use crate::layout::{FIRST_DAY_AT, FIRST_SERVICE_AT, SIZE_AT};
+use crate::layout::FIRST_DAY_AT;
 use crate::refusal::{File, LoadRefusal, Offence};
 
-/// The table of one accepted delivery, with the bytes of its BAHNHOF, in which the names of its stops stand. It is never changed, and is made
-/// to stand in an [`Arc`](std::sync::Arc) all day: [`a day in the host`](crate::a_day_in_the_host).
+/// The table of one accepted delivery, with its index, and with the bytes of its BAHNHOF, in which the names of its stops stand: made by one load, and never parted. It is never changed,
+/// and is made to stand in an [`Arc`](std::sync::Arc) all day: [`a day in the host`](crate::a_day_in_the_host).
+///
+/// Every question is asked by the index, at the cost of its answer, whatever the size of the delivery: there is nothing to keep in front of it.
 ///
 /// What it holds is asked through handles ([`Service`](crate::Service), [`Stop`](crate::Stop), [`BitField`](crate::BitField),
 /// [`ServiceCategory`](crate::ServiceCategory), [`Run`](crate::Run)), which [`Timetable::open`] gives.
 pub struct Timetable {
     words: Box<[u32]>,
+    /// Made of these words, and of no others.
+    index: Box<[u32]>,
     bahnhof: Box<[u8]>,
-    /// Where each service starts, in FPLAN's order.
-    services: Box<[usize]>,
 }
 
 impl Timetable {
     /// Loads a delivery. A refused one yields no timetable; one that was loaded before is not touched.
     ///
     /// It takes the words for the table and for the work from the heap: as many as are [enough](crate::by_number::room) for files of these lengths, so that one load
-    /// does. What the table does not use is given back. BAHNHOF is copied; the files are not needed afterwards.
+    /// does. What the table does not use is given back. Its index, which is shorter than the table, is made once. BAHNHOF is copied; the files are not needed afterwards.
     ///
     /// # Errors
     ///
@@ -49,8 +51,8 @@ impl Timetable {
             answer => answer?,
         };
         words.truncate(loaded.words as usize);
-        let services = service_places(Table::new(&words));
-        Ok(Timetable { words: words.into(), bahnhof: files.bahnhof.into(), services })
+        let index = index_of(Table::new(&words));
+        Ok(Timetable { words: words.into(), index, bahnhof: files.bahnhof.into() })
     }
 
     /// How many words [`Timetable::load`] lends to the table of files with these lengths, as [`room_for`] says: known before a file is read. Helper words
@@ -188,13 +190,48 @@ impl Timetable {
     /// How many services there are. An accepted delivery may have none: a host should raise an alarm then, and not plan with it.
     #[must_use]
     pub fn service_count(&self) -> usize {
-        self.services.len()
+        self.by_number().services() as usize
     }
 
     /// The words, to be asked by bare numbers: nobody then sees whether a number was read in this timetable.
     #[must_use]
     pub fn by_number(&self) -> Table<'_> {
         Table::new(&self.words)
+    }
+
+    /// The words beside their index, to be asked by bare numbers at the cost of the answer.
+    #[must_use]
+    pub fn indexed(&self) -> Indexed<'_> {
+        self.by_number().with_index(&self.index)
+    }
+
+    /// Its services as FPLAN, in one clean form (document 02, No. 11): per service the opening line, all *G, all *A VE, other *A, then calls; lines of 60 bytes, the last of them LF. Loaded
+    /// beside the delivery's other files it is accepted, and gives the same timetable but for the opening lines; written again, the same bytes. That is proved.
+    ///
+    /// ```
+    /// # fn main() -> Result<(), Box<dyn std::error::Error>> {
+    /// # let timetable = estelunya_planner::Timetable::read("../crates/ferry/data")?;
+    /// let text = String::from_utf8(timetable.write_fplan())?;
+    /// let lines: Vec<&str> = text.lines().collect();
+    /// assert_eq!(lines[0], "*Z 00042 FERRY_       000 000                             %");
+    /// assert_eq!(lines[2], "*A VE      #0      #3 000001                              %");
+    /// assert_eq!(lines[3], "1000011                              00800 00042 FERRY_   %");
+    /// # Ok(())
+    /// # }
+    /// ```
+    #[must_use]
+    pub fn write_fplan(&self) -> Vec<u8> {
+        // Neither 21 nor 44 for the table of an accepted delivery: that is proved.
+        self.by_number().fplan().unwrap_or_else(|refusal| panic!("{:?}: {}", self, refusal))
+    }
+
+    /// The same to a file, or wherever bytes go.
+    ///
+    /// # Errors
+    ///
+    /// Those of writing.
+    pub fn write_fplan_to(&self, mut out: impl io::Write) -> io::Result<()> {
+        out.write_all(&self.write_fplan())
     }
 
     /// The bytes of BAHNHOF, as they were loaded.
@@ -205,8 +242,7 @@ impl Timetable {
 
     /// The words of the service with this index.
     pub(crate) fn service_words(&self, index: usize) -> Option<&[u32]> {
-        let from = &self.words[*self.services.get(index)?..];
-        Some(&from[..from[SIZE_AT] as usize])
+        self.indexed().service_words(index)
     }
 }
 
@@ -289,12 +325,15 @@ impl Period {
     }
 }
 
-fn service_places(table: Table<'_>) -> Box<[usize]> {
-    let mut next = table.header(FIRST_SERVICE_AT) as usize;
-    let place = |head: &[u32]| {
-        let place = next;
-        next += head[SIZE_AT] as usize;
-        place
-    };
-    table.service_heads().map(place).collect()
+/// The index of a table that was loaded.
+fn index_of(table: Table<'_>) -> Box<[u32]> {
+    let made = table.index_words().and_then(|needed| {
+        let mut index = vec![0; needed];
+        table.make_index(&mut index).map(|_| index)
+    });
+    match made {
+        Ok(index) => index.into(),
+        // Neither 21 nor 29 can be.
+        Err(refusal) => panic!("the archive made no index of a table that it had loaded: {}", refusal),
+    }
 }

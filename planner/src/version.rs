@@ -43,17 +43,17 @@ mod tests {
 
     #[test]
     #[should_panic(
-        expected = "has version 2 of the boundary (estelunya_version, not the version of the crate), and this crate was written for version 1"
+        expected = "has version 3 of the boundary (estelunya_version, not the version of the crate), and this crate was written for version 2"
     )]
     fn later() {
-        compare(2);
+        compare(3);
     }
 
     #[test]
     #[should_panic(
-        expected = "has version 0 of the boundary (estelunya_version, not the version of the crate), and this crate was written for version 1"
+        expected = "has version 1 of the boundary (estelunya_version, not the version of the crate), and this crate was written for version 2"
     )]
     fn earlier() {
-        compare(0);
+        compare(1);
     }
 }

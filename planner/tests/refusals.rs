@@ -10,7 +10,7 @@ fn numbers_and_back() {
         assert_eq!(offence.is_some(), (1..=20).contains(&number) || [37, 38, 39, 51].contains(&number));
         assert_eq!(offence.map_or(number, Offence::number), number);
         let refusal = Refusal::from_number(number, 28);
-        assert_eq!(refusal.is_some(), (21..=42).contains(&number) && ![30, 32, 37].contains(&number));
+        assert_eq!(refusal.is_some(), (21..=45).contains(&number) && ![30, 32, 37].contains(&number));
         assert_eq!(refusal.map_or(number, Refusal::number), number);
         let file = File::from_number(number);
         assert_eq!(file.is_some(), (1..=6).contains(&number));
@@ -29,7 +29,7 @@ fn texts() {
     assert_eq!(File::Umsteigb.to_string(), "UMSTEIGB");
     assert_eq!(
         Refusal::RowsTooShort { needed: 28 }.to_string(),
-        "refused 29: the rows lent are too short: 28 words are needed"
+        "refused 29: the words lent are too few: 28 words are needed"
     );
     assert_eq!(Refusal::TwoStretches.number(), 35);
     let texts: Vec<String> = (1..=51).filter_map(Offence::from_number).map(|offence| offence.to_string()).collect();

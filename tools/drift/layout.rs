@@ -178,7 +178,11 @@ fn texts() {
         match Refusal::from_number(number, 7) {
             None => assert_eq!(refusal, "", "the text of refusal {}", number),
             Some(expected) => {
-                let needed = if number == 29 { ": 7 words are needed" } else { "" };
+                let needed = match number {
+                    29 => ": 7 words are needed",
+                    45 => ": 7 bytes are needed",
+                    _ => "",
+                };
                 assert_eq!(format!("refused {}: {}{}", number, refusal, needed), expected.to_string());
             }
         }

@@ -130,11 +130,11 @@ impl<'a> Table<'a> {
             0 => Walk::NotRunning,
             listed => Walk::Rows(Rows::new(rows, listed)),
         };
-        answered(answer.number, answer.needed, walk)
+        answered(answer.number, answer.needed as usize, walk)
     }
 }
 
-pub(crate) fn answered<T>(number: u32, needed: u32, answer: T) -> Result<T, Refusal> {
+pub(crate) fn answered<T>(number: u32, needed: usize, answer: T) -> Result<T, Refusal> {
     match (number, Refusal::from_number(number, needed)) {
         (0, _) => Ok(answer),
         (_, Some(refusal)) => Err(refusal),

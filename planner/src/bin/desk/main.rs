@@ -1,12 +1,15 @@
 //! The data desk's program: loads a delivery as the planner does, and says what is to be mended.
 //!
 //!     desk [--all] [DIRECTORY]
+//!     desk --clean DIRECTORY OUT
 //!
 //! It reads the six files by name from the directory (without one: from the directory at hand), of any size. The first line is the
 //! proved answer: `accepted ..`, `refused N file F line L column C` or `unread file F`. What follows is worked out by this program: the line, the
 //! field, what the number means and how to mend it. `--all` goes on after a refused line and shows what else of the same file is likely to be refused;
-//! it mends nothing. The exit status is 0 for accepted, 1 for refused, 2 for unread. Progress of a long load goes to standard error.
+//! it mends nothing. `--clean` loads the delivery, writes it to a new or empty directory OUT with FPLAN in one clean form beside copies of the other files, loads that again, and says
+//! that it is the same timetable. The exit status is 0 for accepted, 1 for refused, 2 for unread, or not written. Progress of a long load goes to standard error.
 
+mod clean;
 mod dates;
 mod explain;
 mod form;
@@ -18,7 +21,6 @@ mod service;
 mod tests;
 
 use std::env;
-use std::ffi::OsString;
 use std::io::{stdout, Write};
 use std::path::{Path, PathBuf};
 use std::process::exit;
@@ -41,7 +43,8 @@ const REFUSED: i32 = 1;
 const UNREAD: i32 = 2;
 
 const USAGE: &str = "desk [--all] [DIRECTORY]: loads the delivery there, or at hand; status 0 accepted, 1 refused, 2 unread; \
-                     --all: what else of the refused file is likely to be refused; docs/REFUSALS.md says how to mend it";
+                     --all: what else of the refused file is likely to be refused; docs/REFUSALS.md says how to mend it\n\
+                     desk --clean DIRECTORY OUT: writes the delivery to a new or empty directory OUT, with FPLAN in one clean form";
 
 /// A load that takes longer says that it goes on, and says it again each time.
 const LONG_WAIT: Duration = Duration::from_secs(2);
@@ -53,20 +56,25 @@ const MOST_FURTHER: usize = 200;
 const MOST_NAMED: usize = 10;
 
 fn main() {
-    let (mut all, mut directory) = (false, None);
+    let (mut all, mut clean, mut given) = (false, false, Vec::new());
     for word in env::args_os().skip(1) {
         match word.to_str() {
             Some("--all") => all = true,
+            Some("--clean") => clean = true,
             Some("--help" | "-h") => {
                 println!("{}", USAGE);
                 exit(ACCEPTED)
             }
             Some(option) if option.starts_with('-') => usage(),
-            _ if directory.is_none() => directory = Some(word),
-            _ => usage(),
+            _ => given.push(PathBuf::from(word)),
         }
     }
-    let (status, text) = run(&PathBuf::from(directory.unwrap_or_else(|| OsString::from("."))), all);
+    let (status, text) = match (clean, &given[..]) {
+        (false, []) => run(Path::new("."), all),
+        (false, [directory]) => run(directory, all),
+        (true, [directory, out]) if !all => clean::run(directory, out),
+        _ => usage(),
+    };
     // A reader that has seen enough, such as `head`, is no reason to end otherwise.
     stdout().write_all(text.as_bytes()).ok();
     exit(status);

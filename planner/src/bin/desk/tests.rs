@@ -423,3 +423,57 @@ fn any_bytes() {
     let none = Answer { number: 60, file: 0, line: 0, column: 0, needed: 0 };
     assert!(screen(&trial_week(), &none).starts_with("refused 60 file 0 line 0 column 0\n"));
 }
+
+/// A delivery written back clean: into a new directory, never over another; the same timetable.
+#[test]
+fn clean() {
+    let place = std::env::temp_dir().join(format!("desk-clean-{}", std::process::id()));
+    let (from, out) = (place.join("from"), place.join("out"));
+    std::fs::create_dir_all(&from).unwrap();
+    let mut delivery = trial_week();
+    delivery.files[FPLAN as usize - 1] = plan(&[
+        "% a remark",
+        "*Z 00042 FERRY_",
+        "*A FR",
+        "*G BAT",
+        "*A VE                 000001",
+        ROUTE[0],
+        ROUTE[1],
+        ROUTE[2],
+        ROUTE[3],
+    ]);
+    for (name, file) in super::NAMES.iter().zip(&delivery.files) {
+        std::fs::write(from.join(name), file).unwrap();
+    }
+    let (status, text) = super::clean::run(&from, &out);
+    assert_eq!(status, 0, "{}", text);
+    assert!(
+        text.starts_with("accepted days 7 ") && text.contains("FPLAN of 8 lines, 480 bytes (it had 540)"),
+        "{}",
+        text
+    );
+    assert!(
+        text.ends_with("the same timetable but for the opening lines; written again: the same bytes\n"),
+        "{}",
+        text
+    );
+    let written = std::fs::read_to_string(out.join("FPLAN")).unwrap();
+    let expected = [
+        "*Z 00042 FERRY_       000 000",
+        "*G BAT      #0      #3",
+        "*A VE      #0      #3 000001",
+        "*A FR      #0      #3 000000",
+        "1000011                              00800 00042 FERRY_",
+        "1000022                       00810  00812 00042 FERRY_",
+        "1000033                       00830  00835 00042 FERRY_",
+        "1000022                       00855        00042 FERRY_",
+    ];
+    assert_eq!(written.into_bytes(), plan(&expected));
+    // not over another delivery, and nothing of a refused one
+    let (status, text) = super::clean::run(&from, &out);
+    assert!(status == 2 && text.ends_with("the directory is not empty\n"), "{}", text);
+    std::fs::write(from.join("FPLAN"), b"*X\n").unwrap();
+    let (status, text) = super::clean::run(&from, &place.join("none"));
+    assert!(status == 1 && text.starts_with("refused 12 file 5 line 1") && !place.join("none").exists(), "{}", text);
+    std::fs::remove_dir_all(&place).unwrap();
+}

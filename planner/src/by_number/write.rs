@@ -1,0 +1,41 @@
+//! FPLAN written back from a table, in one clean form (document 02, No. 11).
+
+use super::ask::{answered, Table};
+use crate::raw;
+use crate::refusal::Refusal;
+use crate::version::compared;
+
+impl Table<'_> {
+    /// Writes the services as FPLAN into the bytes lent, and says how many there are: so many from the first, later ones stay. A table without services is no bytes.
+    ///
+    /// # Errors
+    ///
+    /// 21; 44, which the table of an accepted delivery never is; 45 with the bytes needed. The bytes stay as lent.
+    ///
+    /// # Panics
+    ///
+    /// As [`load`](crate::by_number::load) does.
+    pub fn write_fplan(self, text: &mut [u8]) -> Result<usize, Refusal> {
+        compared();
+        let (words, used) = (self.words().as_ptr(), self.words().len());
+        // SAFETY: each pointer and length is that of a slice, and the mutable slice does not overlap the other.
+        let answer = unsafe { raw::estelunya_write(words, used, text.as_mut_ptr(), text.len()) };
+        answered(answer.number, answer.bytes, answer.bytes)
+    }
+
+    /// The same into bytes of their own.
+    ///
+    /// # Errors
+    ///
+    /// 21 or 44.
+    pub fn fplan(self) -> Result<Vec<u8>, Refusal> {
+        // Lent none, the archive says how many bytes it needs.
+        let mut text = match self.write_fplan(&mut []) {
+            Err(Refusal::TextTooShort { needed }) => vec![0; needed],
+            answer => vec![0; answer?],
+        };
+        let written = self.write_fplan(&mut text)?;
+        text.truncate(written);
+        Ok(text)
+    }
+}
