@@ -2,11 +2,11 @@ use Rattle.base.proofs.Laws.{tests}
 use Rattle.estelunya.proofs.write_result.Statement.{statement}
 use Rattle.estelunya.proofs.write_result.Tie as tie
 
-enum-told : tie.Need-enum-told
-enum-told c = search tests
-
 enum-known-a : tie.Need-enum-known-a
 enum-known-a c = search tests
+
+enum-known-a-2 : tie.Need-enum-known-a-2
+enum-known-a-2 c = search tests
 
 returns : tie.Need-returns
 returns c = cc
@@ -15,4 +15,4 @@ returns-2 : tie.Need-returns-2
 returns-2 c = cc
 
 pub write-result-spec : {M : Type 1} → statement M
-write-result-spec = tie.close (tie.spec enum-told enum-known-a returns returns-2)
+write-result-spec = tie.close (tie.spec enum-known-a enum-known-a-2 returns returns-2)
