@@ -1,5 +1,5 @@
-// The questions that go by no service: whether a bit field runs on a date, and how long an interchange takes, between two classes or two categories. Each of any words,
-// and (`day_by`, `interchange_by`, `between_by`, which the quick questions share) of words and an index that look-ups may go by.
+// The questions that go by no service: whether a bit field runs on a date, and how long an interchange takes, between two classes or two categories.
+// Each of any words, and (`day_by`, `interchange_by`, `between_by`, which the quick questions share) of words and an index that look-ups may go by.
 use lookups::PeriodDay;
 use lookups::Times;
 use timetable::DayAnswer;

@@ -1,5 +1,5 @@
-// The question for the name of a stop in a language and of a type (request No. 3), on any bytes of BAHNHOF: of any words (`name`), and of words and an index that
-// look-ups may go by (`name_by`, which the quick question shares).
+// The question for the name of a stop in a language and of a type (request No. 3), on any bytes of BAHNHOF: of any words (`name`), and of words and
+// an index that look-ups may go by (`name_by`, which the quick question shares).
 use lookups::StopName;
 use names::Asked;
 use names::Chosen;
