@@ -1,6 +1,6 @@
 #!/bin/sh
 # questions.sh [MIB ..]: counts the instructions of each question by the archive, plain and by an index, beside the ordinary program's (docs/ordinary-loader), on the tables of generated
-# deliveries with an FPLAN of each size (1 4 16; stops and bit fields grow with it, to 30,000 and 20,000 at 16 MiB). A walk (of 15 calls), day, interchange, between, name and board of a usual
+# deliveries with an FPLAN of each size (1 4 16, not below 1; stops and bit fields grow with it, to 30,000 and 20,000 at 16 MiB). A walk (of 15 calls), day, interchange, between, name and board of a usual
 # stop (of 8 calls, all day) are means of 20; `hub` is a board of two hours at a stop with 2,000 calls; `connection` has three parts; `write` is by the line; `index` makes the index, or the ordinary program's maps, and
 # `check` looks whether words are it; `sound` is the look whether the words are a table (21). What the archive does not have yet is left out.
 #

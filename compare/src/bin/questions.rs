@@ -16,17 +16,16 @@ use std::process::exit;
 
 use compare::boundary::{Boundary, Reader};
 use compare::functions::Connections;
-use compare::generate::connections::proposed;
 use compare::generate::plan::date_of;
 use compare::generate::raw_table::{parts, RawService, RawTable};
 use compare::generate::{counted_helper, national, National, Rng, MIB};
 use compare::layout::{
     BIT_FIELD_NUMBER_AT, CALL_PLACE_AT, CLASS_CODE_AT, FIRST_DAY_AT, KIND_AT, KIND_Z, MOST_ROW_WORDS, PERIOD_DAYS_AT,
-    REPEATS_AT, STOP_NUMBER_AT,
+    REPEATS_AT, SERVICES_AT, STOP_NUMBER_AT,
 };
 use compare::reader::connection::PART_WORDS;
 use compare::reader::{index_words, BoardQuestion};
-use ordinary_loader::{Departure, Timetable};
+use ordinary_loader::{Departure, Part, Timetable};
 
 #[path = "../archive.rs"]
 mod archive;
@@ -242,15 +241,52 @@ fn usual_stops(raw: &RawTable) -> Vec<u32> {
     stops.map(|(stop, _)| stop[STOP_NUMBER_AT]).collect()
 }
 
-/// A connection of three parts that holds.
+/// A connection of three parts that holds, looked for by the ordinary program's boards.
 fn holding(table: &[u32]) -> Vec<u32> {
-    let rng = &mut Rng::new(3);
+    let (rng, timetable) = (&mut Rng::new(3), Timetable::from_words(table));
     loop {
-        let (bent, parts) = proposed(rng, table);
-        if parts.len() == 3 * PART_WORDS && bent == table && Reader.connection(table, &[], &parts) == [0, 0] {
+        let (d, m, y) = date_of(table[FIRST_DAY_AT] + rng.below(table[PERIOD_DAYS_AT]));
+        let first = Part { service: rng.below(table[SERVICES_AT]), repeat: 0, date: [d, m, y], boards: 0, alights: 1 };
+        let mut found = vec![first];
+        while found.len() < 3 && follow(rng, &timetable, &mut found) {}
+        let parts: Vec<u32> = found.iter().flat_map(part_words).collect();
+        if found.len() == 3 && Reader.connection(table, &[], &parts) == [0, 0] {
             return parts;
         }
     }
+}
+
+/// Adds a part that departs from where the last one ends, on the same date, within two hours.
+fn follow(rng: &mut Rng, timetable: &Timetable, found: &mut Vec<Part>) -> bool {
+    let (last, mut rows, mut board) = (found[found.len() - 1], Vec::new(), Vec::new());
+    // whole routes only
+    if timetable.check_connection(&[last]).is_err()
+        || timetable.walk(last.service, last.repeat, last.date, &mut rows).is_err()
+    {
+        return false;
+    }
+    let arrives = match rows.get(last.alights as usize) {
+        Some(row) => row,
+        None => return false,
+    };
+    let (from, to) = (arrives.arrival + 20, arrives.arrival + 140);
+    if timetable.board(arrives.stop, last.date, from, to, &mut board).is_err() || board.is_empty() {
+        return false;
+    }
+    let next = board[rng.index(board.len())];
+    found.push(Part {
+        service: next.service,
+        repeat: next.repeat,
+        date: last.date,
+        boards: next.place,
+        alights: next.place + 1,
+    });
+    timetable.check_connection(found).is_ok()
+}
+
+fn part_words(part: &Part) -> [u32; PART_WORDS] {
+    let [d, m, y] = part.date;
+    [part.service, part.repeat, d, m, y, part.boards, part.alights]
 }
 
 macro_rules! measured {
