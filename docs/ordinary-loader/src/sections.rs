@@ -15,7 +15,7 @@ const EVERY_STOP: u32 = 9_999_999;
 
 const MOST_MINUTES: u32 = 60;
 const ANY_MINUTES: u32 = 99;
-const MOST_CLASS: u32 = 13;
+pub const MOST_CLASS: u32 = 13;
 
 /// The bit fields by number. A blank one is 0, daily.
 pub struct BitFields {

@@ -6,13 +6,11 @@ use std::collections::HashMap;
 use crate::bits::Bits;
 use crate::calendar::Date;
 use crate::names;
+use crate::sections::MOST_CLASS;
 use crate::table::{
     ARRIVAL, CALL_WORDS, CATEGORY_WORDS, DAYS_WORDS, DEPARTURE, EXTRA_WORDS, HEADER_WORDS, KIND_T, NO_ALIGHTING,
     NO_BOARDING, SERVICE_WORDS,
 };
-
-/// The greatest class of a category.
-const MOST_CLASS: u32 = 13;
 
 /// The greatest class of a first interchange time.
 const FIRST_TIME_CLASS: u32 = 2;
