@@ -1,0 +1,3 @@
+pub mod Among
+pub mod Ascending
+pub mod Meaning
