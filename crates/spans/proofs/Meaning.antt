@@ -184,15 +184,15 @@ module _ (o : Opening) (s : openingSound o ≡ true) where
 
   -- a span has no run that is not there
   pub within-few : (x : ℕ) → runsWithin o x ≤ runs# o
-  within-few x = by-leb (λ t. t ≡ true → runsWithin o x ≤ runs# o) (runsWithin o x) (runs# o) (λ h e. h)
-      (λ h e. clash e) (le-leb (runsWithin o x) (runs# o) (by-ltb (λ (t : Bool). runsWithin o x ≤ runs# o) (runs# o) (runsWithin o x)
-      (λ l. let e = within-runs (runs# o) x ∙ lt-ltb (runs# o) (runsWithin o x) l in
-      absurd (omega (arith, ltb-true (runs# o) (runs# o) (sym (has-below (runs# o)) ∙ and-true (hasRun o (runs# o)) _ e .0)))) (λ l. l)))
+  within-few x =
+      by-ltb (λ (t : Bool). runsWithin o x ≤ runs# o) (runs# o) (runsWithin o x)
+      (λ l.
+      let e = within-runs (runs# o) x ∙ lt-ltb (runs# o) (runsWithin o x) l in
+      absurd (omega (arith, ltb-true (runs# o) (runs# o) (sym (has-below (runs# o)) ∙ and-true (hasRun o (runs# o)) _ e .0)))) (λ l. l)
+
+  pub end-runs : (d u : ℕ) → endRun o d u ≤ runs# o
+  unfolding endRun
+  end-runs d u = by-ltb (λ t. cond t 0 (runsWithin o (u - d)) ≤ runs# o) u d (λ l. omega arith) (λ l. within-few (u - d))
 
   pub end-few : (d u : ℕ) → endRun o d u ≤ mostRuns
-  unfolding endRun
-  end-few d u = by-ltb (λ t. cond t 0 (runsWithin o (u - d)) ≤ mostRuns) u d (λ l. omega arith) (λ l. omega (arith, within-few (u - d), few-runs))
-
-  pub first-few : (d t : ℕ) → firstRun o d t ≤ mostRuns
-  unfolding firstRun
-  first-few d t = by-leb (λ b. cond b 0 (runsWithin o (t - d - 1)) ≤ mostRuns) t d (λ l. omega arith) (λ l. omega (arith, within-few (t - d - 1), few-runs))
+  end-few d u = omega (arith, end-runs d u, few-runs)

@@ -1,0 +1,247 @@
+// The departures from one call of a service: which runs they are, by arithmetic and one look at the day's course, and their rows.
+// `w` are words with a sound header, `x` an index of look-ups, or none.
+use index::ServiceRecord;
+use sort::ROW_WORDS;
+use timetable::CALL_WORDS;
+use timetable::CALLS_AT;
+use timetable::Call;
+use timetable::Course;
+use timetable::Opening;
+use timetable::SERVICE_WORDS;
+ghost use mathlib.Core.Path.{_≡_};
+ghost use mathlib.Core.List.{[], map};
+ghost use mathlib.Core.Bool.{true, _&&_};
+ghost use Prim.Native.Nat.{_+_, _-_, _*_, _≤_, _<_};
+ghost use lib.ListN.{length, getElem?, drop};
+ghost use lib.Dec.{eqb, leb, ltb};
+ghost use Rattle.base.specs.Lists.{gathered, upto};
+ghost use Rattle.timetable.specs.Layout.{mostPeriodDays, serviceHead, callSize, latestTime};
+ghost use Rattle.timetable.specs.Runs.{openingSound};
+ghost use Rattle.timetable.specs.Table.{stops#, calls#, callAt, openingAt, serviceAt, withStops, recordSound};
+ghost use Rattle.words.specs.Words.{write};
+ghost use Rattle.index.specs.Index.{Ready, viewIn};
+ghost use Rattle.sort.specs.Rows.{rowSize, rowWords};
+ghost use Rattle.spans.specs.Spans.{runs#};
+ghost use Rattle.board.specs.Board.{boardable, departureOf, runsFrom, callDepartures, leaves, placeDepartures};
+ghost use Rattle.board_runs.specs.Batch.{departuresAt, batchRows, Batched};
+
+// Departures from one place of a service's route: of the runs from `low` on and below `high`, where run 0 leaves at `departure`.
+pub struct Batch {
+    pub service: u32,
+    pub place: u32,
+    pub departure: u32,
+    pub opening: Opening,
+    pub low: u32,
+    pub high: u32,
+}
+
+// ---- which runs
+
+// From place p of the i-th service, where that is at stop n, on day k of the period, within two minutes of the day.
+pub fn runs_at(w: &[u32], x: &[u32], n: u32, k: u32, first: u32, last: u32, i: u32, p: u32) -> Batch
+    requires { ⌜ Ready (now w) (now x) × (k < mostPeriodDays) ⌝ }
+    ensures { λ r. ⌜ Batched r (departuresAt (viewIn (now (w .entry)) (now (x .entry))) n k first last i p) ⌝ }
+{
+    let record = index::service_record(w, x, i);
+    let ServiceRecord::From(at) = record else {
+        return no_runs();
+    };
+    record_runs(w, x, index::words_from(w, at), n, k, first, last, i, p)
+}
+
+// Of the service whose record stands at the front of `s`: none where the day's course does not go on from there.
+fn record_runs(
+    w: &[u32],
+    x: &[u32],
+    s: &[u32],
+    n: u32,
+    k: u32,
+    first: u32,
+    last: u32,
+    i: u32,
+    p: u32,
+) -> Batch
+    requires { ⌜ Ready (now w) (now x) × (k < mostPeriodDays) ⌝ }
+    requires { ⌜ recordSound (stops# (now w)) (now s) ≡ true ⌝ }
+    ensures { λ r. ⌜ Batched r (placeDepartures (viewIn (now (w .entry)) (now (x .entry))) n k first last i (withStops (viewIn (now (w .entry)) (now (x .entry)) .shown) (serviceAt (now (s .entry)))) p) ⌝ }
+{
+    let b = call_runs(w, x, s, n, first, last, i, p);
+    if b.high <= b.low {
+        return b;
+    }
+    if !goes_on(course::course_on(w, x, s, k), p) {
+        return no_runs();
+    }
+    b
+}
+
+// Whether a course goes on from place p of the route.
+fn goes_on(course: Course, p: u32) -> bool
+    ensures { λ r. ⌜ r ≡ leaves course p ⌝ }
+{
+    match course {
+        Course::Along { start, legs } => is_left(start, legs, p),
+        Course::NotRunning => false,
+        Course::Refused(number) => false,
+    }
+}
+
+// Whether place p is left along a stretch: its last call is not.
+fn is_left(start: u32, legs: u32, p: u32) -> bool
+    ensures { λ r. ⌜ r ≡ (leb start p && ltb p (start + legs)) ⌝ }
+{
+    if p < start {
+        return false;
+    }
+    p - start < legs
+}
+
+// By the call alone, whatever the course.
+fn call_runs(
+    w: &[u32],
+    x: &[u32],
+    s: &[u32],
+    n: u32,
+    first: u32,
+    last: u32,
+    i: u32,
+    p: u32,
+) -> Batch
+    requires { ⌜ Ready (now w) (now x) ⌝ }
+    requires { ⌜ recordSound (stops# (now w)) (now s) ≡ true ⌝ }
+    ensures { λ r. ⌜ Batched r (callDepartures n first last i (openingAt (now (s .entry))) p (getElem? (withStops (viewIn (now (w .entry)) (now (x .entry)) .shown) (serviceAt (now (s .entry))) .calls) p)) ⌝ }
+{
+    if s[CALLS_AT] <= p {
+        return no_runs();
+    }
+    let c = call_of(s, p);
+    if !boards_at(w, x, c.stop, c.flags, n) {
+        return no_runs();
+    }
+    span_batch(table::opening_at(s), c.departure, first, last, i, p)
+}
+
+// The call at place p of a record.
+fn call_of(s: &[u32], p: u32) -> Call
+    requires { ⌜ serviceHead + callSize * p + callSize ≤ length (now s) ⌝ }
+    ensures { λ r. ⌜ r ≡ callAt (drop (serviceHead + callSize * p) (now (s .entry))) ⌝ }
+{
+    timetable::call_at(s, SERVICE_WORDS + CALL_WORDS * table::size(p))
+}
+
+// Whether the stop at a place has the number n, and boarding is allowed by a call's flags.
+fn boards_at(w: &[u32], x: &[u32], place: u32, flags: u32, n: u32) -> bool
+    requires { ⌜ Ready (now w) (now x) × (place < stops# (now w)) ⌝ }
+    ensures { λ r. ⌜ r ≡ (eqb (viewIn (now (w .entry)) (now (x .entry)) .shown place) n && boardable (record { stop = place; arrival = 0; departure = 0; flags = flags; number = 0; high = 0; low = 0 })) ⌝ }
+{
+    if index::stop_number(w, x, place) != n {
+        return false;
+    }
+    flags / 8 % 2 != 1
+}
+
+// The runs within two minutes of the day.
+fn span_batch(opening: Opening, departure: u32, first: u32, last: u32, i: u32, p: u32) -> Batch
+    requires { ⌜ openingSound opening ≡ true ⌝ }
+    requires { ⌜ departure ≤ latestTime ⌝ }
+    ensures { λ r. ⌜ Batched r (runsFrom first last i opening p departure) ⌝ }
+{
+    let span = spans::runs_between(opening, departure, first, last);
+    Batch {
+        service: i,
+        place: p,
+        departure,
+        opening,
+        low: span.low,
+        high: span.high,
+    }
+}
+
+fn no_runs() -> Batch
+    ensures { λ r. ⌜ Batched r [] ⌝ }
+{
+    Batch {
+        service: 0,
+        place: 0,
+        departure: 0,
+        opening: Opening {
+            number: 0,
+            high: 0,
+            low: 0,
+            repeats: 0,
+            offset: 0,
+            kind: 0,
+        },
+        low: 0,
+        high: 0,
+    }
+}
+
+// ---- how many, and their rows
+
+// How many departures a batch has.
+pub fn batch_size(b: Batch) -> usize
+    ensures { λ r. ⌜ r ≡ b .high - b .low ⌝ }
+{
+    if b.high <= b.low {
+        return 0;
+    }
+    (b.high - b.low) as usize
+}
+
+// Writes the rows of a batch, and says where they end.
+pub fn put_batch(list: &mut [u32], at: usize, b: Batch) -> usize
+    requires { ⌜ openingSound (b .opening) ≡ true ⌝ }
+    requires { ⌜ (b .high ≤ runs# (b .opening)) × (b .departure ≤ latestTime) ⌝ }
+    requires { ⌜ at + rowSize * (b .high - b .low) ≤ length (now list) ⌝ }
+    ensures end { λ r. ⌜ r ≡ at + rowSize * (b .high - b .low) ⌝ }
+    ensures words { λ _. ⌜ now (list .exit) ≡ write (now (list .entry)) at (gathered rowWords (batchRows b)) ⌝ }
+{
+    put_rows(
+        list,
+        at,
+        b.service,
+        b.opening,
+        b.place,
+        b.departure,
+        b.low,
+        b.high,
+    )
+}
+
+fn put_rows(
+    list: &mut [u32],
+    at: usize,
+    i: u32,
+    opening: Opening,
+    p: u32,
+    departure: u32,
+    low: u32,
+    high: u32,
+) -> usize
+    requires { ⌜ openingSound opening ≡ true ⌝ }
+    requires { ⌜ (high ≤ runs# opening) × (departure ≤ latestTime) ⌝ }
+    requires { ⌜ at + rowSize * (high - low) ≤ length (now list) ⌝ }
+    ensures end { λ r. ⌜ r ≡ at + rowSize * (high - low) ⌝ }
+    ensures words { λ _. ⌜ now (list .exit) ≡ write (now (list .entry)) at (gathered rowWords (map (departureOf i opening p departure) (upto (high - low) low))) ⌝ }
+{
+    let mut to = at;
+    let mut r = low;
+    while r < high {
+        put_row(list, to, i, opening, p, departure, r);
+        to += ROW_WORDS;
+        r += 1;
+    }
+    to
+}
+
+// Writes the row of run r.
+fn put_row(list: &mut [u32], to: usize, i: u32, opening: Opening, p: u32, departure: u32, r: u32)
+    requires { ⌜ openingSound opening ≡ true ⌝ }
+    requires { ⌜ (r < runs# opening) × (departure ≤ latestTime) ⌝ }
+    requires { ⌜ to + rowSize ≤ length (now list) ⌝ }
+    ensures { λ _. ⌜ now (list .exit) ≡ write (now (list .entry)) to (rowWords (departureOf i opening p departure r)) ⌝ }
+{
+    let time = departure + runs::lateness(opening, r);
+    words::put4(list, to, time, i, r, p);
+}
