@@ -1,0 +1,85 @@
+-- How many departures there can be: at most as many from a call as a service has runs. Assumes nothing.
+use mathlib.Core.Path.{_≡_, refl, ap, _∙_, sym}
+use mathlib.Core.List.{List, [], _∷_, _++_, map}
+use mathlib.Core.Bool.{Bool, true, false, cond, _&&_}
+use mathlib.Core.Option.{Option, none, some}
+use Prim.Native.Nat.{ℕ, zero, suc, _+_, _-_, _*_, _≤_, _<_}
+use native.Mathlib.Nat.{mul-le-mul, mul-suc}
+use native.Mathlib.Omega.{arith}
+use lib.ListN.{length, getElem?, take, drop, length-append, length-take}
+use lib.Dec.{eqb}
+use Rattle.base.specs.Lists.{gathered, upto}
+use Rattle.base.proofs.Lists.{length-map-upto}
+use Rattle.base.proofs.Laws.{clash}
+use Rattle.timetable.specs.Delivery.{Service}
+use Rattle.timetable.specs.Runs.{openingSound}
+use Rattle.timetable.specs.Table.{stops#, usedWords, openingAt, serviceAt, withStops}
+use Rattle.timetable.specs.View.{View, ServiceFound, noService, aService}
+use Rattle.timetable.specs.Run.{courseOn}
+use Rattle.timetable.specs.declared.Call.{Call}
+use Rattle.timetable.specs.declared.Opening.{Opening}
+use Rattle.table.proofs.Says.{record-says}
+use Rattle.index.specs.Index.{recordIn, viewIn}
+use Rattle.index.specs.declared.ServiceRecord.{ServiceRecord}
+use Rattle.index.specs.declared.ServiceRecord.the-variants.{From, Refused}
+use Rattle.index.proofs.Records.{record-refused, record-service, record-sound}
+use Rattle.spans.specs.Spans.{runs#, mostRuns, firstRun, endRun}
+use Rattle.spans.proofs.Meaning.{end-few}
+use Rattle.board.specs.Board.{Departure, boardable, departureOf, runsFrom, callDepartures, leaves, placeDepartures}
+use Rattle.board_runs.specs.Batch.{foundAt, departuresAt}
+use Rattle.board_runs.proofs.Interval.{runs-in-a-row}
+use Rattle.boards.specs.ByWords.{departuresBy}
+
+-- every service that words and an index show has an opening line as a table has it
+pub opening-shown : (w x : List ℕ) (i : ℕ) (s : Service) → viewIn w x .service i ≡ aService s → openingSound (s .opening) ≡ true
+unfolding serviceAt
+opening-shown w x i s e = go (recordIn w x i) refl
+  where
+    isService : ServiceFound → Bool
+    isService (noService number) = false
+    isService (aService s) = true
+
+    serviceOr : Service → ServiceFound → Service
+    serviceOr d (noService number) = d
+    serviceOr d (aService s) = s
+
+    go : (r : ServiceRecord) → r ≡ recordIn w x i → openingSound (s .opening) ≡ true
+    go (Refused number) q = clash (ap isService (sym (record-refused w x i (Refused number) q number refl) ∙ e))
+    go (From p) q =
+        let f = record-service w x i (From p) q p refl (drop p w) refl in
+        let z : withStops (viewIn w x .shown) (serviceAt (drop p w)) ≡ s = ap (serviceOr s) (sym f ∙ e) in
+        rw (← z) (record-says (stops# w) (drop p w) (record-sound w x i (From p) q p refl (drop p w) refl) .1 .opening)
+
+runs-few : (t u i : ℕ) (o : Opening) (p d : ℕ) → openingSound o ≡ true → length (runsFrom t u i o p d) ≤ mostRuns
+runs-few t u i o p d s =
+    let e : length (runsFrom t u i o p d) ≡ endRun o d u - firstRun o d t
+    = ap length (sym (runs-in-a-row t u i o p d s)) ∙ length-map-upto (departureOf i o p d) (endRun o d u - firstRun o d t) (firstRun o d t) in
+    omega (arith, e, end-few o s d u)
+
+place-few : (v : View) (n k t u i : ℕ) (s : Service) (p : ℕ) → openingSound (s .opening) ≡ true → length (placeDepartures v n k t u i s p) ≤ mostRuns
+place-few v n k t u i s p h = go (leaves (courseOn v s k) p)
+  where
+    call : (b : Bool) (c : Call) → length (cond b (runsFrom t u i (s .opening) p (c .departure)) []) ≤ mostRuns
+    call true c = runs-few t u i (s .opening) p (c .departure) h
+    call false c = omega arith
+
+    at : (c : Option Call) → length (callDepartures n t u i (s .opening) p c) ≤ mostRuns
+    at none = omega arith
+    at (some c) = call (eqb (c .stop) n && boardable c) c
+
+    go : (b : Bool) → length (cond b (callDepartures n t u i (s .opening) p (getElem? (s .calls) p)) []) ≤ mostRuns
+    go true = at (getElem? (s .calls) p)
+    go false = omega arith
+
+pub call-few : (w x : List ℕ) (n k t u i p : ℕ) → length (departuresAt (viewIn w x) n k t u i p) ≤ mostRuns
+unfolding departuresAt
+call-few w x n k t u i p = go (viewIn w x .service i) refl
+  where
+    go : (f : ServiceFound) → viewIn w x .service i ≡ f → length (foundAt (viewIn w x) n k t u i p f) ≤ mostRuns
+    go (noService number) e = omega arith
+    go (aService s) e = place-few (viewIn w x) n k t u i s p (opening-shown w x i s e)
+
+pub gathered-few : {X Y : Type 0} (f : X → List Y) (m : ℕ) → ((x : X) → length (f x) ≤ m) → (l : List X) → length (gathered f l) ≤ m * length l
+unfolding gathered
+gathered-few f m h [] = omega arith
+gathered-few f m h (x ∷ l) = omega (arith, length-append (f x) (gathered f l), h x, gathered-few f m h l, mul-suc m (length l))

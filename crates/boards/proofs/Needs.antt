@@ -1,0 +1,299 @@
+-- The needs of the functions of src: each value that code computed stands with its equation. Assumes nothing.
+use mathlib.Core.Path.{_≡_, refl, ap, _∙_, sym}
+use mathlib.Core.List.{List, [], _∷_, _++_, map}
+use mathlib.Core.Bool.{Bool, true, false, cond}
+use Prim.Native.Nat.{ℕ, zero, suc, _+_, _-_, _*_, _^_, _≤_, _<_}
+use native.Mathlib.Nat.{mul-zero, mul-le-mul}
+use native.Mathlib.Omega.{arith}
+use lib.ListN.{length, getD, take, length-append, length-take}
+use lib.Dec.{eqb, ltb}
+use borrow.Author.Tests.{eq-eqb, lt-ltb, le-ltb}
+use Rattle.base.specs.Lists.{gathered, upto}
+use Rattle.base.proofs.Laws.{tests}
+use Rattle.base.proofs.Lists.{gathered-append, length-map-upto}
+use Rattle.timetable.specs.Layout.{latestTime}
+use Rattle.timetable.specs.Load.{onto}
+use Rattle.timetable.specs.Runs.{openingSound}
+use Rattle.timetable.specs.Table.{usedWords, stops#, bitFields#}
+use Rattle.timetable.specs.View.{View}
+use Rattle.timetable.proofs.Rows.{any, all-any, length-gathered}
+use Rattle.table.specs.JustTable.{headerSound}
+use Rattle.table.proofs.Says.{header-says, header-word}
+use Rattle.words.specs.Words.{write}
+use Rattle.words.proofs.Laws.{write-none, write-turn, write-front, length-write}
+use Rattle.chains.specs.Chains.{Records}
+use Rattle.index.specs.Index.{stopsFrom, stopSection, sectionEnd, indexSize, Ready, viewIn}
+use Rattle.index.proofs.Sections.{sections-fit}
+use Rattle.sort.specs.Rows.{rowWords, sortedRows, inOrder}
+use Rattle.sort.proofs.Sorted.{length-sorted}
+use Rattle.sort.proofs.Rows.{written-sorted}
+use Rattle.sort.specs.Rows.{notAfter}
+use Rattle.spans.specs.Spans.{runs#, mostRuns}
+use Rattle.board.specs.Board.{Departure, departureOf}
+use Rattle.board.specs.Question.{board, boardedBy, boardInto}
+use Rattle.board.specs.declared.BoardAnswer.{BoardAnswer}
+use Rattle.board.specs.declared.BoardAnswer.the-variants.{Listed, Refused}
+use Rattle.board_runs.specs.Batch.{departuresAt, batchRows, Batched}
+use Rattle.board_runs.specs.declared.Batch.{Batch}
+use Rattle.stop_calls.specs.StopCalls.{entries#, entryWord, callsBy, Lent, leftAt, On}
+use Rattle.stop_calls.specs.declared.Cursor.{Cursor}
+use Rattle.boards.specs.ByWords.{callDepartures, departuresBy, boardBy, Lends, Along, leftDepartures, Putting, most}
+use Rattle.boards.proofs.Bounds.{call-few, gathered-few}
+
+-- ---- one call
+
+pub batch-is : (v : View) (s e n k t u i p : ℕ) (y : List ℕ) (b : Batch) → i ≡ entryWord s y 1 e → p ≡ entryWord s y 3 e → Batched b (departuresAt v n k t u i p) → Batched b (callDepartures v s y n k t u e)
+unfolding callDepartures
+batch-is v s e n k t u i p y b a c g = rw (a, c) at g
+
+module _ (b : Batch) (es : List Departure) (g : Batched b es) where
+  pub batch-long : b .high - b .low ≡ length es
+  batch-long = sym (length-map-upto (departureOf (b .service) (b .opening) (b .place) (b .departure)) (b .high - b .low) (b .low)) ∙ ap length (g .rows)
+
+  pub batch-count : (r : ℕ) → r ≡ b .high - b .low → r ≡ length es
+  batch-count r q = q ∙ batch-long
+
+  pub batch-sound : openingSound (b .opening) ≡ true
+  batch-sound = g .sound
+
+  pub batch-there : b .high ≤ runs# (b .opening)
+  batch-there = g .there
+
+  pub batch-early : b .departure ≤ latestTime
+  batch-early = g .early
+
+  pub batch-room : (t : List ℕ) (to : ℕ) → to + 4 * length es ≤ length t → to + 4 * (b .high - b .low) ≤ length t
+  batch-room t to h = rw batch-long h
+
+  pub batch-end : (r to : ℕ) → r ≡ to + 4 * (b .high - b .low) → r ≡ to + 4 * length es
+  batch-end r to q = rw batch-long at q
+
+  pub batch-words : (t t′ : List ℕ) (to : ℕ) → t′ ≡ write t to (gathered rowWords (batchRows b)) → t′ ≡ write t to (gathered rowWords es)
+  batch-words t t′ to q = q ∙ ap (λ (r : List Departure). write t to (gathered rowWords r)) (g .rows)
+
+pub ruleset one = (tests, batch-is, batch-count, batch-sound, batch-there, batch-early, batch-room, batch-end, batch-words)
+
+-- ---- from a cursor on
+
+pub along-heads : (w x y : List ℕ) (end n from : ℕ) → Along w x y end n from → n ≤ length y
+along-heads w x y end n from a = a .lent .heads
+
+pub along-ready : (w x y : List ℕ) (end n from : ℕ) → Along w x y end n from → Ready w x
+along-ready w x y end n from a = a .ready
+
+pub along-lent : (w x y : List ℕ) (end n from : ℕ) → Along w x y end n from → Lent w x y end n from
+along-lent w x y end n from a = a .lent
+
+pub on-within : (y : List ℕ) (n : ℕ) (c : Cursor) → On y n c → c .call ≤ entries# n y
+on-within y n c o = o .call
+
+pub on-some : (e : ℕ) → (e ≡ 0 → ⊥) → 0 < e
+on-some zero z = absurd (z refl)
+on-some (suc e) z = omega arith
+
+words-long : (es : List Departure) → length (gathered rowWords es) ≡ 4 * length es
+words-long es = length-gathered rowWords 4 any (λ x h. refl) (all-any es)
+
+module _ (w x y : List ℕ) (end n from stop k t u : ℕ) where
+  abbrev left : Cursor → List Departure
+  left c = leftDepartures w x y end n from stop k t u c
+
+  abbrev given : ℕ → List Departure
+  given e = callDepartures (viewIn w x) n y stop k t u e
+
+  pub left-none : (c : Cursor) → c .call ≡ 0 → leftDepartures w x y end n from stop k t u c ≡ []
+  unfolding leftDepartures leftAt gathered
+  left-none c z = rw (eq-eqb (c .call) 0 z)
+
+  module _ (c c′ : Cursor) (q : leftAt w x y end n from stop c ≡ c .call ∷ leftAt w x y end n from stop c′) where
+    split : left c ≡ given (c .call) ++ left c′
+    unfolding leftDepartures gathered
+    split = ap (gathered (callDepartures (viewIn w x) n y stop k t u)) q
+
+    long : length (left c) ≡ length (given (c .call)) + length (left c′)
+    long = ap length split ∙ length-append (given (c .call)) (left c′)
+
+    pub left-less : length (leftAt w x y end n from stop c′) < length (leftAt w x y end n from stop c)
+    left-less = rw q (omega arith)
+
+    pub left-count : (total d m : ℕ) → d ≡ length (callDepartures (viewIn w x) n y stop k t u (c .call)) → total + length (leftDepartures w x y end n from stop k t u c) ≡ m → total + d + length (leftDepartures w x y end n from stop k t u c′) ≡ m
+    left-count total d m e h = omega (arith, long, e, h)
+
+    module _ (l₀ : List ℕ) (c₀ : Cursor) (l : List ℕ) (to : ℕ) (g : Putting w x y end n from stop k t u l₀ c₀ l c to) where
+      fits : to + 4 * length (given (c .call)) ≤ length l
+      fits = omega (arith, long, g .count, g .room, g .long)
+
+      pub put-turn : (l′ : List ℕ) (to′ : ℕ) → l′ ≡ write l to (gathered rowWords (callDepartures (viewIn w x) n y stop k t u (c .call))) → to′ ≡ to + 4 * length (callDepartures (viewIn w x) n y stop k t u (c .call)) → On y n c′
+          → Putting w x y end n from stop k t u l₀ c₀ l′ c′ to′
+      put-turn l′ to′ d e o = record {
+        on = o;
+        long = ap length d ∙ length-write l to (gathered rowWords (given (c .call))) (omega (arith, fits, words-long (given (c .call)))) ∙ g .long;
+        count = omega (arith, long, e, g .count);
+        room = g .room;
+        words =
+            rw e
+            (write-turn l l′ (write l₀ 0 (gathered rowWords (left c₀))) to (4 * length (given (c .call))) (gathered rowWords (given (c .call))) (gathered rowWords (left c′)) d (words-long (given (c .call))) fits
+            (ap (write l to) (sym (ap (gathered rowWords) split ∙ gathered-append rowWords (given (c .call)) (left c′))) ∙ g .words));
+      }
+
+  -- before the cursor has moved: what a call gives is a part of what is left
+  pub left-part : (c : Cursor) → On y n c → (c .call ≡ 0 → ⊥) → length (callDepartures (viewIn w x) n y stop k t u (c .call)) ≤ length (leftDepartures w x y end n from stop k t u c)
+  unfolding leftDepartures leftAt gathered
+  left-part c o z = rw (borrow.Author.Tests.ne-eqb (c .call) 0 z) (head (c .left) (o .more z))
+    where
+      head : (m : ℕ) → 0 < m → length (callDepartures (viewIn w x) n y stop k t u (c .call)) ≤ length (gathered (callDepartures (viewIn w x) n y stop k t u) (take m (c .call ∷ Rattle.stop_calls.specs.StopCalls.callsAfter w x y end n from stop (c .call) (c .stop))))
+      head zero h = absurd (omega arith)
+      head (suc m) h = omega (arith, length-append (callDepartures (viewIn w x) n y stop k t u (c .call)) (gathered (callDepartures (viewIn w x) n y stop k t u) (take m (Rattle.stop_calls.specs.StopCalls.callsAfter w x y end n from stop (c .call) (c .stop)))))
+
+  module _ (c : Cursor) (o : On y n c) (z : c .call ≡ 0 → ⊥) where
+    pub left-fits : (total d m : ℕ) → d ≡ length (callDepartures (viewIn w x) n y stop k t u (c .call)) → total + length (leftDepartures w x y end n from stop k t u c) ≡ m → m ≤ most → total + d < 2 ^ 64
+    left-fits total d m e h b = omega (arith, e, h, b, left-part c o z)
+
+  pub left-total : (c : Cursor) (total m : ℕ) → c .call ≡ 0 → total + length (leftDepartures w x y end n from stop k t u c) ≡ m → total ≡ m
+  left-total c total m z h = omega (arith, ap length (left-none c z), h)
+
+  pub put-first : (c : Cursor) (l : List ℕ) → On y n c → 4 * length (leftDepartures w x y end n from stop k t u c) ≤ length l → Putting w x y end n from stop k t u l c l c 0
+  put-first c l o h = record { on = o; long = refl; count = omega arith; room = h; words = refl }
+
+  module _ (l₀ : List ℕ) (c₀ : Cursor) (l : List ℕ) (c : Cursor) (to : ℕ) (g : Putting w x y end n from stop k t u l₀ c₀ l c to) where
+    pub put-room : (c .call ≡ 0 → ⊥) → to + 4 * length (callDepartures (viewIn w x) n y stop k t u (c .call)) ≤ length l
+    put-room z = omega (arith, g .count, g .room, g .long, left-part c (g .on) z)
+
+    pub put-on : On y n c
+    put-on = g .on
+
+    pub put-within : c .call ≤ entries# n y
+    put-within = g .on .call
+
+    pub put-long : length l ≡ length l₀
+    put-long = g .long
+
+    pub put-end : c .call ≡ 0 → l ≡ write l₀ 0 (gathered rowWords (leftDepartures w x y end n from stop k t u c₀))
+    unfolding gathered
+    put-end z = sym (write-none l to) ∙ ap (λ (es : List Departure). write l to (gathered rowWords es)) (sym (left-none c z)) ∙ g .words
+
+pub ruleset counts = (tests, along-heads, along-ready, along-lent, on-within, on-some, left-less, left-count, left-fits, left-total)
+
+pub ruleset puts = (tests, along-heads, along-ready, along-lent, on-some, left-less, put-first, put-turn, put-room, put-on, put-within, put-long, put-end)
+
+-- ---- the stop section, and the whole; b is the number of bit fields, s that of stops
+
+module _ (w : List ℕ) (h : headerSound w ≡ true) where
+  ends-in : sectionEnd (stopSection w) ≤ length w
+  ends-in = omega (arith, sections-fit w h)
+
+  pub head-there : (i : ℕ) → i < 9 → i < length w
+  head-there i l = header-word w h i l
+
+  module _ (b : ℕ) (p : b ≡ getD w 3 0) where
+    pub end-times : length w < 2 ^ 64 → 13 * b < 2 ^ 64
+    end-times l = omega (arith, p, ends-in)
+
+    pub end-sum : length w < 2 ^ 64 → 9 + 13 * b < 2 ^ 64
+    end-sum l = omega (arith, p, ends-in)
+
+    pub from-times : length w < 2 ^ 64 → 2 * b < 2 ^ 64
+    from-times l = omega (arith, p, ends-in)
+
+    pub end-stops : (s : ℕ) → s ≡ getD w 4 0 → length w < 2 ^ 64 → 3 * s < 2 ^ 64
+    end-stops s q l = omega (arith, q, ends-in)
+
+    pub end-whole : (s : ℕ) → s ≡ getD w 4 0 → length w < 2 ^ 64 → 9 + 13 * b + 3 * s < 2 ^ 64
+    end-whole s q l = omega (arith, p, q, ends-in)
+
+pub end-is : (w : List ℕ) (b s : ℕ) → b ≡ getD w 3 0 → s ≡ getD w 4 0 → 9 + 13 * b + 3 * s ≡ sectionEnd (stopSection w)
+end-is w b s p q = rw (p, q)
+
+pub from-is : (w : List ℕ) (b : ℕ) → b ≡ getD w 3 0 → 2 * b ≡ stopsFrom w
+from-is w b p = rw p
+
+pub ruleset section = (tests, head-there, end-times, end-sum, from-times, end-stops, end-whole, end-is, from-is)
+
+module _ (w x y : List ℕ) (l : Lends w x y) where
+  pub lends-head : headerSound w ≡ true
+  lends-head = l .ready .head
+
+  pub lends-word : (i : ℕ) → i < 9 → i < length w
+  lends-word i h = header-word w (l .ready .head) i h
+
+  pub lends-some : (m : ℕ) → m ≡ getD w 0 0 → 0 < m
+  lends-some m e = omega (arith, e, header-says w (l .ready .head) .used-low)
+
+  module _ (end s from : ℕ) (a : end ≡ sectionEnd (stopSection w)) (b : s ≡ getD w 4 0) (d : from ≡ stopsFrom w) where
+    pub lends-lent : Lent w x y end s from
+    lends-lent = record {
+      records = record { some = omega arith; room = rw (a, b) (omega arith); within = rw a (ends-in w (l .ready .head)) };
+      chains = rw (d, b) (omega (arith, l .long));
+      heads = rw b (l .heads);
+    }
+
+    pub lends-along : Along w x y end s from
+    lends-along = record { ready = l .ready; lent = lends-lent }
+
+module _ (w x y : List ℕ) (end s from n k t u : ℕ) (c : Cursor) (a : end ≡ sectionEnd (stopSection w)) (b : s ≡ getD w 4 0) (d : from ≡ stopsFrom w)
+    (m : ℕ) (z : m ≡ getD w 0 0) (q : leftAt w x y end s from n c ≡ take m (callsBy w x y end s from n)) where
+  pub whole-is : leftDepartures w x y end s from n k t u c ≡ departuresBy w x y n k t u
+  unfolding leftDepartures departuresBy
+  whole-is = ap (gathered (callDepartures (viewIn w x) s y n k t u)) q ∙ rw (z, a, b, d)
+
+  pub whole-few : m < 4294967296 → length (leftDepartures w x y end s from n k t u c) ≤ most
+  unfolding leftDepartures callDepartures
+  whole-few h =
+      let j : length (leftAt w x y end s from n c) ≤ 4294967296 = omega (arith, ap length q, length-take m (callsBy w x y end s from n), h) in
+      let o : mostRuns ≤ mostRuns = omega arith in
+      let p : mostRuns * length (leftAt w x y end s from n c) ≤ mostRuns * 4294967296 = mul-le-mul o j in
+      omega (arith, p, gathered-few (callDepartures (viewIn w x) s y n k t u) mostRuns few (leftAt w x y end s from n c))
+    where
+      few : (e : ℕ) → length (callDepartures (viewIn w x) s y n k t u e) ≤ mostRuns
+      few e = call-few w x n k t u (entryWord s y 1 e) (entryWord s y 3 e)
+
+  pub whole-count : (r : ℕ) → r ≡ length (leftDepartures w x y end s from n k t u c) → r ≡ length (departuresBy w x y n k t u)
+  whole-count r e = e ∙ ap length whole-is
+
+  pub whole-low : (r : ℕ) → m < 4294967296 → r ≡ length (leftDepartures w x y end s from n k t u c) → r ≤ most
+  whole-low r h e = rw e (whole-few h)
+
+  pub whole-room : (l : List ℕ) → 4 * length (departuresBy w x y n k t u) ≤ length l → 4 * length (leftDepartures w x y end s from n k t u c) ≤ length l
+  whole-room l h = rw whole-is h
+
+  pub whole-words : (l l′ : List ℕ) → l′ ≡ write l 0 (gathered rowWords (leftDepartures w x y end s from n k t u c)) → l′ ≡ write l 0 (gathered rowWords (departuresBy w x y n k t u))
+  whole-words l l′ e = e ∙ ap (λ (es : List Departure). write l 0 (gathered rowWords es)) whole-is
+
+pub ruleset wholes = (tests, lends-head, lends-word, lends-some, lends-lent, lends-along, whole-few, whole-count, whole-low, whole-room, whole-words)
+
+-- ---- the board
+
+module _ (w x y : List ℕ) (n k t u m : ℕ) (e : m ≡ length (departuresBy w x y n k t u)) where
+  board-long : length (boardBy w x y n k t u) ≡ m
+  unfolding boardBy
+  board-long = length-sorted notAfter (departuresBy w x y n k t u) ∙ sym e
+
+  pub board-fits : m ≤ most → 4 * m < 2 ^ 64
+  board-fits h = omega arith
+
+  module _ (l : List ℕ) where
+    pub board-short : length l < 4 * m → Refused 29 (4 * m) ≡ boardedBy (board (boardBy w x y n k t u)) (length l)
+    board-short h = rw (board-long, lt-ltb (length l) (4 * m) h)
+
+    pub board-stays : length l < 4 * m → l ≡ boardInto (board (boardBy w x y n k t u)) l
+    board-stays h = rw (board-long, lt-ltb (length l) (4 * m) h)
+
+    module _ (h : 4 * m ≤ length l) where
+      pub board-room : 4 * length (departuresBy w x y n k t u) ≤ length l
+      board-room = rw e at h
+
+      pub board-listed : Listed m ≡ boardedBy (board (boardBy w x y n k t u)) (length l)
+      board-listed = rw (board-long, le-ltb (length l) (4 * m) h)
+
+      module _ (l′ : List ℕ) (p : l′ ≡ write l 0 (gathered rowWords (departuresBy w x y n k t u))) where
+        pub board-sortable : 4 * m ≤ length l′
+        board-sortable = omega (arith, h, ap length p, length-write l 0 (gathered rowWords (departuresBy w x y n k t u)) (omega (arith, h, e, words-long (departuresBy w x y n k t u))))
+
+        pub board-sorted : (l″ : List ℕ) → l″ ≡ inOrder m l′ → l″ ≡ boardInto (board (boardBy w x y n k t u)) l
+        unfolding boardBy onto
+        board-sorted l″ q =
+            written-sorted l l′ l″ (departuresBy w x y n k t u) m e p q
+            ∙ write-front l (gathered rowWords (sortedRows (departuresBy w x y n k t u)))
+            ∙ sym (rw (length-sorted notAfter (departuresBy w x y n k t u), ← e, le-ltb (length l) (4 * m) h))
+
+pub ruleset lists = (tests, board-fits, board-short, board-stays, board-room, board-listed, board-sortable, board-sorted)

@@ -1,0 +1,242 @@
+// A departure board by an index: the departures from each call at the stop are counted, then written, then put in order (specs/ByWords).
+// `w` are words with a sound header, `x` the words of the look-ups, `y` those of the calls.
+use board::BoardAnswer;
+use board_runs::Batch;
+use sort::ROW_WORDS;
+use stop_calls::Cursor;
+use timetable::BIT_FIELD_WORDS;
+use timetable::BIT_FIELDS_AT;
+use timetable::HEADER_WORDS;
+use timetable::STOP_WORDS;
+use timetable::STOPS_AT;
+use timetable::USED_AT;
+ghost use mathlib.Core.Path.{_≡_};
+ghost use mathlib.Core.Bool.{true};
+ghost use Prim.Native.Nat.{_+_, _*_, _≤_, _<_};
+ghost use lib.ListN.{length};
+ghost use Rattle.base.specs.Lists.{gathered};
+ghost use Rattle.timetable.specs.Layout.{mostPeriodDays};
+ghost use Rattle.timetable.specs.Table.{stops#};
+ghost use Rattle.table.specs.JustTable.{headerSound};
+ghost use Rattle.words.specs.Words.{write};
+ghost use Rattle.index.specs.Index.{stopsFrom, stopSection, sectionEnd, Ready, viewIn};
+ghost use Rattle.sort.specs.Rows.{rowSize, rowWords};
+ghost use Rattle.board.specs.Question.{board, boardedBy, boardInto};
+ghost use Rattle.board_runs.specs.Batch.{Batched};
+ghost use Rattle.stop_calls.specs.StopCalls.{entries#, On};
+ghost use Rattle.boards.specs.ByWords.{callDepartures, departuresBy, boardBy, Lends, Along, leftDepartures, most};
+
+// The board of stop number n on day k of the period, within two minutes of the day: 29 with the words needed, and the list then stays.
+pub fn list_board(
+    w: &[u32],
+    x: &[u32],
+    y: &[u32],
+    n: u32,
+    k: u32,
+    first: u32,
+    last: u32,
+    list: &mut [u32],
+) -> BoardAnswer
+    requires { ⌜ Lends (now w) (now x) (now y) × (k < mostPeriodDays) ⌝ }
+    ensures answer { λ r. ⌜ r ≡ boardedBy (board (boardBy (now (w .entry)) (now (x .entry)) (now (y .entry)) n k first last)) (length (now (list .entry))) ⌝ }
+    ensures rows { λ _. ⌜ now (list .exit) ≡ boardInto (board (boardBy (now (w .entry)) (now (x .entry)) (now (y .entry)) n k first last)) (now (list .entry)) ⌝ }
+{
+    let count = count_board(w, x, y, n, k, first, last);
+    if list.len() < ROW_WORDS * count {
+        return BoardAnswer::Refused {
+            number: 29,
+            needed: ROW_WORDS * count,
+        };
+    }
+    put_board(w, x, y, n, k, first, last, list);
+    sort::sort_rows(list, count);
+    BoardAnswer::Listed(count)
+}
+
+// ---- counted
+
+// How many departures there are.
+fn count_board(w: &[u32], x: &[u32], y: &[u32], n: u32, k: u32, first: u32, last: u32) -> usize
+    requires { ⌜ Lends (now w) (now x) (now y) × (k < mostPeriodDays) ⌝ }
+    ensures { λ r. ⌜ r ≡ length (departuresBy (now (w .entry)) (now (x .entry)) (now (y .entry)) n k first last) ⌝ }
+    ensures { λ r. ⌜ r ≤ most ⌝ }
+{
+    let s = w[STOPS_AT];
+    let end = stops_end(w);
+    let from = stops_from(w);
+    let c = stop_calls::first_call(w, x, y, end, s, from, n, most_calls(w[USED_AT]));
+    count_from(w, x, y, end, s, from, n, k, first, last, c)
+}
+
+// From a cursor on.
+fn count_from(
+    w: &[u32],
+    x: &[u32],
+    y: &[u32],
+    end: usize,
+    s: u32,
+    from: usize,
+    n: u32,
+    k: u32,
+    first: u32,
+    last: u32,
+    start: Cursor,
+) -> usize
+    requires { ⌜ Along (now w) (now x) (now y) end s from × (k < mostPeriodDays) ⌝ }
+    requires { ⌜ On (now y) s start ⌝ }
+    requires { ⌜ length (leftDepartures (now w) (now x) (now y) end s from n k first last start) ≤ most ⌝ }
+    ensures { λ r. ⌜ r ≡ length (leftDepartures (now (w .entry)) (now (x .entry)) (now (y .entry)) end s from n k first last start) ⌝ }
+{
+    let mut c = start;
+    let mut total: usize = 0;
+    while c.call != 0 {
+        total += count_call(w, x, y, s, n, k, first, last, c.call);
+        c = stop_calls::next_call(w, x, y, end, s, from, n, c.call, c.stop, c.left);
+    }
+    total
+}
+
+// From call e.
+fn count_call(
+    w: &[u32],
+    x: &[u32],
+    y: &[u32],
+    s: u32,
+    n: u32,
+    k: u32,
+    first: u32,
+    last: u32,
+    e: u32,
+) -> usize
+    requires { ⌜ Ready (now w) (now x) × (k < mostPeriodDays) ⌝ }
+    requires { ⌜ (s ≤ length (now y)) × (0 < e) × (e ≤ entries# s (now y)) ⌝ }
+    ensures { λ r. ⌜ r ≡ length (callDepartures (viewIn (now (w .entry)) (now (x .entry))) s (now (y .entry)) n k first last e) ⌝ }
+{
+    let b = call_batch(w, x, y, s, n, k, first, last, e);
+    board_runs::batch_size(b)
+}
+
+// Which runs leave from call e.
+fn call_batch(
+    w: &[u32],
+    x: &[u32],
+    y: &[u32],
+    s: u32,
+    n: u32,
+    k: u32,
+    first: u32,
+    last: u32,
+    e: u32,
+) -> Batch
+    requires { ⌜ Ready (now w) (now x) × (k < mostPeriodDays) ⌝ }
+    requires { ⌜ (s ≤ length (now y)) × (0 < e) × (e ≤ entries# s (now y)) ⌝ }
+    ensures { λ r. ⌜ Batched r (callDepartures (viewIn (now (w .entry)) (now (x .entry))) s (now (y .entry)) n k first last e) ⌝ }
+{
+    let i = stop_calls::entry_word(y, s, 1, e);
+    let p = stop_calls::entry_word(y, s, 3, e);
+    board_runs::runs_at(w, x, n, k, first, last, i, p)
+}
+
+// ---- written
+
+// Writes their rows, in the order in which they are met.
+fn put_board(
+    w: &[u32],
+    x: &[u32],
+    y: &[u32],
+    n: u32,
+    k: u32,
+    first: u32,
+    last: u32,
+    list: &mut [u32],
+)
+    requires { ⌜ Lends (now w) (now x) (now y) × (k < mostPeriodDays) ⌝ }
+    requires { ⌜ rowSize * length (departuresBy (now w) (now x) (now y) n k first last) ≤ length (now list) ⌝ }
+    ensures { λ _. ⌜ now (list .exit) ≡ write (now (list .entry)) 0 (gathered rowWords (departuresBy (now (w .entry)) (now (x .entry)) (now (y .entry)) n k first last)) ⌝ }
+{
+    let s = w[STOPS_AT];
+    let end = stops_end(w);
+    let from = stops_from(w);
+    let c = stop_calls::first_call(w, x, y, end, s, from, n, most_calls(w[USED_AT]));
+    put_from(w, x, y, end, s, from, n, k, first, last, c, list);
+}
+
+// From a cursor on.
+fn put_from(
+    w: &[u32],
+    x: &[u32],
+    y: &[u32],
+    end: usize,
+    s: u32,
+    from: usize,
+    n: u32,
+    k: u32,
+    first: u32,
+    last: u32,
+    start: Cursor,
+    list: &mut [u32],
+)
+    requires { ⌜ Along (now w) (now x) (now y) end s from × (k < mostPeriodDays) ⌝ }
+    requires { ⌜ On (now y) s start ⌝ }
+    requires { ⌜ rowSize * length (leftDepartures (now w) (now x) (now y) end s from n k first last start) ≤ length (now list) ⌝ }
+    ensures { λ _. ⌜ now (list .exit) ≡ write (now (list .entry)) 0 (gathered rowWords (leftDepartures (now (w .entry)) (now (x .entry)) (now (y .entry)) end s from n k first last start)) ⌝ }
+{
+    let mut c = start;
+    let mut to: usize = 0;
+    while c.call != 0 {
+        to = put_call(w, x, y, s, n, k, first, last, c.call, list, to);
+        c = stop_calls::next_call(w, x, y, end, s, from, n, c.call, c.stop, c.left);
+    }
+}
+
+// From call e, and says where the rows end.
+fn put_call(
+    w: &[u32],
+    x: &[u32],
+    y: &[u32],
+    s: u32,
+    n: u32,
+    k: u32,
+    first: u32,
+    last: u32,
+    e: u32,
+    list: &mut [u32],
+    to: usize,
+) -> usize
+    requires { ⌜ Ready (now w) (now x) × (k < mostPeriodDays) ⌝ }
+    requires { ⌜ (s ≤ length (now y)) × (0 < e) × (e ≤ entries# s (now y)) ⌝ }
+    requires { ⌜ to + rowSize * length (callDepartures (viewIn (now w) (now x)) s (now y) n k first last e) ≤ length (now list) ⌝ }
+    ensures end { λ r. ⌜ r ≡ to + rowSize * length (callDepartures (viewIn (now (w .entry)) (now (x .entry))) s (now (y .entry)) n k first last e) ⌝ }
+    ensures words { λ _. ⌜ now (list .exit) ≡ write (now (list .entry)) to (gathered rowWords (callDepartures (viewIn (now (w .entry)) (now (x .entry))) s (now (y .entry)) n k first last e)) ⌝ }
+{
+    let b = call_batch(w, x, y, s, n, k, first, last, e);
+    board_runs::put_batch(list, to, b)
+}
+
+// ---- the header
+
+// How many calls are looked at: no table has more calls than words.
+fn most_calls(used: u32) -> u32
+    ensures is { λ r. ⌜ r ≡ used ⌝ }
+    ensures low { λ r. ⌜ r < 4294967296 ⌝ }
+{
+    used
+}
+
+// Where the stop section ends.
+fn stops_end(w: &[u32]) -> usize
+    requires { ⌜ headerSound (now w) ≡ true ⌝ }
+    ensures { λ r. ⌜ r ≡ sectionEnd (stopSection (now (w .entry))) ⌝ }
+{
+    HEADER_WORDS
+        + BIT_FIELD_WORDS * table::size(w[BIT_FIELDS_AT])
+        + STOP_WORDS * table::size(w[STOPS_AT])
+}
+
+// Where its chains begin in the look-ups.
+fn stops_from(w: &[u32]) -> usize
+    requires { ⌜ headerSound (now w) ≡ true ⌝ }
+    ensures { λ r. ⌜ r ≡ stopsFrom (now (w .entry)) ⌝ }
+{
+    2 * table::size(w[BIT_FIELDS_AT])
+}
