@@ -199,3 +199,6 @@ module _ (σ : ℕ → ℕ) (g : Everywhere σ) (f : Files) where
 
   pub bare-now : map bare (delivered new .services) ≡ map (serviceFor σ 0) (delivered f .services)
   bare-now = ap (map bare) services-now ∙ map-map serviceNow bare (delivered f .services)
+
+  pub services-count : length (delivered new .services) ≡ length (delivered f .services)
+  services-count = ap length services-now ∙ length-map (delivered f .services) serviceNow

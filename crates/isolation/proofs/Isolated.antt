@@ -60,6 +60,35 @@ second-cut : (post x y : List ℕ) → (post ≡ []) ⊎ ((endsLine x ≡ true) 
 second-cut post x y (inl e) = inl e
 second-cut post x y (inr e) = inr (e .1)
 
+-- an edit taken back
+pub swapped : (f g : Files) → Edited f g → Edited g f
+swapped f g e = record {
+  pre = e .pre;
+  x = e .y;
+  y = e .x;
+  post = e .post;
+  before = e .after;
+  after = e .before;
+  x-service = e .y-service;
+  y-service = e .x-service;
+  post-service = e .post-service;
+  pre-ends = e .pre-ends;
+  block-ends = swapped-ends (e .block-ends);
+  eckdaten = sym (e .eckdaten);
+  bitfeld = sym (e .bitfeld);
+  bahnhof = sym (e .bahnhof);
+  umsteigb = sym (e .umsteigb);
+  zugart = sym (e .zugart);
+}
+  where
+    swapped-ends : (e .post ≡ []) ⊎ ((endsLine (e .x) ≡ true) × (endsLine (e .y) ≡ true)) → (e .post ≡ []) ⊎ ((endsLine (e .y) ≡ true) × (endsLine (e .x) ≡ true))
+    swapped-ends (inl z) = inl z
+    swapped-ends (inr z) = inr (z .1, z .0)
+
+pub same-place : (f g : Files) (e : Edited f g) → place (swapped f g e) ≡ place e
+unfolding swapped
+same-place f g e = refl
+
 module _ (f g : Files) (e : Edited f g) where
   services-before : map bare (delivered f .services) ≡ services (linesOf (e .pre)) ++ (services (linesOf (e .x)) ++ services (linesOf (e .post)))
   services-before =

@@ -75,17 +75,26 @@ module _ (σ : ℕ → ℕ) (v u : View) (h : ViewsAlike σ v u) where
   first-for n s [] = refl
   first-for n s (k ∷ ks) = rw (leg-for n s k, first-for n s ks)
 
-  course-for : (n : ℕ) (s : Service) (r k : ℕ) → serviceCourse v (serviceFor σ n s) r k ≡ serviceCourse u s r k
-  unfolding serviceCourse courseOn dayCourse
-  course-for n s r k = rw (
+  -- its course on a day, the same for all its runs
+  pub course-on : (n : ℕ) (s : Service) (k : ℕ) → courseOn v (serviceFor σ n s) k ≡ courseOn u s k
+  unfolding courseOn dayCourse
+  course-on n s k = rw (
     first-for n s (below (legCount s)),
     legs-for σ (v .runs) (u .runs) (h .runs) n s k,
     legs-besides n (map (dayFor σ) (s .days)) (map (extraFor σ) (s .extras)) s (operatedLegsBy (u .runs) s k),
   )
 
+  course-for : (n : ℕ) (s : Service) (r k : ℕ) → serviceCourse v (serviceFor σ n s) r k ≡ serviceCourse u s r k
+  unfolding serviceCourse
+  course-for n s r k = rw (course-on n s k)
+
+  pub course-bare : (s : Service) (k : ℕ) → courseOn v (bare s) k ≡ courseOn v s k
+  unfolding courseOn dayCourse
+  course-bare s k = rw (legs-besides 0 (s .days) (s .extras) s (operatedLegsBy (v .runs) s k))
+
   bare-course : (s : Service) (r k : ℕ) → serviceCourse v (bare s) r k ≡ serviceCourse v s r k
-  unfolding serviceCourse courseOn dayCourse
-  bare-course s r k = rw (legs-besides 0 (s .days) (s .extras) s (operatedLegsBy (v .runs) s k))
+  unfolding serviceCourse
+  bare-course s r k = rw (course-bare s k)
 
   run-by : (a b : ServiceFound) → foundBy bare a ≡ foundBy (serviceFor σ 0) b → (r k : ℕ) → runFor bare (runBy v a r k) ≡ runFor (serviceFor σ 0) (runBy u b r k)
   run-by (noService x) (noService y) q r k = let z : _≡_ {A = ℕ} x y = cc in ap barred z
