@@ -58,10 +58,13 @@ boardingAllowed c = eqb (c .flags / 8 % 2) 0
 abbrev pub alightingAllowed : Call → Bool
 alightingAllowed c = eqb (c .flags / 4 % 2) 0
 
+abbrev pub dayMinutes : ℕ
+dayMinutes = 1440
+
 -- "over date and minutes together": a minute of a run that starts on day k of the period, counted from the period's first day on. (Document 01: "The date is
 -- that of the start; minutes may pass 1,440.")
 abbrev pub moment : ℕ → ℕ → ℕ
-moment k minutes = 1440 * k + minutes
+moment k minutes = dayMinutes * k + minutes
 
 -- where and when a run of service s, so late, boards at b and alights at a, with "the categories of the leg arriving and the leg departing": of the leg into the call where it alights, and
 -- of the leg out of the call where it boards

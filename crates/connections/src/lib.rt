@@ -46,7 +46,7 @@ pub enum Staged {
     Refused(u32),
 }
 
-// That a connection holds, or the refusal and the first bad part, counted from 1 (0 for 21 and 46).
+// That a connection holds, or the refusal and the first bad part, counted from 1 (0 for 21 and 46, and for 43 of the index as a whole).
 pub enum ConnectionAnswer {
     Holds,
     Refused { number: u32, part: u32 },
@@ -57,6 +57,8 @@ pub const PART_WORDS: usize = 7;
 
 // "1 to 10 parts"
 pub const MOST_PARTS: usize = 10;
+
+const DAY_MINUTES: u32 = 1440;
 
 // ---- the connection
 
@@ -73,7 +75,7 @@ pub fn connection(w: &[u32], parts: &[u32]) -> ConnectionAnswer
     connection_by(table::used_words(w), &w[0..0], parts)
 }
 
-// The same on any words with any words lent as their index: 21, 43 (which names 0), 46, then part by part.
+// The same on any words with any words lent as their index: 21, 43 (both name 0), 46, then part by part; 43 of a service's record names the part.
 pub fn quick_connection(w: &[u32], x: &[u32], parts: &[u32]) -> ConnectionAnswer
     ensures { λ r. ⌜ r ≡ connectionQuick (now (w .entry)) (now (x .entry)) (now (parts .entry)) ⌝ }
 {
@@ -362,7 +364,7 @@ fn moment_of(k: u32, minute: u32, late: u32) -> u32
     requires { ⌜ (k < mostPeriodDays) × (minute ≤ latestTime) × (late ≤ mostDelay) ⌝ }
     ensures { λ r. ⌜ r ≡ moment k (minute + late) ⌝ }
 {
-    1440 * k + (minute + late)
+    DAY_MINUTES * k + (minute + late)
 }
 
 // Whether so many minutes pass from one moment to another: no word is so large that the sum wraps.
