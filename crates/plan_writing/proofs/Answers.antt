@@ -1,8 +1,8 @@
 -- The needs of `write_table` and `write_plan`, for `search answers` and `search asked`. Assumes nothing.
-use mathlib.Core.Path.{_≡_, refl, ap, sym, _∙_}
+use mathlib.Core.Path.{_≡_, ap, sym, _∙_}
 use mathlib.Core.List.{List}
 use mathlib.Core.Bool.{Bool, true, false, not, cond}
-use Prim.Native.Nat.{ℕ, _*_, _^_, _≤_, _<_}
+use Prim.Native.Nat.{ℕ, _*_, _≤_, _<_}
 use native.Mathlib.Omega.{arith}
 use lib.ListN.{length}
 use lib.Dec.{ltb}
@@ -18,7 +18,7 @@ use Rattle.table.proofs.JustTable.{used-just, used-same}
 use Rattle.plan_services.specs.Services.{planLines}
 use Rattle.plan_services.proofs.Services.{plan-length}
 use Rattle.writable.specs.Writable.{serviceWritable}
-use Rattle.plan_writing.specs.Writing.{tableText, tableWritable, shortOr, planAnswer, bytesBy, planBytes}
+use Rattle.plan_writing.specs.Writing.{tableText, tableWritable, planAnswer, bytesBy, planBytes}
 use Rattle.plan_writing.specs.declared.WriteAnswer.{WriteAnswer}
 use Rattle.plan_writing.specs.declared.WriteAnswer.the-variants.{Bytes, Refused}
 

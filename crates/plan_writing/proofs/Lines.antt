@@ -1,20 +1,19 @@
 -- The needs of the functions that write a record's lines, for `search range`, `search ranges` and `search calls`. Assumes nothing.
 use mathlib.Core.Path.{_≡_, refl, ap, sym, _∙_}
-use mathlib.Core.List.{List, [], _∷_, _++_, map, append-assoc}
+use mathlib.Core.List.{List, [], _++_, map, append-assoc}
 use mathlib.Core.Bool.{Bool, true, cond}
 use Prim.Native.Nat.{ℕ, zero, suc, _+_, _-_, _*_, _^_, _≤_, _<_}
 use native.Mathlib.Nat.{add-zero}
 use native.Mathlib.Omega.{arith}
 use lib.ListN.{length, getD, drop, length-append}
 use lib.Seq.{getD-drop}
-use lib.Dec.{eqb}
 use borrow.Author.Tests.{eq-eqb, ne-eqb}
 use Rattle.base.specs.Lists.{every}
 use Rattle.base.proofs.Laws.{tests}
 use Rattle.timetable.specs.Delivery.{StopRecord}
 use Rattle.timetable.specs.Layout.{serviceHead, callSize, kindZ}
 use Rattle.timetable.specs.Plan.{VE}
-use Rattle.timetable.specs.Table.{rowsIn, callAt, calls#, stops#, openingAt, tableOf, callSound, sizesSound}
+use Rattle.timetable.specs.Table.{rowsIn, callAt, calls#, openingAt, callSound}
 use Rattle.timetable.specs.declared.Opening.{Opening}
 use Rattle.timetable.specs.declared.Call.{Call}
 use Rattle.timetable.specs.declared.Part.{Part}
@@ -27,8 +26,8 @@ use Rattle.line_text.specs.Laid.{textOf}
 use Rattle.plan_text.specs.PlanText.{withLF, categoryOf, attributeText, openingText, frequencyText, categoryText, dayText, extraText, callText}
 use Rattle.plan_text.proofs.Lengths.{category-length, day-length, extra-length, call-length}
 use Rattle.plan_services.specs.Services.{openingLine}
-use Rattle.service_lines.specs.Record.{partSize, partCount, partPlace, here, partRows, shownCall, callRows, Standing}
-use Rattle.service_lines.proofs.Parts.{ranges-start, ranges-now, ranges-place, ranges-left}
+use Rattle.service_lines.specs.Record.{partSize, partCount, partPlace, here, partRows, shownCall, callRows}
+use Rattle.service_lines.proofs.Parts.{size-low, range-first, range-second, ranges-start, ranges-now, ranges-place, ranges-left}
 use Rattle.service_lines.proofs.Calls.{calls-just, calls-head, calls-start, calls-sound, sound-now, sound-left}
 use Rattle.plan_writing.specs.Record.{rangeText, partText, callsText}
 
@@ -52,19 +51,8 @@ pub ruleset first = (tests, first-opening, first-frequency)
 
 -- ---- the line of a range at p
 
-size-low : (x : Part) → 3 ≤ partSize x
-size-low Category = omega arith
-size-low Days = omega arith
-size-low Extra = omega arith
-
 module _ (x : Part) (s : List ℕ) (p : ℕ) where
   module _ (h : p + partSize x ≤ length s) where
-    pub range-first : p < length s
-    range-first = omega (arith, size-low x)
-
-    pub range-second : p + 1 < length s
-    range-second = omega (arith, size-low x)
-
     pub range-third : p + 2 < length s
     range-third = omega (arith, size-low x)
 

@@ -3,28 +3,27 @@
 use mathlib.Core.Path.{_≡_, refl, ap, sym, _∙_}
 use mathlib.Core.List.{List, [], _∷_, _++_, map, append-assoc}
 use mathlib.Core.Bool.{Bool, true, false, cond}
-use Prim.Native.Nat.{ℕ, zero, suc, _+_, _-_, _*_, _^_, _≤_, _<_}
+use Prim.Native.Nat.{ℕ, zero, suc, _+_, _-_, _*_, _≤_, _<_}
 use native.Mathlib.Omega.{arith}
 use lib.Dec.{eqb}
-use lib.ListN.{length, getD, take, drop, length-append, length-map}
+use lib.ListN.{length, getD, take, drop, length-append}
 use Rattle.base.proofs.Laws.{tests}
 use Rattle.timetable.specs.Delivery.{StopRecord, Service}
-use Rattle.timetable.specs.Layout.{serviceHead, callSize, categorySize, daySize, extraSize, kindZ}
-use Rattle.timetable.specs.Table.{rowsIn, categoryAt, dayAt, extraAt, calls#, categories#, days#, extras#, categoryPlace, dayPlace, extraPlace, stops#, services#, servicesPlace, serviceAt, servicesIn, openingAt, resolved, tableOf, recordsSound}
+use Rattle.timetable.specs.Layout.{serviceHead, callSize, kindZ}
+use Rattle.timetable.specs.Table.{rowsIn, categoryAt, dayAt, extraAt, calls#, categories#, days#, extras#, categoryPlace, dayPlace, extraPlace, stops#, services#, servicesPlace, serviceAt, openingAt, resolved, tableOf, recordsSound}
 use Rattle.timetable.specs.declared.Part.{Part}
 use Rattle.timetable.specs.declared.Part.the-variants.{Category, Days, Extra}
 use Rattle.timetable.proofs.Rows.{length-rows}
 use Rattle.words.specs.Words.{write}
-use Rattle.words.proofs.Laws.{write-none, write-write, write-turn}
+use Rattle.words.proofs.Laws.{write-none, write-write}
 use Rattle.table.specs.JustTable.{JustTable}
 use Rattle.table.proofs.JustTable.{just-word}
 use Rattle.line_text.specs.Laid.{textOf}
 use Rattle.plan_text.specs.PlanText.{withLF, openingText, frequencyText, categoryText, dayText, extraText, callText}
-use Rattle.plan_text.proofs.Lengths.{opening-length, frequency-length, category-length, day-length, extra-length, call-length}
+use Rattle.plan_text.proofs.Lengths.{opening-length, frequency-length, call-length}
 use Rattle.plan_services.specs.Services.{openingLine, restLines, serviceLines, planLines, planText}
-use Rattle.plan_services.proofs.Services.{plan-length}
-use Rattle.service_lines.specs.Record.{partSize, partCount, partPlace, here, partRows, callRows, shownCall, shown, Standing}
-use Rattle.service_lines.proofs.Services.{map-rows, calls-shown, lines-are, shownFrom, shown-all, shown-now, no-service, standing-head, standing-sized, start-place, services-here, standing, records-inside, records-fit, records-place, records-left}
+use Rattle.service_lines.specs.Record.{partSize, partCount, partPlace, here, partRows, callRows, shownCall, shown}
+use Rattle.service_lines.proofs.Services.{calls-shown, shownFrom, shown-all, shown-now, no-service, standing-head, standing-sized, start-place, services-here, standing, records-inside, records-fit, records-place, records-left}
 use Rattle.plan_writing.specs.Writing.{tableText}
 use Rattle.plan_writing.specs.Record.{rangeText, partText, callsText, recordText}
 use Rattle.plan_writing.proofs.Lines.{range-length}

@@ -2,7 +2,7 @@
 use Prim.Native.Nat.{ℕ}
 use mathlib.Core.List.{List, map}
 use Rattle.timetable.specs.Delivery.{StopRecord}
-use Rattle.timetable.specs.Table.{categoryAt, dayAt, extraAt, tableOf}
+use Rattle.timetable.specs.Table.{categoryAt, dayAt, extraAt}
 use Rattle.timetable.specs.declared.Part.{Part}
 use Rattle.timetable.specs.declared.Part.the-variants.{Category, Days, Extra}
 use Rattle.line_text.specs.Laid.{textOf}

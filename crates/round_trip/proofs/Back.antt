@@ -1,35 +1,35 @@
 -- 44 is told of a table exactly where the text of its services would not be read back: `no-44`, `back-no-44`. Assumes nothing.
 use mathlib.Core.Path.{_≡_, refl, ap, sym, _∙_, subst}
-use mathlib.Core.List.{List, [], _∷_, _++_, map}
+use mathlib.Core.List.{List, [], _∷_, map}
 use mathlib.Core.Logic.{_⊎_, inl, inr}
 use mathlib.Core.Bool.{Bool, true, false, cond}
-use Prim.Native.Nat.{ℕ, _+_, _≤_, _<_}
+use Prim.Native.Nat.{ℕ, _+_, _≤_}
 use native.Mathlib.Omega.{arith}
 use lib.ListN.{length, length-map}
-use lib.Dec.{ltb, eqb}
+use lib.Dec.{ltb}
 use borrow.Author.Tests.{eq-eqb, ne-eqb}
-use Rattle.base.specs.Lists.{All, nil, cons, every}
-use Rattle.base.proofs.Laws.{apart, clash}
+use Rattle.base.specs.Lists.{All, nil, cons}
+use Rattle.base.proofs.Laws.{apart}
 use Rattle.lines.specs.Lines.{Line, linesOf}
-use Rattle.timetable.specs.Delivery.{StopRecord, CategoryRange, DayRange, ExtraRange, Service}
-use Rattle.timetable.specs.Layout.{mostCalls, kindZ, kindT}
+use Rattle.timetable.specs.Delivery.{StopRecord, Service}
+use Rattle.timetable.specs.Layout.{mostCalls, kindZ}
 use Rattle.timetable.specs.Plan.{toldIn, tolds, opens}
 use Rattle.timetable.specs.Service.{headLines, blocks, callsOf, serviceOf}
-use Rattle.timetable.specs.Table.{stops#, services#, servicesPlace, used, stopsAt, servicesIn, resolved, withStop, stopNumberAt, tableOf, isTable}
+use Rattle.timetable.specs.Table.{stops#, services#, stopsAt, resolved, withStop, stopNumberAt, tableOf, isTable}
 use Rattle.timetable.specs.declared.Opening.{Opening}
-use Rattle.timetable.specs.declared.Call.{Call}
 use Rattle.timetable.specs.declared.CallLine.{CallLine}
 use Rattle.timetable.specs.declared.RangeLine.{RangeLine}
 use Rattle.timetable.specs.declared.Told.{Told}
-use Rattle.timetable.specs.declared.Told.the-variants.{Other, Broken, Opens, Ranges, Calls}
+use Rattle.timetable.specs.declared.Told.the-variants.{Opens, Ranges, Calls}
 use Rattle.table.proofs.Says.{table-records}
+use Rattle.whole_runs.proofs.Lists.{all-append}
 use Rattle.line_text.specs.Laid.{linesOn}
 use Rattle.line_text.proofs.Lines.{lines-of-text}
 use Rattle.plan_text.specs.PlanText.{openingText, frequencyText, categoryText, dayText, extraText, callText, OpeningHeld, FrequencyHeld, CallHeld}
 use Rattle.plan_text.proofs.Openings.{opening-told, frequency-told}
 use Rattle.plan_text.proofs.Ranges.{category-told, day-told, extra-told}
 use Rattle.plan_text.proofs.Calls.{call-told}
-use Rattle.plan_services.specs.Services.{openingLine, restLines, serviceLines, planLines, planText, atLine, renumbered, CategoryOn, DaysOn, ExtraOn, ServiceHeld}
+use Rattle.plan_services.specs.Services.{openingLine, restLines, serviceLines, planLines, planText, renumbered, CategoryOn, DaysOn, ExtraOn, ServiceHeld}
 use Rattle.plan_services.proofs.Services.{plan-clean, plan-back}
 use Rattle.plan_accepted.proofs.Written.{lines-clean, Block, blocks-clean, read-held}
 use Rattle.plan_writing.specs.Writing.{tableText, tableWritable, shortOr, planAnswer}
@@ -66,22 +66,18 @@ each : {X : Type 0} (f : X → List ℕ) (ok : X → Type 0) → ((x : X) → ok
 each f ok e nil = nil
 each f ok e (cons {x} h t) = cons (e x h) (each f ok e t)
 
-join : (a b : List (List ℕ)) → All Says a → All Says b → All Says (a ++ b)
-join [] b nil q = q
-join (l ∷ a) b (cons h t) q = cons h (join a b t q)
-
 rest-says : (s : Service) → ServiceHeld s → All Says (restLines s)
 unfolding restLines
 rest-says s h =
-    join (map categoryText (s .categories)) _ (each categoryText (CategoryOn (length (s .calls))) (λ r k. ranges-formed _ _ (category-told r (k .held))) (h .categories-held))
-    (join (map dayText (s .days)) _ (each dayText (DaysOn (length (s .calls))) (λ r k. ranges-formed _ _ (day-told r (k .held))) (h .days-held))
-    (join (map extraText (s .extras)) _ (each extraText (ExtraOn (length (s .calls))) (λ r k. ranges-formed _ _ (extra-told r (k .held) (k .not-days))) (h .extras-held))
+    all-append Says (each categoryText (CategoryOn (length (s .calls))) (λ r k. ranges-formed _ _ (category-told r (k .held))) (h .categories-held))
+    (all-append Says (each dayText (DaysOn (length (s .calls))) (λ r k. ranges-formed _ _ (day-told r (k .held))) (h .days-held))
+    (all-append Says (each extraText (ExtraOn (length (s .calls))) (λ r k. ranges-formed _ _ (extra-told r (k .held) (k .not-days))) (h .extras-held))
     (each callText CallHeld (λ c k. calls-formed _ _ (call-told c k)) (h .calls-held))))
 
 plan-says : (ss : List Service) → All ServiceHeld ss → All Says (planLines ss)
 unfolding planLines
 plan-says [] nil = nil
-plan-says (s ∷ ss) (cons h t) = cons (opening-says (s .opening) (h .opening-held)) (join (restLines s) (planLines ss) (rest-says s h) (plan-says ss t))
+plan-says (s ∷ ss) (cons h t) = cons (opening-says (s .opening) (h .opening-held)) (all-append Says (rest-says s h) (plan-says ss t))
 
 lines-formed : (n at : ℕ) (ls : List (List ℕ)) → All Says ls → All Formed (tolds (linesOn n at ls))
 unfolding tolds linesOn

@@ -1,7 +1,7 @@
 -- Every line is bytes, whatever its values: `text-bytes`. Assumes nothing.
 use mathlib.Core.Path.{_≡_, refl}
 use mathlib.Core.List.{List, [], _∷_, _++_, map}
-use mathlib.Core.Bool.{Bool, true, false, cond, _&&_}
+use mathlib.Core.Bool.{Bool, true, false, cond}
 use Prim.Native.Nat.{ℕ, _+_, _-_, _/_, _%_, _<_}
 use native.Mathlib.Omega.{arith}
 use lib.Dec.{ltb, eqb}
@@ -15,13 +15,14 @@ use Rattle.timetable.specs.Plan.{VE}
 use Rattle.timetable.specs.Ranges.{hasArrival, hasDeparture}
 use Rattle.timetable.specs.declared.Opening.{Opening}
 use Rattle.timetable.specs.declared.Call.{Call}
+use Rattle.whole_runs.proofs.Lists.{all-append}
 use Rattle.line_text.specs.Text.{decimal, hashText, clockText, clockNumber, twoOf, threeOf}
 use Rattle.line_text.specs.Laid.{Field, field, laid, textOf}
 use Rattle.line_text.proofs.Numbers.{every-blanks, every-decimal, length-decimal}
 use Rattle.line_text.proofs.Fields.{pad-whole, length-hash, length-clock, every-hash}
 use Rattle.line_text.proofs.Laid.{everyField, every-laid}
 use Rattle.plan_text.specs.PlanText.{sixOf, noAlighting, noBoarding, openingFields, frequencyFields, categoryFields, attributeFields, callFields, openingText, frequencyText, categoryText, dayText, extraText, callText}
-use Rattle.plan_services.specs.Services.{openingLine, restLines, serviceLines, planLines, planText}
+use Rattle.plan_services.specs.Services.{openingLine, restLines, planLines, planText}
 
 abbrev small : ℕ → Bool
 small b = ltb b 256
@@ -119,17 +120,13 @@ each : {X : Type 0} (f : X → List ℕ) → ((x : X) → Small (f x)) → (xs :
 each f e [] = nil
 each f e (x ∷ xs) = cons (e x) (each f e xs)
 
-join : (a b : List (List ℕ)) → All Small a → All Small b → All Small (a ++ b)
-join [] b nil q = q
-join (l ∷ a) b (cons h t) q = cons h (join a b t q)
-
 plan-small : (ss : List Service) → All Small (planLines ss)
 unfolding planLines restLines
 plan-small [] = nil
 plan-small (s ∷ ss) =
     cons (line-small (s .opening))
-    (join (restLines s) (planLines ss)
-    (join (map categoryText (s .categories)) _ (each categoryText category-small (s .categories)) (join (map dayText (s .days)) _ (each dayText day-small (s .days)) (join (map extraText (s .extras)) _ (each extraText extra-small (s .extras)) (each callText call-small (s .calls)))))
+    (all-append Small
+    (all-append Small (each categoryText category-small (s .categories)) (all-append Small (each dayText day-small (s .days)) (all-append Small (each extraText extra-small (s .extras)) (each callText call-small (s .calls)))))
     (plan-small ss))
 
 onto-bytes : (l r : List ℕ) → Small l → All (λ (b : ℕ). b < 256) r → All (λ (b : ℕ). b < 256) (l ++ r)

@@ -1,9 +1,9 @@
 -- 44's tests say what the lines can hold, both ways: `held-writable`, and for a service of a table `writable-held`. Assumes nothing.
-use mathlib.Core.Path.{_≡_, refl, ap, sym, _∙_, subst}
+use mathlib.Core.Path.{_≡_, refl, ap, sym, _∙_}
 use mathlib.Core.List.{List, [], _∷_, _++_, map}
 use mathlib.Core.Logic.{_⊎_, inl, inr}
 use mathlib.Core.Bool.{Bool, true, false, cond, not, _&&_, _||_}
-use Prim.Native.Nat.{ℕ, zero, suc, _+_, _*_, _/_, _%_, _≤_, _<_}
+use Prim.Native.Nat.{ℕ, zero, suc, _+_, _/_, _%_, _≤_, _<_}
 use native.Mathlib.Omega.{arith}
 use lib.ListN.{length, drop, length-map}
 use lib.Dec.{ltb, leb, eqb}
@@ -12,10 +12,10 @@ use Rattle.base.specs.Lists.{All, nil, cons, every}
 use Rattle.base.proofs.Laws.{clash}
 use Rattle.base.proofs.Loops.{and-true}
 use Rattle.columns.specs.Columns.{isBlank}
-use Rattle.timetable.specs.Delivery.{StopRecord, Legs, CategoryRange, DayRange, ExtraRange, Service}
-use Rattle.timetable.specs.Layout.{serviceHead, callSize, mostCalls, kindZ, kindT, mostRepeats, mostRunning, latestTime, allFlags}
+use Rattle.timetable.specs.Delivery.{StopRecord, Legs, CategoryRange, DayRange, Service}
+use Rattle.timetable.specs.Layout.{serviceHead, callSize, mostCalls, kindZ, kindT, mostRepeats, mostRunning}
 use Rattle.timetable.specs.Plan.{VE}
-use Rattle.timetable.specs.Ranges.{inOrder, hasArrival, hasDeparture}
+use Rattle.timetable.specs.Ranges.{hasArrival}
 use Rattle.timetable.specs.Runs.{openingSound}
 use Rattle.timetable.specs.Table.{callAt, recordWords, calls#, serviceAt, servicesIn, stops#, services#, servicesPlace, used, stopsAt, tableOf, withStop, stopNumberAt, resolved, callSound, legsSound, serviceSound, sizesSound, recordSound, recordsSound, isTable}
 use Rattle.timetable.specs.declared.Opening.{Opening}
@@ -24,30 +24,23 @@ use Rattle.timetable.proofs.Rows.{length-rows}
 use Rattle.table.proofs.Says.{sizes-say, call-says, table-records}
 use Rattle.line_text.specs.Text.{twoOf, threeOf}
 use Rattle.line_text.specs.Laid.{notLF}
-use Rattle.plan_text.specs.PlanText.{sixOf, filled, noAlighting, noBoarding, AdministrationHeld, OpeningHeld, FrequencyHeld, LegsHeld, CategoryHeld, AttributeHeld, CallHeld}
-use Rattle.plan_services.specs.Services.{LegsOn, CategoryOn, DaysOn, ExtraOn, ServiceHeld}
+use Rattle.line_text.proofs.Numbers.{every-append}
+use Rattle.plan_text.specs.PlanText.{filled, noAlighting, AdministrationHeld, OpeningHeld, FrequencyHeld, LegsHeld, CategoryHeld, AttributeHeld, CallHeld}
+use Rattle.plan_services.specs.Services.{CategoryOn, DaysOn, ExtraOn, ServiceHeld}
+use Rattle.plan_accepted.proofs.Written.{found-on, found-held}
 use Rattle.plan_writing.specs.Writing.{tableWritable}
-use Rattle.writable.specs.Writable.{filledByte, halfWritable, administrationWritable, openingWritable, nameWritable, categoryWritable, fieldWritable, daysWritable, codeWritable, extraWritable, timeWritable, timesWritable, callWritable, serviceWritable}
+use Rattle.writable.specs.Writable.{halfWritable, administrationWritable, openingWritable, nameWritable, categoryWritable, fieldWritable, daysWritable, codeWritable, extraWritable, timeWritable, callWritable, serviceWritable}
 
 -- ---- tests of lists
 
 both : (a b : Bool) → a ≡ true → b ≡ true → (a && b) ≡ true
 both a b p q = rw (p, q)
 
-every-append : (t : ℕ → Bool) (a b : List ℕ) → every t a ≡ true → every t b ≡ true → every t (a ++ b) ≡ true
-unfolding every
-every-append t [] b p q = q
-every-append t (x ∷ a) b p q =
-    let r = and-true (t x) (every t a) p in
-    both (t x) (every t (a ++ b)) (r .0) (every-append t a b (r .1) q)
+every-join : (t : ℕ → Bool) (a b : List ℕ) → every t a ≡ true → every t b ≡ true → every t (a ++ b) ≡ true
+every-join t a b p q = every-append t a b ∙ both (every t a) (every t b) p q
 
-every-front : (t : ℕ → Bool) (a b : List ℕ) → every t (a ++ b) ≡ true → (every t a ≡ true) × (every t b ≡ true)
-unfolding every
-every-front t [] b p = (refl, p)
-every-front t (x ∷ a) b p =
-    let r = and-true (t x) (every t (a ++ b)) p in
-    let s = every-front t a b (r .1) in
-    (both (t x) (every t a) (r .0) (s .0), s .1)
+every-parts : (t : ℕ → Bool) (a b : List ℕ) → every t (a ++ b) ≡ true → (every t a ≡ true) × (every t b ≡ true)
+every-parts t a b p = and-true (every t a) (every t b) (sym (every-append t a b) ∙ p)
 
 every-both : (t u : ℕ → Bool) (a : List ℕ) → every t a ≡ true → every u a ≡ true → every (λ (b : ℕ). t b && u b) a ≡ true
 unfolding every
@@ -101,14 +94,14 @@ administration-held high low e =
     record {
       high-fits = a .0;
       low-fits = b .0;
-      filled-in = every-append (λ (b : ℕ). not (isBlank b)) (threeOf high) (threeOf low) (a .1) (b .1);
-      no-LF = every-append notLF (threeOf high) (threeOf low) (a .2) (b .2);
+      filled-in = every-join (λ (b : ℕ). not (isBlank b)) (threeOf high) (threeOf low) (a .1) (b .1);
+      no-LF = every-join notLF (threeOf high) (threeOf low) (a .2) (b .2);
     }
 
 held-administration : (high low : ℕ) → AdministrationHeld high low → administrationWritable high low ≡ true
 held-administration high low h =
-    let f = every-front (λ (b : ℕ). not (isBlank b)) (threeOf high) (threeOf low) (h .filled-in) in
-    let l = every-front notLF (threeOf high) (threeOf low) (h .no-LF) in
+    let f = every-parts (λ (b : ℕ). not (isBlank b)) (threeOf high) (threeOf low) (h .filled-in) in
+    let l = every-parts notLF (threeOf high) (threeOf low) (h .no-LF) in
     both (halfWritable high) (halfWritable low) (half-of high (h .high-fits) (f .0) (l .0)) (half-of low (h .low-fits) (f .1) (l .1))
 
 -- ---- an opening line
@@ -172,19 +165,6 @@ opening-held o e w =
         })
 
 -- ---- ranges
-
-legs-held : (n : ℕ) → n ≤ mostCalls → (x : Bool) (g : Legs) → legsSound x n g ≡ true → LegsOn x n g
-legs-held n m x g e =
-    let q = and-true (inOrder x (g .from) (g .to)) (ltb (g .to) n) e in
-    let u = ltb-true (g .to) n (q .1) in
-    record { from-on = before x (q .0) u; to-on = u; ordered = q .0 }
-  where
-    before : (x : Bool) → inOrder x (g .from) (g .to) ≡ true → g .to < n → g .from < n
-    before true v u = omega (arith, leb-true (g .from) (g .to) v)
-    before false v u = omega (arith, ltb-true (g .from) (g .to) v)
-
-legs-fit : (n : ℕ) → n ≤ mostCalls → (x : Bool) (g : Legs) → LegsOn x n g → LegsHeld g
-legs-fit n m x g h = record { from-fits = omega (arith, h .from-on); to-fits = omega (arith, h .to-on) }
 
 name-says : (n : ℕ) (g : Legs) → nameWritable n ≡ true → LegsHeld g → CategoryHeld n g
 unfolding nameWritable
@@ -322,13 +302,13 @@ writable-held stops n s h e =
     record {
       opening-held = opening-held (s .opening) o o';
       categories-held = all-of (CategoryOn (length cs)) _ categoryWritable
-          (λ r p q. let l = legs-held (length cs) few false (r .legs) (rw m p) in record { held = name-says (r .name) (r .legs) q (legs-fit (length cs) few false (r .legs) l); legs-on = l })
+          (λ r p q. let z : legsSound false (length cs) (r .legs) ≡ true = rw m p in record { held = name-says (r .name) (r .legs) q (found-held (length cs) few false (r .legs) z); legs-on = found-on (length cs) few false (r .legs) z })
           (s .categories) g g';
       days-held = all-of (DaysOn (length cs)) _ daysWritable
-          (λ r p q. let l = legs-held (length cs) few false (r .legs) (rw m p) in record { held = days-says (r .field) (r .legs) q (legs-fit (length cs) few false (r .legs) l); legs-on = l })
+          (λ r p q. let z : legsSound false (length cs) (r .legs) ≡ true = rw m p in record { held = days-says (r .field) (r .legs) q (found-held (length cs) few false (r .legs) z); legs-on = found-on (length cs) few false (r .legs) z })
           (s .days) v v';
       extras-held = all-of (ExtraOn (length cs)) _ extraWritable
-          (λ r p q. let l = legs-held (length cs) few true (r .legs) (rw m p) in let k = extra-says (r .code) (r .field) (r .legs) q (legs-fit (length cs) few true (r .legs) l) in record { held = k .0; not-days = k .1; legs-on = l })
+          (λ r p q. let z : legsSound true (length cs) (r .legs) ≡ true = rw m p in let k = extra-says (r .code) (r .field) (r .legs) q (found-held (length cs) few true (r .legs) z) in record { held = k .0; not-days = k .1; legs-on = found-on (length cs) few true (r .legs) z })
           (s .extras) a a';
       calls-held = calls-held f n (s .calls) c c';
     }

@@ -1,33 +1,29 @@
 -- Document 02, No. 11, proved of every accepted delivery: `round-trip`. Assumes nothing.
 use mathlib.Core.Path.{_≡_, refl, ap, sym, _∙_, subst}
-use mathlib.Core.List.{List, [], _∷_, _++_, map}
-use mathlib.Core.Bool.{Bool, true, cond}
+use mathlib.Core.List.{List, [], _∷_, _++_}
+use mathlib.Core.Bool.{true}
 use mathlib.Core.Option.{none}
 use Prim.Native.Nat.{ℕ, _+_, _≤_, _<_}
 use native.Mathlib.Omega.{arith}
 use lib.ListN.{length, drop}
-use lib.Dec.{ltb}
 use borrow.Author.Tests.{le-ltb}
 use Rattle.base.specs.Lists.{All, nil, cons}
 use Rattle.lines.specs.Lines.{linesOf}
 use Rattle.timetable.specs.Delivery.{Files, Service, Delivery}
 use Rattle.timetable.specs.Load.{delivered, lengthOffence, contentOffence, offence, helperNeeded, loaded, written}
 use Rattle.timetable.specs.Table.{tableWords, tableOf, isTable}
-use Rattle.timetable.specs.declared.Loaded.{Loaded}
 use Rattle.timetable.specs.declared.Loaded.the-variants.{Accepted}
 use Rattle.timetable.proofs.Offences.{then-none}
 use Rattle.timetable.proofs.Records.{twelve}
 use Rattle.whole_runs.proofs.Clear.{Clear, clear}
 use Rattle.whole_runs.proofs.Back.{fields-twelve}
-use Rattle.whole_runs.proofs.Accepted.{Fits, accepted, no-offence, written-is, table-is, table-holds}
+use Rattle.whole_runs.proofs.Accepted.{accepted, no-offence, written-is, table-is, table-holds}
 use Rattle.plan_services.specs.Services.{serviceLines, planText, renumbered, ServiceHeld}
 use Rattle.plan_accepted.proofs.Written.{withPlan, accepted-held, delivered-back}
 use Rattle.plan_accepted.proofs.Size as size
 use Rattle.plan_writing.specs.Writing.{tableText, tableWritable, shortOr, planAnswer, bytesBy, planBytes}
-use Rattle.plan_writing.specs.declared.WriteAnswer.{WriteAnswer}
-use Rattle.plan_writing.specs.declared.WriteAnswer.the-variants.{Refused}
 use Rattle.round_trip.specs.Lines.{exceptLines}
-use Rattle.round_trip.specs.RoundTrip.{withText, table, clean, tableAgain, RoundTrip}
+use Rattle.round_trip.specs.RoundTrip.{withText, table, clean, RoundTrip}
 use Rattle.round_trip.proofs.Held.{held-table}
 use Rattle.round_trip.proofs.Words.{withServices, length-same, except-same}
 

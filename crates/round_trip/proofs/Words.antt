@@ -1,14 +1,14 @@
 -- The words of two deliveries that differ in their services' opening line numbers only are the same but for these: `except-same`. Assumes nothing.
 use mathlib.Core.Path.{_≡_, refl, ap, sym, _∙_}
 use mathlib.Core.List.{List, [], _∷_, _++_, map, append-assoc}
-use Prim.Native.Nat.{ℕ, zero, suc, _+_, _*_, _≤_}
+use Prim.Native.Nat.{ℕ, suc, _+_}
 use native.Mathlib.Omega.{arith}
-use lib.ListN.{length, take, drop, set, length-append, length-map}
+use lib.ListN.{length, set, length-append, length-map}
 use lib.Seq.{take-at, drop-at}
 use Rattle.base.specs.Lists.{All, gathered}
 use Rattle.timetable.specs.Delivery.{StopRecord, Service, Delivery}
-use Rattle.timetable.specs.Layout.{headerSize, bitFieldSize, stopSize, interchangeSize, classSize, firstService}
-use Rattle.timetable.specs.Table.{withStops, pointing, bitFieldWords, stopWords, interchangeWords, classWords, serviceSize, headWords, serviceWords, sections, tableWords, recordWords, services#, servicesPlace}
+use Rattle.timetable.specs.Layout.{headerSize, firstService}
+use Rattle.timetable.specs.Table.{pointing, bitFieldWords, stopWords, interchangeWords, classWords, serviceSize, serviceWords, sections, tableWords, recordWords, services#, servicesPlace}
 use Rattle.timetable.proofs.Records.{twelve, fields-length, stops-length, interchanges-length, classes-length, service-length}
 use Rattle.plan_services.specs.Services.{atLine, renumbered, serviceLines}
 use Rattle.round_trip.specs.Lines.{unlined, exceptLines}

@@ -1,10 +1,10 @@
 -- The needs of the functions on a record's calls, for `search calls`. Assumes nothing.
-use mathlib.Core.Path.{_≡_, refl, ap, sym, _∙_}
+use mathlib.Core.Path.{_≡_, refl, ap, _∙_}
 use mathlib.Core.List.{List}
-use mathlib.Core.Bool.{Bool, true, false, not, _&&_}
-use Prim.Native.Nat.{ℕ, _+_, _-_, _*_, _^_, _≤_, _<_}
+use mathlib.Core.Bool.{Bool, true, false, not}
+use Prim.Native.Nat.{ℕ, _+_, _-_, _*_, _≤_, _<_}
 use native.Mathlib.Omega.{arith}
-use lib.ListN.{length, getD, drop}
+use lib.ListN.{length, drop}
 use Rattle.base.specs.Lists.{every}
 use Rattle.base.proofs.Laws.{tests}
 use Rattle.base.proofs.Loops.{and-true}
@@ -18,7 +18,7 @@ use Rattle.timetable.specs.View.{View}
 use Rattle.table.proofs.JustTable.{just-header}
 use Rattle.index.specs.Index.{Ready, viewIn}
 use Rattle.index.proofs.Agrees.{view-plain}
-use Rattle.table.proofs.Says.{sizes-say, head-word, record-says, record-sized, call-says}
+use Rattle.table.proofs.Says.{head-word, record-says, record-sized, call-says}
 use Rattle.writable.specs.Writable.{callWritable}
 use Rattle.service_lines.specs.Record.{shownCall, callRows, Standing}
 

@@ -1,5 +1,5 @@
 -- The needs of the functions on a record's ranges, for `search parts` and `search ranges`. Assumes nothing.
-use mathlib.Core.Path.{_≡_, refl, ap, sym, _∙_}
+use mathlib.Core.Path.{_≡_, _∙_}
 use mathlib.Core.List.{List}
 use mathlib.Core.Bool.{Bool, true, false, not, _&&_}
 use Prim.Native.Nat.{ℕ, _+_, _-_, _*_, _^_, _≤_, _<_}
@@ -9,8 +9,8 @@ use lib.ListN.{length, getD, drop}
 use lib.Seq.{getD-drop}
 use Rattle.base.specs.Lists.{every}
 use Rattle.base.proofs.Laws.{tests}
-use Rattle.timetable.specs.Layout.{serviceHead, daySize}
-use Rattle.timetable.specs.Table.{rowsIn, categories#, days#, extras#, categoryPlace, dayPlace, extraPlace, sizesSound}
+use Rattle.timetable.specs.Layout.{daySize}
+use Rattle.timetable.specs.Table.{rowsIn, categories#, days#, extras#, categoryPlace, dayPlace, sizesSound}
 use Rattle.timetable.specs.declared.Part.{Part}
 use Rattle.timetable.specs.declared.Part.the-variants.{Category, Days, Extra}
 use Rattle.timetable.proofs.Rows.{stride-turn, rows-again, rows-out, rows-done}
@@ -61,7 +61,7 @@ pub ruleset parts = (tests, head-word, record-inside, days-fit, days-end, count-
 
 -- ---- a range at q
 
-size-low : (p : Part) → 3 ≤ partSize p
+pub size-low : (p : Part) → 3 ≤ partSize p
 size-low Category = omega arith
 size-low Days = omega arith
 size-low Extra = omega arith

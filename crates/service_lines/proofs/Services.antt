@@ -1,9 +1,8 @@
 -- The needs of the functions on whole records and on all services, for `search service`, `search services` and `search lines`. Assumes nothing.
 use mathlib.Core.Path.{_≡_, refl, ap, sym, _∙_}
-use mathlib.Core.List.{List, [], _∷_, _++_, map}
+use mathlib.Core.List.{List, [], _∷_, map}
 use mathlib.Core.Bool.{Bool, true, false, not, _&&_}
-use Prim.Native.Nat.{ℕ, zero, suc, _+_, _-_, _*_, _^_, _≤_, _<_}
-use native.Mathlib.Nat.{add-zero}
+use Prim.Native.Nat.{ℕ, zero, suc, _+_, _-_, _^_, _≤_, _<_}
 use native.Mathlib.Omega.{arith}
 use lib.ListN.{length, getD, take, drop, length-append, length-map, length-drop}
 use lib.Seq.{drop-drop}
@@ -12,20 +11,19 @@ use borrow.Author.Tests.{not-true, not-false, leb-true}
 use Rattle.base.specs.Lists.{every}
 use Rattle.base.proofs.Laws.{tests}
 use Rattle.base.proofs.Loops.{and-true}
-use Rattle.timetable.specs.Delivery.{StopRecord, CategoryRange, DayRange, ExtraRange, Service}
-use Rattle.timetable.specs.Layout.{headerSize, serviceHead, callSize, categorySize, daySize, extraSize, mostCalls, mostCategories, mostDays, mostExtras}
+use Rattle.timetable.specs.Delivery.{Service}
+use Rattle.timetable.specs.Layout.{serviceHead, callSize, categorySize, daySize, extraSize, mostCalls, mostCategories, mostDays, mostExtras}
 use Rattle.timetable.specs.Table.{rowsIn, callAt, categoryAt, dayAt, extraAt, openingAt, recordWords, calls#, categories#, days#, extras#, categoryPlace, dayPlace, extraPlace, serviceAt, servicesIn, stops#, services#, servicesPlace, stopNumberAt, withStop, resolved, tableOf, countsSound, sizesSound, recordSound, recordsSound}
 use Rattle.timetable.specs.declared.Opening.{Opening}
-use Rattle.timetable.specs.declared.Call.{Call}
 use Rattle.timetable.specs.declared.Part.the-variants.{Category, Days, Extra}
 use Rattle.timetable.proofs.Rows.{length-rows, rows-as}
-use Rattle.table.specs.JustTable.{JustTable, recordEnd}
-use Rattle.table.proofs.Says.{Sizes, sizes-say, head-word, record-says, record-sized}
+use Rattle.table.specs.JustTable.{JustTable}
+use Rattle.table.proofs.Says.{Sizes, head-word, record-says, record-sized}
 use Rattle.table.proofs.JustTable.{just-says, just-word, services-are, services-sound}
 use Rattle.table.proofs.Records.{rest-is, one-record, first-word}
 use Rattle.plan_services.specs.Services.{serviceLines, restLines, planLines}
 use Rattle.writable.specs.Writable.{openingWritable, categoryWritable, daysWritable, extraWritable, callWritable, serviceWritable}
-use Rattle.service_lines.specs.Record.{here, partRows, rangeWritable, shownCall, callRows, shown, Standing}
+use Rattle.service_lines.specs.Record.{here, partRows, rangeWritable, callRows, shown, Standing}
 
 -- ---- what a record shows, by its rows
 

@@ -1,9 +1,9 @@
 -- The record of a service by its lines, for the contracts of inner functions: nobody has to believe this file. Assumes nothing.
-use Prim.Native.Nat.{ℕ, _+_, _*_, _≤_}
+use Prim.Native.Nat.{ℕ}
 use mathlib.Core.Path.{_≡_}
 use mathlib.Core.List.{List}
-use mathlib.Core.Bool.{Bool, true, _&&_}
-use lib.ListN.{length, drop}
+use mathlib.Core.Bool.{Bool, true}
+use lib.ListN.{drop}
 use Rattle.timetable.specs.Delivery.{StopRecord, Service}
 use Rattle.timetable.specs.Layout.{serviceHead, callSize, categorySize, daySize, extraSize}
 use Rattle.timetable.specs.Table.{rowsIn, callAt, categoryAt, dayAt, extraAt, calls#, categories#, days#, extras#, categoryPlace, dayPlace, extraPlace, stops#, stopNumberAt, withStop, resolved, serviceAt, tableOf, recordSound}

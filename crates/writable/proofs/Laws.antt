@@ -1,16 +1,14 @@
 -- The needs of the tests, for `search steps`: a test of several, one after the other. Assumes nothing.
-use mathlib.Core.Path.{_≡_, refl, sym, ap, _∙_}
-use mathlib.Core.Bool.{Bool, true, false, not, _&&_, _||_}
-use Prim.Native.Nat.{ℕ, _/_, _%_, _≤_, _<_}
-use native.Mathlib.Omega.{arith}
-use lib.Dec.{ltb, leb, eqb}
-use borrow.Author.Tests.{not-true, not-false, lt-ltb, le-ltb, eq-eqb, ne-eqb}
+use mathlib.Core.Path.{_≡_, refl, sym, _∙_}
+use mathlib.Core.Bool.{Bool, true, false, not, _&&_}
+use Prim.Native.Nat.{ℕ, _/_, _%_, _<_}
+use lib.Dec.{leb, eqb}
+use borrow.Author.Tests.{not-true, not-false, lt-ltb, ne-eqb}
 use Rattle.base.specs.Lists.{every}
 use Rattle.base.proofs.Laws.{tests}
-use Rattle.timetable.specs.Plan.{VE}
 use Rattle.timetable.specs.declared.Opening.{Opening}
 use Rattle.timetable.specs.declared.Call.{Call}
-use Rattle.line_text.specs.Text.{twoOf, threeOf}
+use Rattle.line_text.specs.Text.{twoOf}
 use Rattle.line_text.specs.Laid.{notLF}
 use Rattle.writable.specs.Writable.{filledByte, halfWritable, administrationWritable, openingWritable, codeWritable, timeWritable, callWritable}
 

@@ -5,7 +5,6 @@ use Rattle.words.specs.Words.{write}
 use Rattle.timetable.specs.Table.{rowsIn}
 use lib.ListN.{length, drop}
 use Prim.Native.Nat.{_+_, _*_, _≤_}
-use native.Mathlib.Omega.{arith}
 use mathlib.Core.List.{map}
 use mathlib.Core.Path.{_≡_}
 use Rattle.plan_writing.proofs.Lines.{ranges}

@@ -5,7 +5,6 @@ use Rattle.words.specs.Words.{write}
 use Rattle.timetable.specs.Table.{stops#, recordsSound}
 use lib.ListN.{length, drop}
 use Prim.Native.Nat.{_+_, _≤_}
-use native.Mathlib.Omega.{arith}
 use mathlib.Core.Bool.{true}
 use mathlib.Core.Path.{_≡_}
 use Rattle.plan_writing.proofs.Services.{services}
