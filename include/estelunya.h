@@ -65,6 +65,12 @@ typedef struct EstelunyaIndexResult {
     size_t words;    /* the words of the index; 29: the words needed, which are the same; 21: 0 */
 } EstelunyaIndexResult;
 
+typedef struct EstelunyaBoardResult {
+    uint32_t number; /* 0: answered; else the refusal: 21, 22, 23, 27, 43 or 29 */
+    size_t rows;     /* the departures listed; 0 if there are none, and if refused */
+    size_t needed;   /* 29: the words needed, which may pass 2^32; else 0 */
+} EstelunyaBoardResult;
+
 typedef struct EstelunyaWriteResult {
     uint32_t number; /* 0: written; else the refusal: 21, 44 or 45 */
     size_t bytes;    /* the bytes written; 45: the bytes needed, which are the same; else 0 */
@@ -190,6 +196,13 @@ typedef struct EstelunyaDayCountResult {
 #define ESTELUNYA_ROW_CATEGORY_AT 7       /* of the leg that leaves: columns 4-6 of its *G line; 0 in the last row */
 #define ESTELUNYA_ROW_FIRST_TIME_AT 8     /* the stop's interchange time for two classes that are both 0, 1 or 2 */
 #define ESTELUNYA_ROW_SECOND_TIME_AT 9    /* the stop's interchange time for all other classes */
+
+/* Row of a board: a departure */
+#define ESTELUNYA_BOARD_ROW_WORDS 4
+#define ESTELUNYA_BOARD_TIME_AT 0    /* in minutes from the start of the date, with the run's lateness, so that it may pass 1,440 */
+#define ESTELUNYA_BOARD_SERVICE_AT 1 /* index of the service, from 0 */
+#define ESTELUNYA_BOARD_REPEAT_AT 2  /* number of its run, as a walk takes it */
+#define ESTELUNYA_BOARD_PLACE_AT 3   /* place of the call in the service's route, from 0 */
 
 /*
  * Index: words beside a table, made of it by estelunya_index. It is never longer than the table. With B bit fields, S stops, M interchange records, C categories and
@@ -363,6 +376,32 @@ EstelunyaWalkResult estelunya_quick_walk(
     uint32_t service, uint32_t repeat,
     uint32_t day, uint32_t month, uint32_t year,
     uint32_t *rows, size_t rows_len);
+
+/*
+ * A departure board: every departure from stop number `stop` of runs that start on the date, where boarding is allowed and the time is not below `first` nor above `last`, each once, by
+ * time, then service, repeat and place in the route. After midnight ask also for the date before, with 1,440 minutes more: last night's runs belong to the date on which they start.
+ *
+ * Listed: `list` begins with the rows, as many as the answer says, ESTELUNYA_BOARD_ROW_WORDS each; the words after them hold what they held. Refused, 29 among them: all words of `list`
+ * hold what they held; a call with none asks for their number. `first` after `last` is an empty board.
+ *
+ * estelunya_board looks through all words of table and index each time (21, and 43 exactly if the index is not this table's). estelunya_quick_board costs as much as its answer and the
+ * calls at the stop, and is for an index that is known to be this table's.
+ */
+EstelunyaBoardResult estelunya_board(
+    const uint32_t *table, size_t table_len,
+    const uint32_t *index, size_t index_len,
+    uint32_t stop,
+    uint32_t day, uint32_t month, uint32_t year,
+    uint32_t first, uint32_t last,
+    uint32_t *list, size_t list_len);
+
+EstelunyaBoardResult estelunya_quick_board(
+    const uint32_t *table, size_t table_len,
+    const uint32_t *index, size_t index_len,
+    uint32_t stop,
+    uint32_t day, uint32_t month, uint32_t year,
+    uint32_t first, uint32_t last,
+    uint32_t *list, size_t list_len);
 
 /*
  * Writes the services of a table back as FPLAN, in one clean form: lines of 60 bytes, the last of them LF. Loaded beside the same other files it gives the same table but for the opening

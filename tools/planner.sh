@@ -33,7 +33,8 @@ cases=$!
 trap 'kill "$cases" 2>/dev/null || true' EXIT
 
 linked trial_week planner/examples/trial_week.rs
-tests='dates days handles helper index largest names refusals room rows runs table'
+linked quay_screen planner/examples/quay_screen.rs
+tests='boards dates days handles helper index largest names refusals room rows runs table'
 for test in $tests; do linked "$test" "planner/tests/$test.rs" --test; done
 program own_tests planner/src/lib.rs --test -L "$ARCHIVE" -l static=estelunya
 linked desk planner/src/bin/desk/main.rs
@@ -78,6 +79,9 @@ c -std=c99 -Wall -Wextra -Wpedantic -Werror -Iinclude include/example.c -L"$ARCH
 run "$out/example" >"$out/example.txt"
 diff -u include/example.txt "$out/example.txt" || die 'include/example.c does not write include/example.txt'
 echo "  include/example.c: $(head -1 "$out/example.txt")"
+
+# The quay screen; what it has to show was worked out by hand.
+run "$out/quay_screen" | diff -u planner/examples/quay_screen.txt - || die 'planner/examples/quay_screen.rs does not show planner/examples/quay_screen.txt'
 
 run "$out/readme"
 run "$out/trial_week"

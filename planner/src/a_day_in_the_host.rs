@@ -104,7 +104,8 @@
 //! Its answer, and not the timetable's size: with the load an index is made, and every question of a handle is asked by it. A walk takes some microseconds, a day, a name or an interchange
 //! time a fraction of one (docs/MEASURED.md), of a village's ferry and of a nation's railway alike. So ask when you need to know, and ask again the next time. **Put no cache in front**: what a
 //! cache holds is last night's once the timetable has been swapped, and a ferry has sailed empty for that. A list costs as much as it gives: [`Opened::bit_fields`](crate::Opened::bit_fields) and its like
-//! a step for each, [`Service::runs`](crate::Service::runs) one walk and a step for each run, [`Run::calls`](crate::Run::calls) one walk. Arithmetic on days takes some microseconds.
+//! a step for each, [`Service::runs`](crate::Service::runs) one walk and a step for each run, [`Run::calls`](crate::Run::calls) one walk,
+//! [`Stop::departures`](crate::Stop::departures) a step for each call at the stop and each departure. Arithmetic on days takes some microseconds.
 //!
 //! The index is made of the words that were just loaded, and the timetable keeps the two together: nothing can part them. (Who lends the words himself has to, see
 //! [`Table::with_index`](crate::by_number::Table::with_index).)

@@ -50,6 +50,11 @@
 //! assert_eq!(indexed.walk(0, 0, saturday, &mut lent)?, Walk::NotRunning);
 //! assert_eq!(indexed.interchange_between(1_000_022, boat, boat)?, 3);
 //!
+//! // what leaves the first quay from 08:00 to 09:00: service 0, its run 0, at call 0
+//! let friday = Date { day: 5, month: 12, year: 2025 };
+//! let board = indexed.board(1_000_011, friday, 480..=540)?;
+//! assert_eq!(board.iter().next().map(|leaves| (leaves.time, leaves.service, leaves.repeat, leaves.place)), Some((480, 0, 0, 0)));
+//!
 //! // FPLAN in one clean form, lines of 60 bytes
 //! assert_eq!(table.fplan()?.len(), 7 * 60);
 //!
@@ -77,6 +82,7 @@
 //! ```
 
 mod ask;
+mod board;
 mod contents;
 mod days;
 pub(crate) mod index;
@@ -87,6 +93,7 @@ mod write;
 pub use crate::row::category_word;
 pub use crate::runs::Run;
 pub use ask::{Date, Table, Walk};
+pub use board::{Board, Departure};
 pub use days::BitField;
 pub use index::Indexed;
 pub use load::{helper_words, load, load_with, room, room_for, Lengths, Loaded};

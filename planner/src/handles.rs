@@ -5,7 +5,7 @@
 use std::fmt;
 use std::hash::{Hash, Hasher};
 use std::marker::PhantomData;
-use std::ops::{BitAnd, BitOr, Not, Sub};
+use std::ops::{BitAnd, BitOr, Not, RangeInclusive, Sub};
 
 use crate::by_number;
 use crate::by_number::names::{Language, NameType};
@@ -203,14 +203,13 @@ impl<'t> Service<'t> {
     ///
     /// [`Refusal::OutsidePeriod`], and no other.
     pub fn runs(self, date: Date) -> Result<impl Listed<Run<'t>> + 't, Refusal> {
-        // Lent no rows, a walk says whether the service runs, and if it does, how many words its rows need.
-        let calls = match self.opened.indexed().walk(self.index as u32, 0, date.into(), &mut []) {
+        // Lent no rows, a walk says whether the service runs: it would need some.
+        let count = match self.opened.indexed().walk(self.index as u32, 0, date.into(), &mut []) {
             Ok(_) => 0,
-            Err(Refusal::RowsTooShort { needed }) => needed / ROW_WORDS,
+            Err(Refusal::RowsTooShort { .. }) => self.kind().last() + 1,
             Err(refusal) => return Err(refusal),
         };
-        let count = if calls == 0 { 0 } else { self.kind().last() + 1 };
-        Ok((0..count).map(move |number| Run { service: self, date, number, calls }))
+        Ok((0..count).map(move |number| Run { service: self, date, number }))
     }
 
     /// The calls of its whole route, as FPLAN has them. Which of them are served on a date, and when, a [`Run`] says.
@@ -248,6 +247,11 @@ impl<'t> Service<'t> {
                 to: record[EXTRA_TO_AT] as usize,
             }
         })
+    }
+
+    /// How many calls its route has.
+    fn call_count(self) -> usize {
+        self.words()[CALLS_AT] as usize
     }
 
     fn words(self) -> &'t [u32] {
@@ -410,7 +414,6 @@ pub struct Run<'t> {
     service: Service<'t>,
     date: Date,
     number: u32,
-    calls: usize,
 }
 
 impl<'t> Run<'t> {
@@ -439,20 +442,32 @@ impl<'t> Run<'t> {
 
     /// Walks it: the calls of that day's stretch, two or more.
     pub fn calls(self) -> impl Listed<Call<'t>> + 't {
-        let mut words = vec![0; self.calls * ROW_WORDS];
-        let opened = self.service.opened;
+        let mut words = vec![0; self.service.call_count() * ROW_WORDS];
         // That no run of an accepted delivery is refused is proved.
-        match opened.indexed().walk(self.service.index as u32, self.number, self.date.into(), &mut words) {
-            Ok(by_number::Walk::Rows(rows)) if rows.len() == self.calls => {}
+        let (service, indexed) = (self.service.index as u32, self.service.opened.indexed());
+        let count = match indexed.walk(service, self.number, self.date.into(), &mut words) {
+            Ok(by_number::Walk::Rows(rows)) => rows.len(),
             other => panic!("the archive walked {:?} to {:?}", self, other),
-        }
-        (0..self.calls).map(move |at| {
+        };
+        let first = self.first_place();
+        (0..count).map(move |at| {
             let mut row = [0; ROW_WORDS];
             row.copy_from_slice(&words[at * ROW_WORDS..][..ROW_WORDS]);
             // The leg that arrives is the one that leaves the call before.
             let before = at.checked_sub(1).map(|before| words[before * ROW_WORDS + ROW_CATEGORY_AT]);
-            Call { opened, words: row, arriving: before.map(three_bytes) }
+            Call { run: self, place: first + at, words: row, arriving: before.map(three_bytes) }
         })
+    }
+
+    /// The place in the route at which that day's stretch begins: the first leg that operates. In an accepted delivery each leg has one range of operating days.
+    fn first_place(self) -> usize {
+        let (service, date) = (self.service, self.date.into());
+        let operates = |record: &&[u32]| {
+            record[DAYS_FROM_AT] < record[DAYS_TO_AT]
+                && service.opened.indexed().day(record[DAYS_FIELD_AT], date) == Ok(true)
+        };
+        let ranges = service.records(2).chunks_exact(DAYS_WORDS).filter(operates);
+        ranges.map(|record| record[DAYS_FROM_AT] as usize).min().unwrap_or(0)
     }
 }
 
@@ -484,15 +499,27 @@ impl Hash for Run<'_> {
 #[derive(Clone, Copy)]
 #[must_use]
 pub struct Call<'t> {
-    opened: Opened<'t>,
+    run: Run<'t>,
+    place: usize,
     words: [u32; ROW_WORDS],
     arriving: Option<[u8; 3]>,
 }
 
 impl<'t> Call<'t> {
+    /// The run that calls.
+    pub fn run(&self) -> Run<'t> {
+        self.run
+    }
+
+    /// Its place in [`Service::route`], from 0; the first call of a day's stretch may have a later one.
+    #[must_use]
+    pub fn place(&self) -> usize {
+        self.place
+    }
+
     /// The stop that is called at.
     pub fn stop(&self) -> Stop<'t> {
-        self.opened.stop(self.row().stop())
+        self.opened().stop(self.row().stop())
     }
 
     /// The arrival; `None` at the first call.
@@ -540,13 +567,13 @@ impl<'t> Call<'t> {
     /// The category of the leg that leaves; `None` at the last call.
     #[must_use]
     pub fn departing_category(&self) -> Option<ServiceCategory<'t>> {
-        self.category().map(|code| self.opened.category(code))
+        self.category().map(|code| self.opened().category(code))
     }
 
     /// The category of the leg that arrives; `None` at the first call.
     #[must_use]
     pub fn arriving_category(&self) -> Option<ServiceCategory<'t>> {
-        self.arriving.map(|code| self.opened.category(code))
+        self.arriving.map(|code| self.opened().category(code))
     }
 
     /// The minutes to change from the run of this call to the run of another call at the same stop, by the categories of the leg that arrives here and of the one
@@ -565,6 +592,10 @@ impl<'t> Call<'t> {
     #[must_use]
     pub fn row(&self) -> Row<'_> {
         Row::new(&self.words)
+    }
+
+    fn opened(&self) -> Opened<'t> {
+        self.run.service.opened
     }
 }
 
@@ -601,6 +632,41 @@ impl<'t> Stop<'t> {
     /// [`Refusal::NoSuchLanguageOrType`], and no other.
     pub fn name(self, language: Language, kind: NameType) -> Result<&'t [u8], Refusal> {
         self.opened.indexed().stop_name(self.number, self.opened.timetable.bahnhof(), language, kind)
+    }
+
+    /// Every departure from here of runs that start on a date, where boarding is allowed and the time is one of those given, in minutes of that date: by time, each once. It costs as
+    /// much as the calls here and what it lists. After midnight ask also for the date before, with 1,440 minutes more: last night's runs belong to the date on which they start.
+    ///
+    /// ```
+    /// # fn main() -> Result<(), Box<dyn std::error::Error>> {
+    /// # let timetable = estelunya_planner::Timetable::read("../crates/ferry/data")?;
+    /// # let friday = "05.12.2025".parse()?;
+    /// timetable.open(|timetable| {
+    ///     let quay = timetable.stop_by_number(1_000_022).unwrap();
+    ///     let board: Vec<_> = quay.departures(friday, 8 * 60..=9 * 60)?.collect();
+    ///     // it calls there twice, and the second time its run ends
+    ///     assert_eq!(board.len(), 1);
+    ///     assert_eq!((board[0].time(), board[0].service().number(), board[0].call().place()), (8 * 60 + 12, 42, 1));
+    ///     Ok(())
+    /// })
+    /// # }
+    /// ```
+    ///
+    /// # Errors
+    ///
+    /// [`Refusal::OutsidePeriod`], and no other.
+    pub fn departures(
+        self,
+        date: Date,
+        times: RangeInclusive<u32>,
+    ) -> Result<impl Listed<Departure<'t>> + 't, Refusal> {
+        let opened = self.opened;
+        let board = opened.indexed().board(self.number, date.into(), times)?;
+        Ok((0..board.len()).map(move |at| {
+            let by_number::Departure { time, service, repeat, place } = board.at(at);
+            let run = Run { service: Service { opened, index: service as usize }, date, number: repeat };
+            Departure { run, place: place as usize, time }
+        }))
     }
 
     /// All its names with their patterns, as they stand from column 13 of its line on.
@@ -657,6 +723,50 @@ impl Eq for Stop<'_> {}
 impl Hash for Stop<'_> {
     fn hash<H: Hasher>(&self, state: &mut H) {
         self.number.hash(state);
+    }
+}
+
+/// A departure of a run from a stop, as a board lists it.
+#[derive(Clone, Copy, PartialEq, Eq, Hash)]
+#[must_use]
+pub struct Departure<'t> {
+    run: Run<'t>,
+    place: usize,
+    time: u32,
+}
+
+impl<'t> Departure<'t> {
+    /// The run that leaves.
+    pub fn run(self) -> Run<'t> {
+        self.run
+    }
+
+    /// Its service.
+    pub fn service(self) -> Service<'t> {
+        self.run.service
+    }
+
+    /// When it leaves, in minutes from the start of the run's date; they may pass 1,440.
+    #[must_use]
+    pub fn time(self) -> u32 {
+        self.time
+    }
+
+    /// The call at which it leaves, with the number, the administration and the category that hold from there on. It walks the run.
+    pub fn call(self) -> Call<'t> {
+        let mut calls = self.run.calls();
+        // A board lists what a walk lists: that is proved.
+        calls.find(|call| call.place == self.place).unwrap_or_else(|| panic!("{:?} is no call of its run", self))
+    }
+}
+
+impl fmt::Debug for Departure<'_> {
+    fn fmt(&self, f: &mut fmt::Formatter<'_>) -> fmt::Result {
+        f.debug_struct("Departure")
+            .field("time", &self.time)
+            .field("run", &self.run)
+            .field("place", &self.place)
+            .finish_non_exhaustive()
     }
 }
 

@@ -154,6 +154,17 @@ pub const ROW_FIRST_TIME_AT: usize = 8;
 /// Row: the stop's interchange time for all other classes.
 pub const ROW_SECOND_TIME_AT: usize = 9;
 
+/// Words of a board's row.
+pub const BOARD_ROW_WORDS: usize = 4;
+/// Row of a board: time of the departure.
+pub const BOARD_TIME_AT: usize = 0;
+/// Row of a board: index of the service.
+pub const BOARD_SERVICE_AT: usize = 1;
+/// Row of a board: number of its run.
+pub const BOARD_REPEAT_AT: usize = 2;
+/// Row of a board: place of the call in the service's route.
+pub const BOARD_PLACE_AT: usize = 3;
+
 /// Helper words that every load is lent.
 pub const HELPER_HEAD_WORDS: usize = 64;
 /// Helper words for each line of BITFELD, BAHNHOF and UMSTEIGB besides.

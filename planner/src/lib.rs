@@ -80,8 +80,8 @@ pub use by_number::load::Files;
 pub use by_number::names::{Language, NameType};
 pub use date::{Date, Month, NoSuchDate};
 pub use handles::{
-    Attribute, BitField, Call, Category, Interchange, Listed, Opened, OperatingDays, RouteCall, Run, Service,
-    ServiceCategory, Stop,
+    Attribute, BitField, Call, Category, Departure, Interchange, Listed, Opened, OperatingDays, RouteCall, Run,
+    Service, ServiceCategory, Stop,
 };
 pub use layout::{MOST_ROW_WORDS, ROW_WORDS};
 pub use refusal::{File, LoadRefusal, Offence, Refusal};

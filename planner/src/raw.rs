@@ -75,6 +75,18 @@ pub struct IndexResult {
     pub words: usize,
 }
 
+/// The answer of [`estelunya_board`] and [`estelunya_quick_board`].
+#[repr(C)]
+#[derive(Clone, Copy, Debug, PartialEq, Eq)]
+pub struct BoardResult {
+    /// 0: answered; else the refusal: 21, 22, 23, 27, 43, 29.
+    pub number: u32,
+    /// The departures listed; 0 if refused.
+    pub rows: usize,
+    /// The words needed for 29, else 0.
+    pub needed: usize,
+}
+
 /// The answer of [`estelunya_write`].
 #[repr(C)]
 #[derive(Clone, Copy, Debug, PartialEq, Eq)]
@@ -104,7 +116,7 @@ pub struct DayCountResult {
     pub days: u32,
 }
 
-// The contract of all: each pointer is good for its length (reads, and writes for `table` and `helper` of the load, `index` of the making, `rows`, `text` and `result`);
+// The contract of all: each pointer is good for its length (reads, and writes for `table` and `helper` of the load, `index` of the making, `rows`, `list`, `text` and `result`);
 // the words lent overlap no other argument. Nothing is asked of what the bytes, words and numbers say.
 extern "C" {
     /// The version of the archive, which grows whenever a function of it, or a table's words, change.
@@ -248,6 +260,39 @@ extern "C" {
         rows: *mut u32,
         rows_len: usize,
     ) -> WalkResult;
+
+    /// The departures from a stop of runs that start on a date, [`BOARD_ROW_WORDS`](crate::layout::BOARD_ROW_WORDS) a row; table and index are looked through. Listed: later words stay. Refused: all
+    /// words stay.
+    pub fn estelunya_board(
+        table: *const u32,
+        table_len: usize,
+        index: *const u32,
+        index_len: usize,
+        stop: u32,
+        day: u32,
+        month: u32,
+        year: u32,
+        first: u32,
+        last: u32,
+        list: *mut u32,
+        list_len: usize,
+    ) -> BoardResult;
+
+    /// The same for an index that is known to be this table's: nothing is looked through.
+    pub fn estelunya_quick_board(
+        table: *const u32,
+        table_len: usize,
+        index: *const u32,
+        index_len: usize,
+        stop: u32,
+        day: u32,
+        month: u32,
+        year: u32,
+        first: u32,
+        last: u32,
+        list: *mut u32,
+        list_len: usize,
+    ) -> BoardResult;
 
     /// Writes FPLAN back from a table into the bytes lent. Written: later bytes stay. Refused: all bytes stay.
     pub fn estelunya_write(table: *const u32, table_len: usize, text: *mut u8, text_len: usize) -> WriteResult;
