@@ -71,6 +71,11 @@ typedef struct EstelunyaBoardResult {
     size_t needed;   /* 29: the words needed, which may pass 2^32; else 0 */
 } EstelunyaBoardResult;
 
+typedef struct EstelunyaConnectionResult {
+    uint32_t number; /* 0: it holds; else the refusal: 21, 43 (quick), 46, or of a part 22 to 25, 31, 33 to 36, 47 to 50, 38 */
+    uint32_t part;   /* the first bad part, counted from 1; 0 if it holds, and for 21, 43 and 46 */
+} EstelunyaConnectionResult;
+
 typedef struct EstelunyaWriteResult {
     uint32_t number; /* 0: written; else the refusal: 21, 44 or 45 */
     size_t bytes;    /* the bytes written; 45: the bytes needed, which are the same; else 0 */
@@ -204,6 +209,16 @@ typedef struct EstelunyaDayCountResult {
 #define ESTELUNYA_BOARD_REPEAT_AT 2  /* number of its run, as a walk takes it */
 #define ESTELUNYA_BOARD_PLACE_AT 3   /* place of the call in the service's route, from 0 */
 
+/* Part of a proposed connection */
+#define ESTELUNYA_PART_WORDS 7
+#define ESTELUNYA_PART_SERVICE_AT 0   /* index of the service, from 0 */
+#define ESTELUNYA_PART_REPEAT_AT 1    /* number of its run, as a walk takes it */
+#define ESTELUNYA_PART_DAY_AT 2       /* the date on which the run starts */
+#define ESTELUNYA_PART_MONTH_AT 3
+#define ESTELUNYA_PART_YEAR_AT 4
+#define ESTELUNYA_PART_BOARDING_AT 5  /* the call where one boards, counted from 0 along the route */
+#define ESTELUNYA_PART_ALIGHTING_AT 6 /* the call where one alights, in the same way */
+
 /*
  * Index: words beside a table, made of it by estelunya_index. It is never longer than the table. With B bit fields, S stops, M interchange records, C categories and
  * V services it holds, one after the other:
@@ -226,6 +241,7 @@ typedef struct EstelunyaDayCountResult {
 #define ESTELUNYA_MOST_PERIOD_DAYS 380     /* days of a period */
 #define ESTELUNYA_MOST_CLASS 13            /* class of a category */
 #define ESTELUNYA_MOST_CALLS 200           /* calls of a service */
+#define ESTELUNYA_MOST_PARTS 10            /* parts of a connection */
 
 /* Words that are enough for the rows of every walk. */
 #define ESTELUNYA_MOST_ROW_WORDS (ESTELUNYA_MOST_CALLS * ESTELUNYA_ROW_WORDS)
@@ -402,6 +418,25 @@ EstelunyaBoardResult estelunya_quick_board(
     uint32_t day, uint32_t month, uint32_t year,
     uint32_t first, uint32_t last,
     uint32_t *list, size_t list_len);
+
+/*
+ * Whether a proposed connection holds: 1 to MOST_PARTS parts of ESTELUNYA_PART_WORDS words each, in the order in which they are ridden. It holds exactly if each part lies in that day's rows, boards
+ * before it alights, where boarding and alighting are allowed, and the next part boards at the same stop, after a wait, over date and minutes together, of at least the interchange time between the
+ * categories of the leg that arrives and of the leg that departs. A later part may have an earlier date; to stay on the same run is a change like any other.
+ *
+ * Else the first bad part and, in this order: 21 and 46 (not 1 to MOST_PARTS whole parts) with part 0; then part by part the walk's own refusals but 29, 47 not among that day's rows (not running that day too),
+ * 48 order or permission, and from the second part on 49 another stop, 38, 50 the wait is too short; these three name the later part.
+ *
+ * estelunya_quick_connection asks by an index, at the cost of its parts: of a table and its own index the same answers.
+ */
+EstelunyaConnectionResult estelunya_connection(
+    const uint32_t *table, size_t table_len,
+    const uint32_t *parts, size_t parts_len);
+
+EstelunyaConnectionResult estelunya_quick_connection(
+    const uint32_t *table, size_t table_len,
+    const uint32_t *index, size_t index_len,
+    const uint32_t *parts, size_t parts_len);
 
 /*
  * Writes the services of a table back as FPLAN, in one clean form: lines of 60 bytes, the last of them LF. Loaded beside the same other files it gives the same table but for the opening

@@ -66,6 +66,11 @@ static inline const char *estelunya_refusal_text(uint32_t number) {
     case 43: return "the words are not this table's index";
     case 44: return "a value of the table does not fit its columns of FPLAN, or would not be read back as it is";
     case 45: return "the bytes lent are too few for the text";
+    case 46: return "a connection has 1 to 10 whole parts";
+    case 47: return "the boarding or the alighting call is not among the rows of that day";
+    case 48: return "boarding is not before alighting, or one of them is forbidden there";
+    case 49: return "the part boards at another stop than the one before it alights at";
+    case 50: return "the wait is shorter than the interchange time";
     default: return "";
     }
 }

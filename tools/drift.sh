@@ -87,10 +87,11 @@ constants_c "$header" >"$said/$header"
 constants_rust "$planner" "$raw" >"$said/$planner"
 constants_rust "$rattle" | grep '^VERSION ' >"$said/$boundary"
 # The loader takes the words of a bit field's bits, the longest period and the longest file from the ground. It names both words of an administration, the header only where they begin.
-# The rows of a board are those that the crate sort sorts.
+# The rows of a board are those that the crate sort sorts, and the parts of a connection stand in their own crate.
 {
     constants_rust "$timetable/src/lib.rt" crates/bitfield/src/lib.rt crates/calendar/src/lib.rt crates/forms/src/lib.rt
     constants_rust crates/sort/src/lib.rt | sed 's/^ROW_WORDS /BOARD_ROW_WORDS /'
+    constants_rust crates/connections/src/lib.rt
 } |
     awk '$1 == "HIGH_AT" || $1 == "LOW_AT" { $2 -= $1 == "LOW_AT"; $1 = "ADMINISTRATION_AT" } { print }' >"$said/$timetable"
 constants_rust "$ordinary"/src/*.rs >"$said/all"

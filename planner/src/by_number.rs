@@ -83,6 +83,7 @@
 
 mod ask;
 mod board;
+mod connection;
 mod contents;
 mod days;
 pub(crate) mod index;
@@ -94,6 +95,7 @@ pub use crate::row::category_word;
 pub use crate::runs::Run;
 pub use ask::{Date, Table, Walk};
 pub use board::{Board, Departure};
+pub use connection::{BadPart, Part};
 pub use days::BitField;
 pub use index::Indexed;
 pub use load::{helper_words, load, load_with, room, room_for, Lengths, Loaded};

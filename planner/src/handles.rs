@@ -49,7 +49,7 @@ impl<'t> Opened<'t> {
         self.timetable.by_number()
     }
 
-    fn indexed(self) -> Indexed<'t> {
+    pub(crate) fn indexed(self) -> Indexed<'t> {
         self.timetable.indexed()
     }
 
@@ -150,6 +150,15 @@ impl<'t> Opened<'t> {
         Stop { opened: self, number }
     }
 }
+
+/// The same timetable: no other has this mark.
+impl PartialEq for Opened<'_> {
+    fn eq(&self, other: &Self) -> bool {
+        std::ptr::eq(self.timetable, other.timetable)
+    }
+}
+
+impl Eq for Opened<'_> {}
 
 impl fmt::Debug for Opened<'_> {
     fn fmt(&self, f: &mut fmt::Formatter<'_>) -> fmt::Result {
@@ -457,6 +466,11 @@ impl<'t> Run<'t> {
             let before = at.checked_sub(1).map(|before| words[before * ROW_WORDS + ROW_CATEGORY_AT]);
             Call { run: self, place: first + at, words: row, arriving: before.map(three_bytes) }
         })
+    }
+
+    /// The index of its service and its number, as the archive takes them.
+    pub(crate) fn bare(self) -> (u32, u32) {
+        (self.service.index as u32, self.number)
     }
 
     /// The place in the route at which that day's stretch begins: the first leg that operates. In an accepted delivery each leg has one range of operating days.

@@ -165,6 +165,23 @@ pub const BOARD_REPEAT_AT: usize = 2;
 /// Row of a board: place of the call in the service's route.
 pub const BOARD_PLACE_AT: usize = 3;
 
+/// Words of a part of a proposed connection.
+pub const PART_WORDS: usize = 7;
+/// Part: index of the service.
+pub const PART_SERVICE_AT: usize = 0;
+/// Part: number of its run.
+pub const PART_REPEAT_AT: usize = 1;
+/// Part: day of the date on which the run starts.
+pub const PART_DAY_AT: usize = 2;
+/// Part: month of that date.
+pub const PART_MONTH_AT: usize = 3;
+/// Part: year of that date.
+pub const PART_YEAR_AT: usize = 4;
+/// Part: the call where one boards.
+pub const PART_BOARDING_AT: usize = 5;
+/// Part: the call where one alights.
+pub const PART_ALIGHTING_AT: usize = 6;
+
 /// Helper words that every load is lent.
 pub const HELPER_HEAD_WORDS: usize = 64;
 /// Helper words for each line of BITFELD, BAHNHOF and UMSTEIGB besides.
@@ -178,6 +195,8 @@ pub const MOST_PERIOD_DAYS: u32 = 380;
 pub const MOST_CLASS: u32 = 13;
 /// The calls that a service has at most.
 pub const MOST_CALLS: usize = 200;
+/// The parts that a connection has at most.
+pub const MOST_PARTS: usize = 10;
 /// Words that are enough for the rows of every walk.
 pub const MOST_ROW_WORDS: usize = MOST_CALLS * ROW_WORDS;
 

@@ -66,6 +66,7 @@ compile_error!("libestelunya.a is made for targets of 64 bits");
 
 pub mod a_day_in_the_host;
 pub mod by_number;
+mod connection;
 mod date;
 mod handles;
 pub mod layout;
@@ -78,6 +79,8 @@ mod version;
 
 pub use by_number::load::Files;
 pub use by_number::names::{Language, NameType};
+pub use by_number::BadPart;
+pub use connection::{Connection, Part};
 pub use date::{Date, Month, NoSuchDate};
 pub use handles::{
     Attribute, BitField, Call, Category, Departure, Interchange, Listed, Opened, OperatingDays, RouteCall, Run,

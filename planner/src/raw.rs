@@ -87,6 +87,16 @@ pub struct BoardResult {
     pub needed: usize,
 }
 
+/// The answer of [`estelunya_connection`] and [`estelunya_quick_connection`].
+#[repr(C)]
+#[derive(Clone, Copy, Debug, PartialEq, Eq)]
+pub struct ConnectionResult {
+    /// 0: it holds; else the refusal: 21, 43, 46, or of a part 22 to 25, 31, 33 to 36, 47 to 50, 38.
+    pub number: u32,
+    /// The first bad part, counted from 1; 0 if it holds, and for 21, 43 and 46.
+    pub part: u32,
+}
+
 /// The answer of [`estelunya_write`].
 #[repr(C)]
 #[derive(Clone, Copy, Debug, PartialEq, Eq)]
@@ -293,6 +303,24 @@ extern "C" {
         list: *mut u32,
         list_len: usize,
     ) -> BoardResult;
+
+    /// Whether a proposed connection holds; its parts have [`PART_WORDS`](crate::layout::PART_WORDS) each.
+    pub fn estelunya_connection(
+        table: *const u32,
+        table_len: usize,
+        parts: *const u32,
+        parts_len: usize,
+    ) -> ConnectionResult;
+
+    /// [`estelunya_connection`] by an index.
+    pub fn estelunya_quick_connection(
+        table: *const u32,
+        table_len: usize,
+        index: *const u32,
+        index_len: usize,
+        parts: *const u32,
+        parts_len: usize,
+    ) -> ConnectionResult;
 
     /// Writes FPLAN back from a table into the bytes lent. Written: later bytes stay. Refused: all bytes stay.
     pub fn estelunya_write(table: *const u32, table_len: usize, text: *mut u8, text_len: usize) -> WriteResult;

@@ -247,9 +247,19 @@ pub enum Refusal {
         /// The bytes that the text needs.
         needed: usize,
     },
+    /// 46: a connection has 1 to 10 whole parts.
+    NotWholeParts,
+    /// 47: the boarding or the alighting call of a part is not among that day's rows; also where the service is not running on that day.
+    NotAmongRows,
+    /// 48: a part's boarding is not before its alighting, or one of them is forbidden there.
+    OrderOrPermission,
+    /// 49: a part boards at another stop than the part before alights at.
+    OtherStop,
+    /// 50: the wait before a part is shorter than the interchange time.
+    WaitTooShort,
 }
 
-const REFUSALS: [(u32, Refusal, &str); 22] = [
+const REFUSALS: [(u32, Refusal, &str); 27] = [
     (21, Refusal::NotATable, "the words are not a table"),
     (22, Refusal::NoSuchDate, "there is no such date"),
     (23, Refusal::OutsidePeriod, "the date is outside the period"),
@@ -276,15 +286,20 @@ const REFUSALS: [(u32, Refusal, &str); 22] = [
         "a value of the table does not fit its columns of FPLAN, or would not be read back as it is",
     ),
     (45, Refusal::TextTooShort { needed: 0 }, "the bytes lent are too few for the text"),
+    (46, Refusal::NotWholeParts, "a connection has 1 to 10 whole parts"),
+    (47, Refusal::NotAmongRows, "the boarding or the alighting call is not among the rows of that day"),
+    (48, Refusal::OrderOrPermission, "boarding is not before alighting, or one of them is forbidden there"),
+    (49, Refusal::OtherStop, "the part boards at another stop than the one before it alights at"),
+    (50, Refusal::WaitTooShort, "the wait is shorter than the interchange time"),
 ];
 
 impl Refusal {
-    /// Its number, 21 to 29, 31, 33 to 36 or 38 to 45.
+    /// Its number, 21 to 29, 31, 33 to 36 or 38 to 50.
     pub fn number(self) -> u32 {
         self.entry().0
     }
 
-    /// The refusal of a number, with the words needed if it is 29, and the bytes if it is 45; `None` unless 21 to 29, 31, 33 to 36 or 38 to 45.
+    /// The refusal of a number, with the words needed if it is 29, and the bytes if it is 45; `None` unless 21 to 29, 31, 33 to 36 or 38 to 50.
     pub fn from_number(number: u32, needed: usize) -> Option<Refusal> {
         match REFUSALS.iter().find(|entry| entry.0 == number)?.1 {
             Refusal::RowsTooShort { .. } => Some(Refusal::RowsTooShort { needed }),

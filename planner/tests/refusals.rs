@@ -10,7 +10,7 @@ fn numbers_and_back() {
         assert_eq!(offence.is_some(), (1..=20).contains(&number) || [37, 38, 39, 51].contains(&number));
         assert_eq!(offence.map_or(number, Offence::number), number);
         let refusal = Refusal::from_number(number, 28);
-        assert_eq!(refusal.is_some(), (21..=45).contains(&number) && ![30, 32, 37].contains(&number));
+        assert_eq!(refusal.is_some(), (21..=50).contains(&number) && ![30, 32, 37].contains(&number));
         assert_eq!(refusal.map_or(number, Refusal::number), number);
         let file = File::from_number(number);
         assert_eq!(file.is_some(), (1..=6).contains(&number));
