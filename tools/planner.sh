@@ -34,7 +34,7 @@ trap 'kill "$cases" 2>/dev/null || true' EXIT
 
 linked trial_week planner/examples/trial_week.rs
 linked quay_screen planner/examples/quay_screen.rs
-tests='boards connections dates days handles helper index largest names refusals room rows runs table'
+tests='boards connections dates days handles helper index keys largest names refusals room rows runs table'
 for test in $tests; do linked "$test" "planner/tests/$test.rs" --test; done
 program own_tests planner/src/lib.rs --test -L "$ARCHIVE" -l static=estelunya
 linked desk planner/src/bin/desk/main.rs

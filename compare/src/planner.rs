@@ -5,7 +5,7 @@ use compare::boundary::{size_word, Boundary};
 use compare::reader::Combination;
 use estelunya_planner::by_number::{load, load_with, room, BitField, Date, Loaded, Table, Walk};
 use estelunya_planner::layout::{BIT_WORDS, FIRST_SERVICE_AT, HEADER_WORDS, PERIOD_DAYS_AT, USED_AT};
-use estelunya_planner::{File, Files, Language, LoadRefusal, NameType, Opened, Refusal, Timetable};
+use estelunya_planner::{File, Files, Language, LoadRefusal, NameType, Scope, Refusal, Timetable};
 
 pub struct Planner;
 
@@ -142,13 +142,13 @@ fn owned(files: &Files<'_>, table: &[u32], answer: [u32; 5]) {
             assert_eq!(words.len(), answer[3] as usize, "the timetable's words");
             assert!(answer[0] == 20 || table.starts_with(words), "the timetable's table");
             assert!(words.len() <= room(files), "{} words, and {} are said to be enough", words.len(), room(files));
-            timetable.open(handled);
+            timetable.scope(handled);
         }
     }
 }
 
 /// Each word of the table through the handles; of the runs of the first and the last day, the first and the last.
-fn handled(timetable: Opened<'_>) {
+fn handled(timetable: Scope<'_>) {
     let period = timetable.period();
     for service in timetable.services() {
         let calls = service.route().len();

@@ -9,7 +9,7 @@ use std::env;
 use std::error::Error;
 use std::path::{Path, PathBuf};
 
-use estelunya_planner::{Call, Date, Departure, Language, NameType, Opened, Stop, Timetable};
+use estelunya_planner::{Call, Date, Departure, Language, NameType, Scope, Stop, Timetable};
 
 const DAY: u32 = 24 * 60;
 /// How far ahead the screen looks, in minutes.
@@ -32,7 +32,7 @@ fn main() -> Result<(), Box<dyn Error>> {
         _ => return Err("quay_screen DIRECTORY STOP LANGUAGE DD.MM.YYYY HH:MM [COUNT]".into()),
     };
     let timetable = Timetable::read(directory)?;
-    let screen = timetable.open(|timetable| screen(timetable, stop, language, date, now, count))?;
+    let screen = timetable.scope(|timetable| screen(timetable, stop, language, date, now, count))?;
     print!("{}", screen);
     Ok(())
 }
@@ -44,7 +44,7 @@ fn minutes(clock: &str) -> Result<u32, Box<dyn Error>> {
 }
 
 fn screen(
-    timetable: Opened<'_>,
+    timetable: Scope<'_>,
     stop: u32,
     language: Language,
     date: Date,
@@ -64,7 +64,7 @@ fn screen(
 }
 
 /// The departures from now on, by the clock on the wall: of runs that started yesterday, start today, and start tomorrow. With each the days from yesterday to its date.
-fn departures<'t>(timetable: Opened<'t>, stop: Stop<'t>, today: Date, now: u32) -> Vec<(u32, Departure<'t>)> {
+fn departures<'t>(timetable: Scope<'t>, stop: Stop<'t>, today: Date, now: u32) -> Vec<(u32, Departure<'t>)> {
     let dates = [today.day_before(), Some(today), today.day_after()];
     let mut found = Vec::new();
     for (day, date) in (0..).zip(dates) {

@@ -15,7 +15,7 @@ fn main() -> Result<(), Box<dyn Error>> {
     println!("accepted: {:?}", timetable);
     for day in [5, 6] {
         let date = Date::new(day, Month::December, 2025).ok_or("no such date")?;
-        timetable.open(|timetable| timetable.services().take(1).try_for_each(|service| show(service, date)))?;
+        timetable.scope(|timetable| timetable.services().take(1).try_for_each(|service| show(service, date)))?;
     }
     Ok(())
 }

@@ -37,7 +37,7 @@
 //! # Share, and threads
 //!
 //! A timetable is never changed, and is `Send` and `Sync`: put it into an [`Arc`](std::sync::Arc), and give a clone of that to whoever asks. No lock is needed to ask: the archive keeps no
-//! state between calls. Each request opens the timetable, asks, and gives back plain values (numbers, dates, strings); handles stay inside the opening. Threads that end
+//! state between calls. Each request enters a scope of the timetable, asks, and gives back plain values (keys, numbers, dates, strings); handles stay inside the scope. Threads that end
 //! inside it may share its handles.
 //!
 //! # Swap at night, drop when the last run has ended
@@ -72,7 +72,7 @@
 //!
 //! /// When the last run that starts on a date has ended, in minutes from the start of that date; found once, when the timetable is loaded.
 //! fn last_arrival(timetable: &Timetable, date: Date) -> Option<u32> {
-//!     timetable.open(|timetable| {
+//!     timetable.scope(|timetable| {
 //!         let last_runs = timetable.services().filter_map(|service| service.runs(date).ok()?.next_back());
 //!         last_runs.filter_map(|run| run.calls().last()?.arrival()).max()
 //!     })
@@ -86,7 +86,7 @@
 //! let asked = host.current();
 //! host.swap(Timetable::read("../crates/ferry/data")?);
 //! // a request that began before the swap goes on with what it began with
-//! assert_eq!(asked.open(|timetable| timetable.services().len()), 1);
+//! assert_eq!(asked.scope(|timetable| timetable.services().len()), 1);
 //! // the last run has ended
 //! *host.yesterday.write().unwrap() = None;
 //! # Ok(())
@@ -96,14 +96,14 @@
 //! A run may be on its way for longer than a night (hours count up to 999): the old timetable stays until the last runs of *all* its earlier dates have ended, not of yesterday's alone. And this host keeps one old
 //! timetable: who swaps twice in a night, for a corrected delivery, keeps a list of them, or the first swap's is dropped too early.
 //!
-//! Numbers do not survive the night: an index of a service, and the number of a bit field, mean something in their own delivery only. What a host keeps over the night it keeps by what people know:
-//! service number, administration, stop numbers, dates.
+//! Numbers do not survive the night: an index of a service, and the number of a bit field, mean something in their own delivery only. So handles do not say them. What a host keeps during the day it keeps by
+//! [keys](crate::Key): after the swap they find nothing, and never another's. What it keeps over the night it keeps by what people know: service number, administration, stop numbers, dates.
 //!
 //! # What a question costs
 //!
 //! Its answer, and not the timetable's size: with the load an index is made, and every question of a handle is asked by it. A walk takes some microseconds, a day, a name or an interchange
 //! time a fraction of one (docs/MEASURED.md), of a village's ferry and of a nation's railway alike. So ask when you need to know, and ask again the next time. **Put no cache in front**: what a
-//! cache holds is last night's once the timetable has been swapped, and a ferry has sailed empty for that. A list costs as much as it gives: [`Opened::bit_fields`](crate::Opened::bit_fields) and its like
+//! cache holds is last night's once the timetable has been swapped, and a ferry has sailed empty for that. A list costs as much as it gives: [`Scope::bit_fields`](crate::Scope::bit_fields) and its like
 //! a step for each, [`Service::runs`](crate::Service::runs) one walk and a step for each run, [`Run::calls`](crate::Run::calls) one walk,
 //! [`Stop::departures`](crate::Stop::departures) a step for each call at the stop and each departure. Arithmetic on days takes some microseconds.
 //!
@@ -121,7 +121,7 @@
 //! # fn main() -> Result<(), Box<dyn std::error::Error>> {
 //! # let timetable = estelunya_planner::Timetable::read("../crates/ferry/data")?;
 //! # let friday = "05.12.2025".parse()?;
-//! timetable.open(|timetable| {
+//! timetable.scope(|timetable| {
 //!     let ferry = timetable.services().next().expect("a service");
 //!     let run = ferry.runs(friday)?.next().expect("it runs on Fridays");
 //!     let calls: Vec<_> = run.calls().collect();

@@ -3,7 +3,7 @@
 use std::fmt;
 
 use crate::by_number::{self, BadPart};
-use crate::handles::{Opened, Run};
+use crate::handles::{Run, Scope};
 
 /// A part of a proposed connection: a run, boarded at one of its calls and left at a later one.
 #[derive(Clone, Copy, Debug, PartialEq, Eq, Hash)]
@@ -24,7 +24,7 @@ pub struct Part<'t> {
 /// # let friday = "05.12.2025".parse()?;
 /// use estelunya_planner::{Part, Refusal};
 ///
-/// timetable.open(|timetable| {
+/// timetable.scope(|timetable| {
 ///     let run = timetable.services().next().unwrap().runs(friday)?.next().unwrap();
 ///     let whole = timetable.connection([Part { run, board: 0, alight: 3 }]);
 ///     assert_eq!(whole.check(), Ok(()));
@@ -43,7 +43,7 @@ pub struct Part<'t> {
 /// # fn main() -> Result<(), Box<dyn std::error::Error>> {
 /// # let (old, new) = (estelunya_planner::Timetable::read("../crates/ferry/data")?, estelunya_planner::Timetable::read("../crates/ferry/data")?);
 /// # let friday = "05.12.2025".parse()?;
-/// old.open(|old| new.open(|new| {
+/// old.scope(|old| new.scope(|new| {
 ///     let run = old.services().next().unwrap().runs(friday).unwrap().next().unwrap();
 ///     new.connection([Part { run, board: 0, alight: 3 }]).check().is_ok()
 /// }));
@@ -53,14 +53,14 @@ pub struct Part<'t> {
 #[derive(Clone, PartialEq, Eq)]
 #[must_use]
 pub struct Connection<'t> {
-    opened: Opened<'t>,
+    scope: Scope<'t>,
     parts: Vec<Part<'t>>,
 }
 
-impl<'t> Opened<'t> {
+impl<'t> Scope<'t> {
     /// A connection of these parts, in the order in which they are ridden, to be [checked](Connection::check).
     pub fn connection(self, parts: impl IntoIterator<Item = Part<'t>>) -> Connection<'t> {
-        Connection { opened: self, parts: parts.into_iter().collect() }
+        Connection { scope: self, parts: parts.into_iter().collect() }
     }
 }
 
@@ -80,7 +80,7 @@ impl<'t> Connection<'t> {
     /// that is proved.
     pub fn check(&self) -> Result<(), BadPart> {
         let parts: Vec<_> = self.parts.iter().map(bare).collect();
-        self.opened.indexed().connection(&parts)
+        self.scope.indexed().connection(&parts)
     }
 }
 

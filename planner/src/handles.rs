@@ -1,4 +1,4 @@
-//! Handles of what a timetable holds. Each borrows its timetable and carries the mark of one opening, so that handles of two never meet.
+//! Handles of what a timetable holds. Each borrows its timetable and carries the mark of one scope, so that handles of two never meet.
 //!
 //! A question that the archive has is asked of it. What else the table holds is read from the places that document 01's section "Table" gives it.
 
@@ -12,6 +12,7 @@ use crate::by_number::names::{Language, NameType};
 
 use crate::by_number::{Indexed, Table};
 use crate::date::Date;
+use crate::keys::Load;
 use crate::layout::{
     ADMINISTRATION_AT, ARRIVAL, BIT_FIELD_BITS_AT, BIT_FIELD_NUMBER_AT, CALLS_AT, CALL_ADMINISTRATION_AT,
     CALL_ARRIVAL_AT, CALL_DEPARTURE_AT, CALL_FLAGS_AT, CALL_NUMBER_AT, CALL_PLACE_AT, CALL_WORDS, CATEGORIES_AT,
@@ -31,22 +32,27 @@ pub trait Listed<T>: ExactSizeIterator<Item = T> + DoubleEndedIterator {}
 
 impl<T, I: ExactSizeIterator<Item = T> + DoubleEndedIterator> Listed<T> for I {}
 
-/// A [`Timetable`] that is open: what a closure of [`Timetable::open`] is given. Copy it as you like; it and its handles may go to other threads that end
+/// A [`Timetable`] inside a scope: what a closure of [`Timetable::scope`] is given. Copy it as you like; it and its handles may go to other threads that end
 /// inside the closure ([`std::thread::scope`]).
 #[derive(Clone, Copy)]
-pub struct Opened<'t> {
+pub struct Scope<'t> {
     timetable: &'t Timetable,
-    /// No lifetime of another opening is longer or shorter than this one: they do not meet.
+    /// No lifetime of another scope is longer or shorter than this one: they do not meet.
     mark: PhantomData<fn(&'t ()) -> &'t ()>,
 }
 
-impl<'t> Opened<'t> {
-    pub(crate) fn new(timetable: &'t Timetable) -> Opened<'t> {
-        Opened { timetable, mark: PhantomData }
+impl<'t> Scope<'t> {
+    pub(crate) fn new(timetable: &'t Timetable) -> Scope<'t> {
+        Scope { timetable, mark: PhantomData }
     }
 
     fn table(self) -> Table<'t> {
         self.timetable.by_number()
+    }
+
+    /// The number of its load.
+    pub(crate) fn load(self) -> Load {
+        self.timetable.load_number()
     }
 
     pub(crate) fn indexed(self) -> Indexed<'t> {
@@ -61,7 +67,7 @@ impl<'t> Opened<'t> {
 
     /// All services, in FPLAN's order.
     pub fn services(self) -> impl Listed<Service<'t>> + 't {
-        (0..self.timetable.service_count()).map(move |index| Service { opened: self, index })
+        (0..self.timetable.service_count()).map(move |index| Service { scope: self, index })
     }
 
     /// All stops, in BAHNHOF's order.
@@ -78,8 +84,8 @@ impl<'t> Opened<'t> {
 
     /// All categories that a service may have, in ZUGART's order.
     pub fn categories(self) -> impl Listed<ServiceCategory<'t>> + 't {
-        self.table().class_records().map(|record| ServiceCategory {
-            mark: PhantomData,
+        self.table().class_records().map(move |record| ServiceCategory {
+            scope: self,
             code: record[CLASS_CODE_AT],
             class: record[CLASS_AT],
         })
@@ -98,10 +104,9 @@ impl<'t> Opened<'t> {
         self.bit_field(0)
     }
 
-    /// The service with this index in FPLAN's order, from 0: only an index that was read in this timetable finds the service that was meant.
-    #[must_use]
-    pub fn service_by_index(self, index: usize) -> Option<Service<'t>> {
-        self.timetable.service_words(index).map(|_| Service { opened: self, index })
+    /// The service with this index in FPLAN's order, from 0.
+    pub(crate) fn service_by_index(self, index: usize) -> Option<Service<'t>> {
+        self.timetable.service_words(index).map(|_| Service { scope: self, index })
     }
 
     /// The stop with this number.
@@ -110,12 +115,10 @@ impl<'t> Opened<'t> {
         Some(number).filter(|number| self.indexed().has_stop(*number)).map(|number| self.stop(number))
     }
 
-    /// The bit field with this number; 0 is [`Opened::each_day`]. Numbers of bit fields change from delivery to delivery: only one that was read in
-    /// this delivery finds the days that were meant.
-    #[must_use]
-    pub fn bit_field_by_number(self, number: u32) -> Option<BitField<'t>> {
+    /// The bit field with this number; 0 is each day.
+    pub(crate) fn bit_field_by_number(self, number: u32) -> Option<BitField<'t>> {
         match number {
-            0 => self.table().bit_field(0).ok().map(|days| BitField { opened: self, number: Some(0), days }),
+            0 => self.table().bit_field(0).ok().map(|days| BitField { scope: self, number: Some(0), days }),
             _ => self.indexed().bit_field_words(number).map(|bits| self.days_of(number, bits)),
         }
     }
@@ -124,7 +127,7 @@ impl<'t> Opened<'t> {
     #[must_use]
     pub fn category_by_code(self, code: [u8; 3]) -> Option<ServiceCategory<'t>> {
         let code = category_word(code);
-        self.indexed().class_of(code).map(|class| ServiceCategory { mark: PhantomData, code, class })
+        self.indexed().class_of(code).map(|class| ServiceCategory { scope: self, code, class })
     }
 
     /// A category that the table names. That each category of a service is in ZUGART is proved.
@@ -135,7 +138,7 @@ impl<'t> Opened<'t> {
     /// A bit field of the table, by the words of its bits: that they have the frame of the period is proved.
     fn days_of(self, number: u32, bits: &[u32]) -> BitField<'t> {
         match self.table().bit_field_from(bits) {
-            Ok(days) => BitField { opened: self, number: Some(number), days },
+            Ok(days) => BitField { scope: self, number: Some(number), days },
             Err(refusal) => panic!("the archive accepted bit field {}: {}", number, refusal),
         }
     }
@@ -147,20 +150,20 @@ impl<'t> Opened<'t> {
 
     /// A stop that the table names.
     fn stop(self, number: u32) -> Stop<'t> {
-        Stop { opened: self, number }
+        Stop { scope: self, number }
     }
 }
 
 /// The same timetable: no other has this mark.
-impl PartialEq for Opened<'_> {
+impl PartialEq for Scope<'_> {
     fn eq(&self, other: &Self) -> bool {
         std::ptr::eq(self.timetable, other.timetable)
     }
 }
 
-impl Eq for Opened<'_> {}
+impl Eq for Scope<'_> {}
 
-impl fmt::Debug for Opened<'_> {
+impl fmt::Debug for Scope<'_> {
     fn fmt(&self, f: &mut fmt::Formatter<'_>) -> fmt::Result {
         fmt::Debug::fmt(self.timetable, f)
     }
@@ -170,17 +173,11 @@ impl fmt::Debug for Opened<'_> {
 #[derive(Clone, Copy)]
 #[must_use]
 pub struct Service<'t> {
-    opened: Opened<'t>,
-    index: usize,
+    pub(crate) scope: Scope<'t>,
+    pub(crate) index: usize,
 }
 
 impl<'t> Service<'t> {
-    /// Its index in FPLAN's order, from 0.
-    #[must_use]
-    pub fn index(self) -> usize {
-        self.index
-    }
-
     /// Its number, columns 4-8 of its opening line. Several services may have it.
     #[must_use]
     pub fn number(self) -> u32 {
@@ -213,24 +210,24 @@ impl<'t> Service<'t> {
     /// [`Refusal::OutsidePeriod`], and no other.
     pub fn runs(self, date: Date) -> Result<impl Listed<Run<'t>> + 't, Refusal> {
         // Lent no rows, a walk says whether the service runs: it would need some.
-        let count = match self.opened.indexed().walk(self.index as u32, 0, date.into(), &mut []) {
+        let count = match self.scope.indexed().walk(self.index as u32, 0, date.into(), &mut []) {
             Ok(_) => 0,
             Err(Refusal::RowsTooShort { .. }) => self.kind().last() + 1,
             Err(refusal) => return Err(refusal),
         };
-        Ok((0..count).map(move |number| Run { service: self, date, number }))
+        Ok((0..count).map(move |repeat| Run { service: self, date, repeat }))
     }
 
     /// The calls of its whole route, as FPLAN has them. Which of them are served on a date, and when, a [`Run`] says.
     pub fn route(self) -> impl Listed<RouteCall<'t>> + 't {
-        let opened = self.opened;
-        self.records(0).chunks_exact(CALL_WORDS).map(move |words| RouteCall { opened, words })
+        let scope = self.scope;
+        self.records(0).chunks_exact(CALL_WORDS).map(move |words| RouteCall { scope, words })
     }
 
     /// Its categories, from its *G lines.
     pub fn categories(self) -> impl Listed<Category<'t>> + 't {
         self.records(1).chunks_exact(CATEGORY_WORDS).map(move |record| Category {
-            category: self.opened.category(three_bytes(record[CATEGORY_CODE_AT])),
+            category: self.scope.category(three_bytes(record[CATEGORY_CODE_AT])),
             from: record[CATEGORY_FROM_AT] as usize,
             to: record[CATEGORY_TO_AT] as usize,
         })
@@ -239,7 +236,7 @@ impl<'t> Service<'t> {
     /// Its operating days, from its *A VE lines.
     pub fn operating_days(self) -> impl Listed<OperatingDays<'t>> + 't {
         self.records(2).chunks_exact(DAYS_WORDS).map(move |record| OperatingDays {
-            field: self.opened.bit_field(record[DAYS_FIELD_AT]),
+            field: self.scope.bit_field(record[DAYS_FIELD_AT]),
             from: record[DAYS_FROM_AT] as usize,
             to: record[DAYS_TO_AT] as usize,
         })
@@ -251,7 +248,7 @@ impl<'t> Service<'t> {
             let [_, first, second] = three_bytes(record[EXTRA_CODE_AT]);
             Attribute {
                 code: [first, second],
-                field: self.opened.bit_field(record[EXTRA_FIELD_AT]),
+                field: self.scope.bit_field(record[EXTRA_FIELD_AT]),
                 from: record[EXTRA_FROM_AT] as usize,
                 to: record[EXTRA_TO_AT] as usize,
             }
@@ -264,7 +261,7 @@ impl<'t> Service<'t> {
     }
 
     fn words(self) -> &'t [u32] {
-        self.opened.timetable.service_words(self.index).unwrap_or(&[])
+        self.scope.timetable.service_words(self.index).unwrap_or(&[])
     }
 
     /// The words of its calls (0), *G (1), *A VE (2) or other *A (3), which stand in this order behind its head.
@@ -344,7 +341,7 @@ pub struct Attribute<'t> {
 #[derive(Clone, Copy)]
 #[must_use]
 pub struct RouteCall<'t> {
-    opened: Opened<'t>,
+    scope: Scope<'t>,
     /// Its `CALL_WORDS`.
     words: &'t [u32],
 }
@@ -353,8 +350,8 @@ impl<'t> RouteCall<'t> {
     /// The stop.
     pub fn stop(self) -> Stop<'t> {
         let place = self.words[CALL_PLACE_AT];
-        let number = self.opened.table().stop_number(place);
-        self.opened.stop(number.unwrap_or_else(|| panic!("the archive accepted a call at stop {} of fewer", place)))
+        let number = self.scope.table().stop_number(place);
+        self.scope.stop(number.unwrap_or_else(|| panic!("the archive accepted a call at stop {} of fewer", place)))
     }
 
     /// The arrival of the first run in minutes, if the line states one.
@@ -422,7 +419,7 @@ impl fmt::Debug for RouteCall<'_> {
 pub struct Run<'t> {
     service: Service<'t>,
     date: Date,
-    number: u32,
+    pub(crate) repeat: u32,
 }
 
 impl<'t> Run<'t> {
@@ -439,22 +436,22 @@ impl<'t> Run<'t> {
 
     /// Its number among the service's runs of that date, from 0.
     #[must_use]
-    pub fn number(self) -> u32 {
-        self.number
+    pub fn repeat(self) -> u32 {
+        self.repeat
     }
 
     /// The minutes that all its times are later than those of the first run.
     #[must_use]
     pub fn late(self) -> u32 {
-        self.service.kind().run(self.number).map_or(0, |run| run.late)
+        self.service.kind().run(self.repeat).map_or(0, |run| run.late)
     }
 
     /// Walks it: the calls of that day's stretch, two or more.
     pub fn calls(self) -> impl Listed<Call<'t>> + 't {
         let mut words = vec![0; self.service.call_count() * ROW_WORDS];
         // That no run of an accepted delivery is refused is proved.
-        let (service, indexed) = (self.service.index as u32, self.service.opened.indexed());
-        let count = match indexed.walk(service, self.number, self.date.into(), &mut words) {
+        let (service, indexed) = (self.service.index as u32, self.service.scope.indexed());
+        let count = match indexed.walk(service, self.repeat, self.date.into(), &mut words) {
             Ok(by_number::Walk::Rows(rows)) => rows.len(),
             other => panic!("the archive walked {:?} to {:?}", self, other),
         };
@@ -470,7 +467,7 @@ impl<'t> Run<'t> {
 
     /// The index of its service and its number, as the archive takes them.
     pub(crate) fn bare(self) -> (u32, u32) {
-        (self.service.index as u32, self.number)
+        (self.service.index as u32, self.repeat)
     }
 
     /// The place in the route at which that day's stretch begins: the first leg that operates. In an accepted delivery each leg has one range of operating days.
@@ -478,7 +475,7 @@ impl<'t> Run<'t> {
         let (service, date) = (self.service, self.date.into());
         let operates = |record: &&[u32]| {
             record[DAYS_FROM_AT] < record[DAYS_TO_AT]
-                && service.opened.indexed().day(record[DAYS_FIELD_AT], date) == Ok(true)
+                && service.scope.indexed().day(record[DAYS_FIELD_AT], date) == Ok(true)
         };
         let ranges = service.records(2).chunks_exact(DAYS_WORDS).filter(operates);
         ranges.map(|record| record[DAYS_FROM_AT] as usize).min().unwrap_or(0)
@@ -490,14 +487,14 @@ impl fmt::Debug for Run<'_> {
         f.debug_struct("Run")
             .field("service", &self.service.index)
             .field("date", &self.date)
-            .field("number", &self.number)
+            .field("repeat", &self.repeat)
             .finish_non_exhaustive()
     }
 }
 
 impl PartialEq for Run<'_> {
     fn eq(&self, other: &Self) -> bool {
-        (self.service, self.date, self.number) == (other.service, other.date, other.number)
+        (self.service, self.date, self.repeat) == (other.service, other.date, other.repeat)
     }
 }
 
@@ -505,7 +502,7 @@ impl Eq for Run<'_> {}
 
 impl Hash for Run<'_> {
     fn hash<H: Hasher>(&self, state: &mut H) {
-        (self.service, self.date, self.number).hash(state);
+        (self.service, self.date, self.repeat).hash(state);
     }
 }
 
@@ -533,7 +530,7 @@ impl<'t> Call<'t> {
 
     /// The stop that is called at.
     pub fn stop(&self) -> Stop<'t> {
-        self.opened().stop(self.row().stop())
+        self.scope().stop(self.row().stop())
     }
 
     /// The arrival; `None` at the first call.
@@ -581,13 +578,13 @@ impl<'t> Call<'t> {
     /// The category of the leg that leaves; `None` at the last call.
     #[must_use]
     pub fn departing_category(&self) -> Option<ServiceCategory<'t>> {
-        self.category().map(|code| self.opened().category(code))
+        self.category().map(|code| self.scope().category(code))
     }
 
     /// The category of the leg that arrives; `None` at the first call.
     #[must_use]
     pub fn arriving_category(&self) -> Option<ServiceCategory<'t>> {
-        self.arriving.map(|code| self.opened().category(code))
+        self.arriving.map(|code| self.scope().category(code))
     }
 
     /// The minutes to change from the run of this call to the run of another call at the same stop, by the categories of the leg that arrives here and of the one
@@ -608,8 +605,8 @@ impl<'t> Call<'t> {
         Row::new(&self.words)
     }
 
-    fn opened(&self) -> Opened<'t> {
-        self.run.service.opened
+    fn scope(&self) -> Scope<'t> {
+        self.run.service.scope
     }
 }
 
@@ -627,8 +624,8 @@ impl fmt::Debug for Call<'_> {
 #[derive(Clone, Copy)]
 #[must_use]
 pub struct Stop<'t> {
-    opened: Opened<'t>,
-    number: u32,
+    pub(crate) scope: Scope<'t>,
+    pub(crate) number: u32,
 }
 
 impl<'t> Stop<'t> {
@@ -639,13 +636,13 @@ impl<'t> Stop<'t> {
     }
 
     /// Its name in a language and of a type, as a part of BAHNHOF: the first name with a pattern that fits both, else the first name. It is in the
-    /// delivery's own coding, and has to be copied to outlive the opening.
+    /// delivery's own coding, and has to be copied to outlive the scope.
     ///
     /// # Errors
     ///
     /// [`Refusal::NoSuchLanguageOrType`], and no other.
     pub fn name(self, language: Language, kind: NameType) -> Result<&'t [u8], Refusal> {
-        self.opened.indexed().stop_name(self.number, self.opened.timetable.bahnhof(), language, kind)
+        self.scope.indexed().stop_name(self.number, self.scope.timetable.bahnhof(), language, kind)
     }
 
     /// Every departure from here of runs that start on a date, where boarding is allowed and the time is one of those given, in minutes of that date: by time, each once. It costs as
@@ -655,7 +652,7 @@ impl<'t> Stop<'t> {
     /// # fn main() -> Result<(), Box<dyn std::error::Error>> {
     /// # let timetable = estelunya_planner::Timetable::read("../crates/ferry/data")?;
     /// # let friday = "05.12.2025".parse()?;
-    /// timetable.open(|timetable| {
+    /// timetable.scope(|timetable| {
     ///     let quay = timetable.stop_by_number(1_000_022).unwrap();
     ///     let board: Vec<_> = quay.departures(friday, 8 * 60..=9 * 60)?.collect();
     ///     // it calls there twice, and the second time its run ends
@@ -674,11 +671,11 @@ impl<'t> Stop<'t> {
         date: Date,
         times: RangeInclusive<u32>,
     ) -> Result<impl Listed<Departure<'t>> + 't, Refusal> {
-        let opened = self.opened;
-        let board = opened.indexed().board(self.number, date.into(), times)?;
+        let scope = self.scope;
+        let board = scope.indexed().board(self.number, date.into(), times)?;
         Ok((0..board.len()).map(move |at| {
             let by_number::Departure { time, service, repeat, place } = board.at(at);
-            let run = Run { service: Service { opened, index: service as usize }, date, number: repeat };
+            let run = Run { service: Service { scope, index: service as usize }, date, repeat };
             Departure { run, place: place as usize, time }
         }))
     }
@@ -686,7 +683,7 @@ impl<'t> Stop<'t> {
     /// All its names with their patterns, as they stand from column 13 of its line on.
     #[must_use]
     pub fn name_field(self) -> &'t [u8] {
-        self.opened.indexed().name_field(self.number, self.opened.timetable.bahnhof()).unwrap_or(b"")
+        self.scope.indexed().name_field(self.number, self.scope.timetable.bahnhof()).unwrap_or(b"")
     }
 
     /// The minutes to change here from a service of one class to a service of another, each 0 to 13: see
@@ -696,7 +693,7 @@ impl<'t> Stop<'t> {
     ///
     /// [`Refusal::ClassOver13`], and no other.
     pub fn interchange(self, arriving: u32, departing: u32) -> Result<u32, Refusal> {
-        self.opened.indexed().interchange(self.number, arriving, departing)
+        self.scope.indexed().interchange(self.number, arriving, departing)
     }
 
     /// The minutes to change here from a service of one category to a service of another, by their classes.
@@ -704,7 +701,7 @@ impl<'t> Stop<'t> {
     /// ```
     /// # fn main() -> Result<(), Box<dyn std::error::Error>> {
     /// # let timetable = estelunya_planner::Timetable::read("../crates/ferry/data")?;
-    /// timetable.open(|timetable| {
+    /// timetable.scope(|timetable| {
     ///     let (quay, boat) = (timetable.stops().next().unwrap(), timetable.category_by_code(*b"BAT").unwrap());
     ///     assert_eq!((boat.class(), quay.interchange_between(boat, boat)), (4, 3));
     /// });
@@ -713,7 +710,7 @@ impl<'t> Stop<'t> {
     /// ```
     #[must_use]
     pub fn interchange_between(self, arriving: ServiceCategory<'t>, departing: ServiceCategory<'t>) -> u32 {
-        let answer = self.opened.indexed().interchange_between(self.number, arriving.code, departing.code);
+        let answer = self.scope.indexed().interchange_between(self.number, arriving.code, departing.code);
         // A stop and categories of the table are never refused.
         answer.unwrap_or_else(|refusal| panic!("{:?}, {:?} to {:?}: {}", self, arriving, departing, refusal))
     }
@@ -788,7 +785,7 @@ impl fmt::Debug for Departure<'_> {
 #[derive(Clone, Copy)]
 #[must_use]
 pub struct ServiceCategory<'t> {
-    mark: PhantomData<fn(&'t ()) -> &'t ()>,
+    pub(crate) scope: Scope<'t>,
     code: u32,
     class: u32,
 }
@@ -841,37 +838,32 @@ pub struct Interchange<'t> {
 /// A set of days of the period: one of BITFELD's, or one made of them.
 ///
 /// `a | b` has the days of either, `a & b` those of both, `a - b` those of `a` that `b` has not, and `!a` the other days of the period: each is
-/// the archive's answer. Of two timetables they [do not compile](Timetable::open).
+/// the archive's answer. Of two timetables they [do not compile](Timetable::scope).
 #[derive(Clone, Copy)]
 #[must_use]
 pub struct BitField<'t> {
-    opened: Opened<'t>,
-    number: Option<u32>,
+    pub(crate) scope: Scope<'t>,
+    /// Its number in BITFELD, 0 for each day; `None` if it was made of others.
+    pub(crate) number: Option<u32>,
     days: by_number::BitField<'t>,
 }
 
 impl<'t> BitField<'t> {
-    /// Its number in BITFELD, 0 for each day; `None` if it was made of others.
-    #[must_use]
-    pub fn number(self) -> Option<u32> {
-        self.number
-    }
-
     /// Whether it has a date.
     ///
     /// # Errors
     ///
     /// [`Refusal::OutsidePeriod`], and no other.
     pub fn runs_on(self, date: Date) -> Result<bool, Refusal> {
-        let runs = self.opened.indexed().day(self.number.unwrap_or(0), date.into())?;
+        let runs = self.scope.indexed().day(self.number.unwrap_or(0), date.into())?;
         // Of a field that has no number the archive can only be asked about the date.
-        Ok(runs && (self.number.is_some() || self.has(date.day_number() - self.opened.period().first.day_number())))
+        Ok(runs && (self.number.is_some() || self.has(date.day_number() - self.scope.period().first.day_number())))
     }
 
     /// Its dates, the first first.
     pub fn dates(self) -> impl DoubleEndedIterator<Item = Date> + 't {
-        let first = self.opened.period().first.day_number();
-        self.opened.period().dates().filter(move |date| self.has(date.day_number() - first))
+        let first = self.scope.period().first.day_number();
+        self.scope.period().dates().filter(move |date| self.has(date.day_number() - first))
     }
 
     /// How many days it has.
@@ -887,7 +879,7 @@ impl<'t> BitField<'t> {
     }
 
     fn made(self, days: by_number::BitField<'t>) -> BitField<'t> {
-        BitField { opened: self.opened, number: None, days }
+        BitField { scope: self.scope, number: None, days }
     }
 }
 

@@ -2,7 +2,7 @@
 //!
 //! A delivery is loaded once, into a [`Timetable`], which is then asked all day. Nothing is asked of the caller: whatever the files and
 //! numbers say, the answer is document 01's. Services, stops, bit fields, categories and runs are handles of their timetable: one that is asked of another
-//! timetable, or kept past its own, [does not compile](Timetable::open).
+//! timetable, or kept past its own, [does not compile](Timetable::scope). What a host keeps of them are [keys](Key), which another timetable does not know.
 //!
 //! The sample delivery, read from this crate's directory, loaded and walked:
 //!
@@ -14,7 +14,7 @@
 //! let friday = Date::new(5, Month::December, 2025).expect("a date");
 //! let saturday = friday.day_after().expect("a date");
 //!
-//! timetable.open(|timetable| {
+//! timetable.scope(|timetable| {
 //!     let ferry = timetable.services().next().expect("a service");
 //!     assert_eq!((ferry.number(), ferry.administration()), (42, *b"FERRY_"));
 //!     for run in ferry.runs(friday)? {
@@ -69,6 +69,7 @@ pub mod by_number;
 mod connection;
 mod date;
 mod handles;
+mod keys;
 pub mod layout;
 pub mod raw;
 mod refusal;
@@ -83,9 +84,10 @@ pub use by_number::BadPart;
 pub use connection::{Connection, Part};
 pub use date::{Date, Month, NoSuchDate};
 pub use handles::{
-    Attribute, BitField, Call, Category, Departure, Interchange, Listed, Opened, OperatingDays, RouteCall, Run,
-    Service, ServiceCategory, Stop,
+    Attribute, BitField, Call, Category, Departure, Interchange, Listed, OperatingDays, RouteCall, Run, Scope, Service,
+    ServiceCategory, Stop,
 };
+pub use keys::{BitFieldKey, CategoryKey, Key, RunKey, ServiceKey, StopKey};
 pub use layout::{MOST_ROW_WORDS, ROW_WORDS};
 pub use refusal::{File, LoadRefusal, Offence, Refusal};
 pub use row::{Row, RowIter, Rows};

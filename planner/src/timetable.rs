@@ -7,7 +7,8 @@ use std::{fmt, fs, io};
 use crate::by_number::load::Files;
 use crate::by_number::{load, room, room_for, Indexed, Lengths, Table};
 use crate::date::Date;
-use crate::handles::Opened;
+use crate::handles::Scope;
+use crate::keys::Load;
 use crate::layout::FIRST_DAY_AT;
 use crate::refusal::{File, LoadRefusal, Offence};
 
@@ -17,12 +18,14 @@ use crate::refusal::{File, LoadRefusal, Offence};
 /// Every question is asked by the index, at the cost of its answer, whatever the size of the delivery: there is nothing to keep in front of it.
 ///
 /// What it holds is asked through handles ([`Service`](crate::Service), [`Stop`](crate::Stop), [`BitField`](crate::BitField),
-/// [`ServiceCategory`](crate::ServiceCategory), [`Run`](crate::Run)), which [`Timetable::open`] gives.
+/// [`ServiceCategory`](crate::ServiceCategory), [`Run`](crate::Run)), which [`Timetable::scope`] gives.
 pub struct Timetable {
     words: Box<[u32]>,
     /// Made of these words, and of no others.
     index: Box<[u32]>,
     bahnhof: Box<[u8]>,
+    /// The number of its load, which its keys have.
+    load: Load,
 }
 
 impl Timetable {
@@ -52,7 +55,7 @@ impl Timetable {
         };
         words.truncate(loaded.words as usize);
         let index = index_of(Table::new(&words));
-        Ok(Timetable { words: words.into(), index, bahnhof: files.bahnhof.into() })
+        Ok(Timetable { words: words.into(), index, bahnhof: files.bahnhof.into(), load: Load::next() })
     }
 
     /// How many words [`Timetable::load`] lends to the table of files with these lengths, as [`room_for`] says: known before a file is read. Helper words
@@ -88,8 +91,8 @@ impl Timetable {
         Timetable::load(&files).map_err(ReadError::Refused)
     }
 
-    /// Opens the timetable to a closure, which is given its handles. What the closure gives back is given back; no handle can be in it, since
-    /// each belongs to this opening alone, and no question takes one of another.
+    /// Gives its handles to a closure, as [`std::thread::scope`] gives threads. What the closure gives back is given back; no handle can be in it, since
+    /// each belongs to this scope alone, and no question takes one of another. What is to be kept is kept by [keys](crate::Key).
     ///
     /// ```
     /// # fn main() -> Result<(), Box<dyn std::error::Error>> {
@@ -97,9 +100,9 @@ impl Timetable {
     /// use estelunya_planner::{Date, Month};
     ///
     /// let friday = Date::new(5, Month::December, 2025).unwrap();
-    /// let numbers: Vec<u32> = timetable.open(|timetable| timetable.services().map(|service| service.number()).collect());
+    /// let numbers: Vec<u32> = timetable.scope(|timetable| timetable.services().map(|service| service.number()).collect());
     /// assert_eq!(numbers, [42]);
-    /// let runs = timetable.open(|timetable| timetable.services().next().unwrap().runs(friday).map(|runs| runs.len()))?;
+    /// let runs = timetable.scope(|timetable| timetable.services().next().unwrap().runs(friday).map(|runs| runs.len()))?;
     /// assert_eq!(runs, 1);
     /// # Ok(())
     /// # }
@@ -112,8 +115,8 @@ impl Timetable {
     /// ```
     /// # fn main() -> Result<(), Box<dyn std::error::Error>> {
     /// # let (old, new) = (estelunya_planner::Timetable::read("../crates/ferry/data")?, estelunya_planner::Timetable::read("../crates/ferry/data")?);
-    /// let days = old.open(|old| new.open(|new| {
-    ///     let (ferry, daily) = (old.bit_field_by_number(1).unwrap(), new.each_day());
+    /// let days = old.scope(|old| new.scope(|new| {
+    ///     let (ferry, daily) = (old.bit_fields().next().unwrap(), new.each_day());
     ///     (ferry & old.each_day()).day_count() + daily.day_count()
     /// }));
     /// assert_eq!(days, 12);
@@ -122,13 +125,13 @@ impl Timetable {
     /// ```
     ///
     /// This does not, since `ferry` is of another timetable than `daily`. The compiler says `error[E0521]: borrowed data escapes outside of closure` and "`new` escapes the closure body here": where two
-    /// openings are at hand, that means that their handles met in one question.
+    /// scopes are at hand, that means that their handles met in one question.
     ///
     /// ```compile_fail,E0521
     /// # fn main() -> Result<(), Box<dyn std::error::Error>> {
     /// # let (old, new) = (estelunya_planner::Timetable::read("../crates/ferry/data")?, estelunya_planner::Timetable::read("../crates/ferry/data")?);
-    /// let days = old.open(|old| new.open(|new| {
-    ///     let (ferry, daily) = (old.bit_field_by_number(1).unwrap(), new.each_day());
+    /// let days = old.scope(|old| new.scope(|new| {
+    ///     let (ferry, daily) = (old.bit_fields().next().unwrap(), new.each_day());
     ///     (ferry & daily).day_count() + daily.day_count()
     /// }));
     /// # Ok(())
@@ -138,24 +141,24 @@ impl Timetable {
     /// Nor does a function of the host that is given a handle of another timetable than it asks, if it says so by one lifetime (E0521 again):
     ///
     /// ```compile_fail,E0521
-    /// # use estelunya_planner::{Opened, Service};
+    /// # use estelunya_planner::{Scope, Service};
     /// # fn main() -> Result<(), Box<dyn std::error::Error>> {
     /// # let (old, new) = (estelunya_planner::Timetable::read("../crates/ferry/data")?, estelunya_planner::Timetable::read("../crates/ferry/data")?);
-    /// fn listed<'t>(timetable: Opened<'t>, service: Service<'t>) -> bool {
+    /// fn listed<'t>(timetable: Scope<'t>, service: Service<'t>) -> bool {
     ///     timetable.services().any(|listed| listed == service)
     /// }
-    /// old.open(|old| new.open(|new| listed(new, old.services().next().unwrap())));
+    /// old.scope(|old| new.scope(|new| listed(new, old.services().next().unwrap())));
     /// # Ok(())
     /// # }
     /// ```
     ///
     /// Nor does a handle that is kept for later, when its timetable may be gone. Given back, it is "error: lifetime may not live long enough: returning this value requires that `'1` must outlive
-    /// `'2`": give back numbers, dates or strings.
+    /// `'2`": give back keys, numbers, dates or strings.
     ///
     /// ```compile_fail
     /// # fn main() -> Result<(), Box<dyn std::error::Error>> {
     /// # let timetable = estelunya_planner::Timetable::read("../crates/ferry/data")?;
-    /// let kept = timetable.open(|timetable| timetable.services().next());
+    /// let kept = timetable.scope(|timetable| timetable.services().next());
     /// # Ok(())
     /// # }
     /// ```
@@ -166,14 +169,14 @@ impl Timetable {
     /// # fn main() -> Result<(), Box<dyn std::error::Error>> {
     /// # let timetable = estelunya_planner::Timetable::read("../crates/ferry/data")?;
     /// let mut kept = None;
-    /// timetable.open(|timetable| kept = timetable.services().next());
+    /// timetable.scope(|timetable| kept = timetable.services().next());
     /// drop(timetable);
     /// kept.unwrap().number();
     /// # Ok(())
     /// # }
     /// ```
-    pub fn open<R>(&self, ask: impl for<'t> FnOnce(Opened<'t>) -> R) -> R {
-        ask(Opened::new(self))
+    pub fn scope<R>(&self, ask: impl for<'t> FnOnce(Scope<'t>) -> R) -> R {
+        ask(Scope::new(self))
     }
 
     /// The period of the delivery.
@@ -238,6 +241,11 @@ impl Timetable {
     #[must_use]
     pub fn bahnhof(&self) -> &[u8] {
         &self.bahnhof
+    }
+
+    /// The number of its load.
+    pub(crate) fn load_number(&self) -> Load {
+        self.load
     }
 
     /// The words of the service with this index.

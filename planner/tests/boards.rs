@@ -42,13 +42,13 @@ fn two_days() -> Timetable {
 
 /// Time, service's number, run and place of each departure, as a walk of every run lists them.
 fn walked(timetable: &Timetable, stop: u32, date: Date, first: u32, last: u32) -> Vec<(u32, usize, u32, usize)> {
-    let mut listed: Vec<_> = timetable.open(|timetable| {
+    let mut listed: Vec<_> = timetable.scope(|timetable| {
         let services = timetable.services().enumerate();
         let runs = services.flat_map(|(at, service)| service.runs(date).unwrap().map(move |run| (at, run)));
         runs.flat_map(|(at, run)| {
             run.calls()
                 .filter(|call| call.stop().number() == stop && call.may_board())
-                .map(move |call| (call.departure().unwrap(), at, run.number(), call.place()))
+                .map(move |call| (call.departure().unwrap(), at, run.repeat(), call.place()))
                 .collect::<Vec<_>>()
         })
         .filter(|row| first <= row.0 && row.0 <= last)
@@ -59,7 +59,7 @@ fn walked(timetable: &Timetable, stop: u32, date: Date, first: u32, last: u32) -
 }
 
 fn boarded(timetable: &Timetable, stop: u32, date: Date, first: u32, last: u32) -> Vec<(u32, usize, u32, usize)> {
-    timetable.open(|timetable| {
+    timetable.scope(|timetable| {
         let stop = timetable.stop_by_number(stop).unwrap();
         let services: Vec<_> = timetable.services().collect();
         let board = stop.departures(date, first..=last).unwrap();
@@ -68,7 +68,7 @@ fn boarded(timetable: &Timetable, stop: u32, date: Date, first: u32, last: u32) 
                 let (call, run) = (leaves.call(), leaves.run());
                 assert_eq!((call.departure(), call.stop(), call.run()), (Some(leaves.time()), stop, run));
                 let at = services.iter().position(|service| *service == leaves.service()).unwrap();
-                (leaves.time(), at, run.number(), call.place())
+                (leaves.time(), at, run.repeat(), call.place())
             })
             .collect()
     })
@@ -103,7 +103,7 @@ fn as_walked() {
 fn refused() {
     let timetable = two_days();
     let outside = "02.01.2026".parse().unwrap();
-    timetable.open(|timetable| {
+    timetable.scope(|timetable| {
         let stop = timetable.stops().next().unwrap();
         assert_eq!(stop.departures(outside, 0..=9).err(), Some(Refusal::OutsidePeriod));
     });

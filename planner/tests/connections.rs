@@ -1,7 +1,7 @@
 //! Proposed connections, by handles and by bare number, plain and by the index.
 
 use estelunya_planner::by_number::{self, BadPart};
-use estelunya_planner::{Files, Opened, Part, Refusal, Run, Timetable};
+use estelunya_planner::{Files, Part, Refusal, Run, Scope, Timetable};
 
 /// Out at 08:00, back at 09:00, and a boat of another category on from B at 08:13, late at night from B to C; alighting at B of the first is allowed, boarding there is not.
 const FPLAN: &str = "\
@@ -45,7 +45,7 @@ fn told(answer: Result<(), BadPart>) -> Result<(), (usize, Refusal)> {
     answer.map_err(|bad| (bad.part, bad.refusal))
 }
 
-fn check<'t>(timetable: Opened<'t>, parts: &[Part<'t>]) -> Result<(), (usize, Refusal)> {
+fn check<'t>(timetable: Scope<'t>, parts: &[Part<'t>]) -> Result<(), (usize, Refusal)> {
     told(timetable.connection(parts.to_vec()).check())
 }
 
@@ -53,7 +53,7 @@ fn check<'t>(timetable: Opened<'t>, parts: &[Part<'t>]) -> Result<(), (usize, Re
 fn by_handles() {
     let timetable = two_days();
     let [first, second] = ["31.12.2025", "01.01.2026"].map(|date| date.parse().unwrap());
-    timetable.open(|timetable| {
+    timetable.scope(|timetable| {
         let services: Vec<_> = timetable.services().collect();
         let run = |service: usize, date, at| services[service].runs(date).unwrap().nth(at).unwrap();
         let part = |run, board, alight| Part { run, board, alight };
@@ -114,7 +114,7 @@ fn by_number() {
 fn runs() {
     let timetable = two_days();
     let date = "31.12.2025".parse().unwrap();
-    timetable.open(|timetable| {
+    timetable.scope(|timetable| {
         let runs: Vec<Run<'_>> = timetable.services().flat_map(|service| service.runs(date).unwrap()).collect();
         assert_eq!(runs.len(), 4);
         for run in runs {

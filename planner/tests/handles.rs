@@ -60,9 +60,9 @@ fn shared_between_threads() {
     let timetable = Arc::new(two_days().unwrap());
     shared(&timetable);
     let other = Arc::clone(&timetable);
-    let counted = thread::spawn(move || other.open(|timetable| timetable.services().len()));
+    let counted = thread::spawn(move || other.scope(|timetable| timetable.services().len()));
     assert_eq!(counted.join().unwrap(), 2);
-    timetable.open(|timetable| {
+    timetable.scope(|timetable| {
         let service = timetable.services().next().unwrap();
         let walked = thread::scope(|scope| scope.spawn(|| service.runs(first()).unwrap().len()).join());
         assert_eq!(walked.unwrap(), 3);
@@ -76,7 +76,7 @@ fn heads() {
     assert_eq!((period.first, period.last, period.day_count()), (first(), second(), 2));
     assert_eq!(period.dates().collect::<Vec<_>>(), [first(), second()]);
     assert!(period.contains(second()) && !period.contains(date("02.01.2026")));
-    timetable.open(|timetable| {
+    timetable.scope(|timetable| {
         let said: Vec<_> =
             timetable.services().map(|service| (service.number(), service.administration(), service.kind())).collect();
         let expected = [
@@ -86,8 +86,6 @@ fn heads() {
         assert_eq!(said, expected);
         let lines: Vec<u32> = timetable.services().rev().map(|service| service.opening_line()).collect();
         assert_eq!(lines, [11, 1]);
-        assert_eq!(timetable.service_by_index(1), timetable.services().last());
-        assert_eq!(timetable.service_by_index(2), None);
         assert_eq!(timetable.services().collect::<HashSet<_>>().len(), 2);
     });
 }
@@ -95,15 +93,15 @@ fn heads() {
 #[test]
 fn ranges() {
     let timetable = two_days().unwrap();
-    timetable.open(|timetable| {
+    timetable.scope(|timetable| {
         let service = timetable.services().next().unwrap();
         let categories: Vec<_> = service.categories().map(|part| (part.category.code(), part.from, part.to)).collect();
         assert_eq!(categories, [(*b"BAT", 0, 1), (*b"SCH", 1, 2)]);
-        let days: Vec<_> = service.operating_days().map(|part| (part.field.number(), part.from, part.to)).collect();
-        assert_eq!(days, [(Some(0), 0, 1), (Some(3), 1, 2)]);
+        let days: Vec<_> = service.operating_days().map(|part| (part.field.day_count(), part.from, part.to)).collect();
+        assert_eq!(days, [(2, 0, 1), (1, 1, 2)]);
         let attributes: Vec<_> =
-            service.attributes().map(|part| (part.code, part.field.number(), part.from, part.to)).collect();
-        assert_eq!(attributes, [(*b"FR", Some(3), 0, 2), (*b"K2", Some(0), 1, 2)]);
+            service.attributes().map(|part| (part.code, part.field.day_count(), part.from, part.to)).collect();
+        assert_eq!(attributes, [(*b"FR", 1, 0, 2), (*b"K2", 2, 1, 2)]);
         let route: Vec<_> =
             service.route().map(|call| (call.stop().number(), call.arrival(), call.departure())).collect();
         let expected =
@@ -121,14 +119,14 @@ fn ranges() {
 #[test]
 fn runs() {
     let timetable = two_days().unwrap();
-    timetable.open(|timetable| {
+    timetable.scope(|timetable| {
         let counts =
             |date| -> Vec<usize> { timetable.services().map(|service| service.runs(date).unwrap().len()).collect() };
         assert_eq!((counts(first()), counts(second())), (vec![3, 33], vec![3, 0]));
         let service = timetable.services().next().unwrap();
         assert_eq!(service.runs(date("02.01.2026")).err(), Some(Refusal::OutsidePeriod));
         let last = service.runs(first()).unwrap().last().unwrap();
-        assert_eq!((last.number(), last.late(), last.date(), last.service()), (2, 60, first(), service));
+        assert_eq!((last.repeat(), last.late(), last.date(), last.service()), (2, 60, first(), service));
         assert_eq!(last.calls().last().unwrap().arrival(), Some(1_470 + 60));
         // on the second day the second leg rests
         let short = service.runs(second()).unwrap().next().unwrap();
@@ -143,7 +141,7 @@ fn as_by_number() {
     let timetable = two_days().unwrap();
     let (table, mut lent) = (timetable.by_number(), vec![0; MOST_ROW_WORDS]);
     for date in timetable.period().dates() {
-        let walked: Vec<Vec<u32>> = timetable.open(|timetable| {
+        let walked: Vec<Vec<u32>> = timetable.scope(|timetable| {
             let runs = timetable.services().flat_map(|service| service.runs(date).unwrap());
             runs.map(|run| run.calls().flat_map(|call| call.row().words().to_vec()).collect()).collect()
         });
@@ -163,7 +161,7 @@ fn as_by_number() {
 #[test]
 fn stops() {
     let timetable = two_days().unwrap();
-    timetable.open(|timetable| {
+    timetable.scope(|timetable| {
         let names: Vec<_> =
             timetable.stops().map(|stop| stop.name(Language::ENGLISH, NameType::ANY).unwrap()).collect();
         assert_eq!(names, [&b"Bee"[..], b"A", b"C"]);
@@ -182,7 +180,7 @@ fn stops() {
 #[test]
 fn categories() {
     let timetable = two_days().unwrap();
-    timetable.open(|timetable| {
+    timetable.scope(|timetable| {
         let listed: Vec<_> = timetable.categories().map(|category| (category.code(), category.class())).collect();
         assert_eq!(listed, [(*b"BAT", 4), (*b"SCH", 13), (*b"IC ", 2)]);
         let of = |code: &[u8; 3]| timetable.category_by_code(*code);
@@ -211,17 +209,16 @@ fn categories() {
 #[test]
 fn days() {
     let timetable = two_days().unwrap();
-    timetable.open(|timetable| {
+    timetable.scope(|timetable| {
         let field = timetable.bit_fields().next().unwrap();
         let daily = timetable.each_day();
-        assert_eq!((timetable.bit_fields().len(), field.number(), field.day_count()), (1, Some(3), 1));
+        assert_eq!((timetable.bit_fields().len(), field.key().is_some(), field.day_count()), (1, true, 1));
         assert_eq!((field.runs_on(first()), field.runs_on(second())), (Ok(true), Ok(false)));
         assert_eq!(((!field).runs_on(first()), (!field).runs_on(second())), (Ok(false), Ok(true)));
-        assert_eq!(((!field).number(), (!field).dates().collect::<Vec<_>>()), (None, vec![second()]));
+        assert_eq!(((!field).key(), (!field).dates().collect::<Vec<_>>()), (None, vec![second()]));
         assert_eq!((field | !field, field & !field, daily - field), (daily, daily - daily, !field));
         assert_eq!((field | daily).runs_on(date("30.12.2025")), Err(Refusal::OutsidePeriod));
         assert_eq!(field.runs_on(Date::new(1, Month::March, 1900).unwrap()), Err(Refusal::OutsidePeriod));
-        assert_eq!((timetable.bit_field_by_number(3), timetable.bit_field_by_number(4)), (Some(field), None));
     });
 }
 
@@ -231,11 +228,11 @@ fn printed() {
     let timetable = two_days().unwrap();
     let text = format!("{:?}", timetable);
     assert!(text.starts_with("Timetable { first: 31.12.2025, last: 01.01.2026, services: 2, words: "), "{}", text);
-    timetable.open(|timetable| {
+    timetable.scope(|timetable| {
         let service = timetable.services().next().unwrap();
         assert_eq!(format!("{:?}", service), "Service { index: 0, number: 7, .. }");
         let run = service.runs(first()).unwrap().next().unwrap();
-        assert_eq!(format!("{:?}", run), "Run { service: 0, date: 31.12.2025, number: 0, .. }");
+        assert_eq!(format!("{:?}", run), "Run { service: 0, date: 31.12.2025, repeat: 0, .. }");
         assert_eq!(format!("{:?}", timetable.each_day()), "BitField { number: Some(0), days: 2, .. }");
         assert_eq!(format!("{:?}", run.calls().next().unwrap().stop()), "Stop(1000011)");
     });
@@ -254,7 +251,7 @@ fn empty_but_accepted() {
     };
     let timetable = Timetable::load(&files).unwrap();
     assert_eq!((timetable.service_count(), timetable.by_number().words().len()), (0, 12));
-    assert_eq!(timetable.open(|timetable| timetable.categories().len()), 0);
+    assert_eq!(timetable.scope(|timetable| timetable.categories().len()), 0);
 }
 
 #[test]

@@ -1,0 +1,43 @@
+//! Every run of every service on a day, with all its calls: how many, and in how much processor time.
+//!
+//!     every_run DIRECTORY DD.MM.YYYY
+
+use std::env;
+use std::error::Error;
+use std::fs;
+
+use estelunya_planner::{Date, Timetable};
+
+fn main() -> Result<(), Box<dyn Error>> {
+    let words: Vec<String> = env::args().skip(1).collect();
+    let (directory, date): (&String, Date) = match &words[..] {
+        [directory, date] => (directory, date.parse()?),
+        _ => return Err("every_run DIRECTORY DD.MM.YYYY".into()),
+    };
+    let start = processor_time();
+    let timetable = Timetable::read(directory)?;
+    let loaded = processor_time();
+    println!("{:?}: loaded in {:.3} s", timetable, loaded - start);
+    let (mut runs, mut calls, mut minutes) = (0u64, 0u64, 0u64);
+    timetable.scope(|timetable| {
+        for service in timetable.services() {
+            for run in service.runs(date)? {
+                runs += 1;
+                for call in run.calls() {
+                    calls += 1;
+                    minutes += u64::from(call.departure().unwrap_or(0));
+                }
+            }
+        }
+        Ok::<(), Box<dyn Error>>(())
+    })?;
+    let asked = processor_time() - loaded;
+    println!("on {}: {} runs, {} calls, {} minutes together, in {:.4} s", date, runs, calls, minutes, asked);
+    Ok(())
+}
+
+/// Seconds that this thread has had a processor; 0 where the system does not say.
+fn processor_time() -> f64 {
+    let told = fs::read_to_string("/proc/thread-self/schedstat").unwrap_or_default();
+    told.split(' ').next().and_then(|nanoseconds| nanoseconds.parse::<f64>().ok()).unwrap_or(0.0) / 1e9
+}
