@@ -38,6 +38,8 @@ fn main() -> Result<(), Box<dyn Error>> {
 
 /// Seconds that this thread has had a processor; 0 where the system does not say.
 fn processor_time() -> f64 {
+    // the system counts up to the last time that it looked: let it look
+    std::thread::yield_now();
     let told = fs::read_to_string("/proc/thread-self/schedstat").unwrap_or_default();
     told.split(' ').next().and_then(|nanoseconds| nanoseconds.parse::<f64>().ok()).unwrap_or(0.0) / 1e9
 }

@@ -207,7 +207,7 @@ impl<'a> Indexed<'a> {
     }
 
     /// The name field of the stop with this number: see [`Table::stop_name`].
-    pub(crate) fn name_field<'b>(self, stop: u32, bahnhof: &'b [u8]) -> Option<&'b [u8]> {
+    pub(crate) fn name_field(self, stop: u32, bahnhof: &[u8]) -> Option<&[u8]> {
         let record = self.record(1, stop)?;
         bahnhof.get(record[STOP_NAME_AT] as usize..)?.get(..record[STOP_NAME_LENGTH_AT] as usize)
     }
