@@ -71,6 +71,8 @@ run "$out/desk" --clean "$mended" "$mended-clean" | grep -q '^clean: loaded agai
 desk_says 0 'accepted days 7 bitfields 1 stops 3 interchange 1 categories 1 services 1 words 82' "$mended-clean"
 sed -i '2s/%$//' "$mended/FPLAN"
 desk_says 1 'refused 4 file 5 line 2 column 59' "$mended"
+status=0; run "$out/desk" crates/ferry/data >/dev/full 2>"$out/full.txt" || status=$?
+[ "$status" = 2 ] || die "desk: status $status where nothing can be written"
 rm "$mended/UMSTEIGB"
 desk_says 2 'unread file 4' "$mended"
 

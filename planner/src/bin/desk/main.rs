@@ -7,7 +7,7 @@
 //! proved answer: `accepted ..`, `refused N file F line L column C` or `unread file F`. What follows is worked out by this program: the line, the
 //! field, what the number means and how to mend it. `--all` goes on after a refused line and shows what else of the same file is likely to be refused;
 //! it mends nothing. `--clean` loads the delivery, writes it to a new or empty directory OUT with FPLAN in one clean form beside copies of the other files, loads that again, and says
-//! that it is the same timetable. The exit status is 0 for accepted, 1 for refused, 2 for unread, or not written. Progress of a long load goes to standard error.
+//! that it is the same timetable. The exit status is 0 for accepted, 1 for refused, 2 for unread, and where something could not be written. Progress of a long load goes to standard error.
 
 mod clean;
 mod dates;
@@ -21,22 +21,27 @@ mod service;
 mod tests;
 
 use std::env;
-use std::io::{stdout, Write};
+use std::io::{stdout, ErrorKind, Write};
 use std::path::{Path, PathBuf};
 use std::process::exit;
 use std::sync::mpsc::{channel, RecvTimeoutError};
 use std::thread;
 use std::time::{Duration, Instant};
 
-use estelunya_planner::by_number::load;
-use estelunya_planner::layout::{
-    BIT_FIELDS_AT, CLASSES_AT, INTERCHANGES_AT, MOST_FILE_BYTES, PERIOD_DAYS_AT, SERVICES_AT, STOPS_AT,
-};
+use estelunya_planner::by_number::{load, room};
+use estelunya_planner::layout::{BIT_FIELDS_AT, CLASSES_AT, INTERCHANGES_AT, PERIOD_DAYS_AT, SERVICES_AT, STOPS_AT};
+use estelunya_planner::raw::VERSION;
 use estelunya_planner::{Files, LoadRefusal};
 
 use explain::{screen, short, Answer};
 use further::Further;
 use lines::{Delivery, NAMES};
+
+/// The crate's version; a program that was made without cargo does not know it.
+const RELEASE: &str = match option_env!("CARGO_PKG_VERSION") {
+    Some(version) => version,
+    None => "without a number",
+};
 
 const ACCEPTED: i32 = 0;
 const REFUSED: i32 = 1;
@@ -44,7 +49,8 @@ const UNREAD: i32 = 2;
 
 const USAGE: &str = "desk [--all] [DIRECTORY]: loads the delivery there, or at hand; status 0 accepted, 1 refused, 2 unread; \
                      --all: what else of the refused file is likely to be refused; docs/REFUSALS.md says how to mend it\n\
-                     desk --clean DIRECTORY OUT: writes the delivery to a new or empty directory OUT, with FPLAN in one clean form";
+                     desk --clean DIRECTORY OUT: writes the delivery to a new or empty directory OUT, with FPLAN in one clean form\n\
+                     --version; -- before a directory whose name begins with -";
 
 /// A load that takes longer says that it goes on, and says it again each time.
 const LONG_WAIT: Duration = Duration::from_secs(2);
@@ -56,16 +62,17 @@ const MOST_FURTHER: usize = 200;
 const MOST_NAMED: usize = 10;
 
 fn main() {
-    let (mut all, mut clean, mut given) = (false, false, Vec::new());
+    let (mut all, mut clean, mut named, mut given) = (false, false, false, Vec::new());
     for word in env::args_os().skip(1) {
         match word.to_str() {
+            // After it every word is a directory.
+            _ if named => given.push(PathBuf::from(word)),
+            Some("--") => named = true,
             Some("--all") => all = true,
             Some("--clean") => clean = true,
-            Some("--help" | "-h") => {
-                println!("{}", USAGE);
-                exit(ACCEPTED)
-            }
-            Some(option) if option.starts_with('-') => usage(),
+            Some("--help" | "-h") => print(ACCEPTED, &format!("{}\n", USAGE)),
+            Some("--version") => print(ACCEPTED, &format!("desk {}, of boundary {}\n", RELEASE, VERSION)),
+            Some(option) if option.starts_with('-') => usage(&format!("`{}` is not understood", option)),
             _ => given.push(PathBuf::from(word)),
         }
     }
@@ -73,15 +80,27 @@ fn main() {
         (false, []) => run(Path::new("."), all),
         (false, [directory]) => run(directory, all),
         (true, [directory, out]) if !all => clean::run(directory, out),
-        _ => usage(),
+        (true, _) => usage("--clean takes a directory and another, and nothing else"),
+        _ => usage("more than one directory"),
     };
-    // A reader that has seen enough, such as `head`, is no reason to end otherwise.
-    stdout().write_all(text.as_bytes()).ok();
-    exit(status);
+    print(status, &text)
 }
 
-fn usage() -> ! {
-    eprintln!("{}", USAGE);
+/// Prints, and ends with the status. What could not be written is not said: then the status is that of an unread delivery, so that no script goes on with it. A reader that has seen enough, such
+/// as `head`, is no reason to end otherwise.
+fn print(status: i32, text: &str) -> ! {
+    let mut out = stdout();
+    match out.write_all(text.as_bytes()).and_then(|()| out.flush()) {
+        Err(error) if error.kind() != ErrorKind::BrokenPipe => {
+            eprintln!("desk: not written: {}", error);
+            exit(UNREAD)
+        }
+        _ => exit(status),
+    }
+}
+
+fn usage(why: &str) -> ! {
+    eprintln!("desk: {}\n{}", why, USAGE);
     exit(UNREAD)
 }
 
@@ -119,16 +138,9 @@ fn told(delivery: &Delivery, all: bool) -> (i32, String) {
 /// The words of the table, or the refusal.
 fn loaded(delivery: &Delivery) -> Result<Vec<u32>, Answer> {
     with_progress(|| {
-        // No line of a file gives more words than a quarter of its bytes.
-        let bytes: usize = delivery.files.iter().map(|file| file.len().min(MOST_FILE_BYTES)).sum();
-        let mut words = vec![0; bytes / 4 + 64];
-        let used = match load(&files(delivery), &mut words).map_err(answer) {
-            Err(Answer { number: 20, needed, .. }) => {
-                words = vec![0; needed as usize];
-                load(&files(delivery), &mut words).map_err(answer)?
-            }
-            other => other?,
-        };
+        // So many are enough: that is proved.
+        let mut words = vec![0; room(&files(delivery))];
+        let used = load(&files(delivery), &mut words).map_err(answer)?;
         words.truncate(used.words as usize);
         Ok(words)
     })
