@@ -333,15 +333,13 @@ impl Period {
     }
 }
 
-/// The index of a table that was loaded.
+/// The index of a table that was loaded: never longer than the table, so that it is made at once.
 fn index_of(table: Table<'_>) -> Box<[u32]> {
-    let made = table.index_words().and_then(|needed| {
-        let mut index = vec![0; needed];
-        table.make_index(&mut index).map(|_| index)
-    });
-    match made {
-        Ok(index) => index.into(),
+    let mut index = vec![0; table.words().len()];
+    match table.make_index(&mut index) {
+        Ok(used) => index.truncate(used),
         // Neither 21 nor 29 can be.
         Err(refusal) => panic!("the archive made no index of a table that it had loaded: {}", refusal),
     }
+    index.into()
 }
