@@ -1,14 +1,13 @@
 /*
  * Estelunya: the proved timetable loader. Link libestelunya.a.
  *
- * A load makes a table from the six files of a delivery; day, interchange (between classes or between categories), stop name and walk are asked of a table, or of a table and
- * its index at the cost of the answer (estelunya_quick_..); FPLAN is written back from a table; and there is arithmetic on operating days.
- * The rules, and the numbers of the refusals, are those of documents 01 and 02; docs/REFUSALS.md tells them to people.
+ * A load makes a table from the six files of a delivery; day, interchange (between classes or between categories), stop name and walk are asked of a table, or
+ * of a table and its index at the cost of the answer (estelunya_quick_..); FPLAN is written back from a table; and there is arithmetic on operating days. The
+ * rules, and the numbers of the refusals, are those of documents 01 and 02; docs/REFUSALS.md tells them to people.
  *
- * What the caller owes: each pointer is good for its length, given in items (bytes or 32-bit words), and aligned as its type is; it may be null
- * where that length is 0. The words and bytes that a call writes (table and helper of a load, rows of a walk, an index, a text, result of arithmetic) overlap none of its
- * other arguments.
- * Nothing else: any bytes, any words and any numbers may be given, and have exactly one answer.
+ * What the caller owes: each pointer is good for its length, given in items (bytes or 32-bit words), and aligned as its type is; it may be null where that
+ * length is 0. The words and bytes that a call writes (table and helper of a load, rows of a walk, an index, a text, result of arithmetic) overlap none of its
+ * other arguments. Nothing else: any bytes, any words and any numbers may be given, and have exactly one answer.
  *
  * A call writes into the words lent to it and nowhere else. It keeps nothing: no pointer, no memory, no state between calls. So calls may run
  * side by side. Many questions may read one table at a time; words that a call writes may be used by no other call meanwhile.
@@ -228,8 +227,9 @@ typedef struct EstelunyaDayCountResult {
  *     S words: the last call at each stop, 0 if there is none. Calls are numbered through the table, from 1;
  *     4 words for each call: the call before it at the same stop (0 if there is none), its service, the place of that service's record, and its place in the route.
  *
- * The chains of a section of n records: its records are counted from the end, 1 to n, so that the first is record n. Word 2 * b is the greatest record in bucket b, and
- * word 2 * e - 1 the next lower record in the bucket of record e; 0 ends a chain. A record whose first word is k is in bucket (k * 2654435761 mod 2^32) * n / 2^32.
+ * The chains of a section of n records: its records are counted from the end, 1 to n, so that the first is record n. Word 2 * b is the greatest record in
+ * bucket b, and word 2 * e - 1 the next lower record in the bucket of record e; 0 ends a chain. A record whose first word is k is in bucket (k * 2654435761 mod
+ * 2^32) * n / 2^32.
  */
 
 /* Helper words of a load: these, and so many for each line of BITFELD, BAHNHOF and UMSTEIGB. */
@@ -288,16 +288,17 @@ EstelunyaLoadResult estelunya_load(
     uint32_t *helper, size_t helper_len);
 
 /*
- * AN INDEX BELONGS TO THE WORDS IT WAS MADE OF: beside the words of another table, or of last night's, a quick question may refuse, or walk ANOTHER SERVICE than the one that was
- * meant; so make the index anew with every load, keep the two together, and ask estelunya_check_index once whenever words or index came out of a file.
+ * AN INDEX BELONGS TO THE WORDS IT WAS MADE OF: beside the words of another table, or of last night's, a quick question may refuse, or walk ANOTHER SERVICE
+ * than the one that was meant; so make the index anew with every load, keep the two together, and ask estelunya_check_index once whenever words or index came
+ * out of a file.
  *
  * (A bit field, a stop, an interchange record or a category is only ever answered from a record of the words given that has the number asked for.)
  */
 
 /*
- * Makes the index of a table. Made: `index` begins with its words, as many as the answer says, and the words after them hold what they held. Refused (21, or 29: fewer
- * words were lent than it needs, and the answer says how many): all words of `index` hold what they held. A call with none asks for their number. The time that it
- * takes grows with the table, once.
+ * Makes the index of a table. Made: `index` begins with its words, as many as the answer says, and the words after them hold what they held. Refused (21, or
+ * 29: fewer words were lent than it needs, and the answer says how many): all words of `index` hold what they held. A call with none asks for their number. The
+ * time that it takes grows with the table, once.
  */
 EstelunyaIndexResult estelunya_index(
     const uint32_t *table, size_t table_len,
@@ -359,9 +360,9 @@ EstelunyaWalkResult estelunya_walk(
     uint32_t *rows, size_t rows_len);
 
 /*
- * The same questions by an index: of a table and its own index exactly the answers and the rows of the questions above, and what one costs does not grow with the table. `table`
- * and `index` may be any words. The words are not looked through: 21 where there is no header of a table, 43 where the index has a length that this table's cannot have, or
- * points to a place where no sound record stands. That both belong together is for the caller to keep: see above.
+ * The same questions by an index: of a table and its own index exactly the answers and the rows of the questions above, and what one costs does not grow with
+ * the table. `table` and `index` may be any words. The words are not looked through: 21 where there is no header of a table, 43 where the index has a length
+ * that this table's cannot have, or points to a place where no sound record stands. That both belong together is for the caller to keep: see above.
  */
 
 EstelunyaDayResult estelunya_quick_day(
@@ -394,14 +395,15 @@ EstelunyaWalkResult estelunya_quick_walk(
     uint32_t *rows, size_t rows_len);
 
 /*
- * A departure board: every departure from stop number `stop` of runs that start on the date, where boarding is allowed and the time is not below `first` nor above `last`, each once, by
- * time, then service, repeat and place in the route. After midnight ask also for the date before, with 1,440 minutes more: last night's runs belong to the date on which they start.
+ * A departure board: every departure from stop number `stop` of runs that start on the date, where boarding is allowed and the time is not below `first` nor
+ * above `last`, each once, by time, then service, repeat and place in the route. After midnight ask also for the date before, with 1,440 minutes more: last
+ * night's runs belong to the date on which they start.
  *
- * Listed: `list` begins with the rows, as many as the answer says, ESTELUNYA_BOARD_ROW_WORDS each; the words after them hold what they held. Refused, 29 among them: all words of `list`
- * hold what they held; a call with none asks for their number. `first` after `last` is an empty board.
+ * Listed: `list` begins with the rows, as many as the answer says, ESTELUNYA_BOARD_ROW_WORDS each; the words after them hold what they held. Refused, 29 among
+ * them: all words of `list` hold what they held; a call with none asks for their number. `first` after `last` is an empty board.
  *
- * estelunya_board looks through all words of table and index each time (21, and 43 exactly if the index is not this table's). estelunya_quick_board costs as much as its answer and the
- * calls at the stop, and is for an index that is known to be this table's.
+ * estelunya_board looks through all words of table and index each time (21, and 43 exactly if the index is not this table's). estelunya_quick_board costs as
+ * much as its answer and the calls at the stop, and is for an index that is known to be this table's.
  */
 EstelunyaBoardResult estelunya_board(
     const uint32_t *table, size_t table_len,
@@ -420,12 +422,14 @@ EstelunyaBoardResult estelunya_quick_board(
     uint32_t *list, size_t list_len);
 
 /*
- * Whether a proposed connection holds: 1 to MOST_PARTS parts of ESTELUNYA_PART_WORDS words each, in the order in which they are ridden. It holds exactly if each part lies in that day's rows, boards
- * before it alights, where boarding and alighting are allowed, and the next part boards at the same stop, after a wait, over date and minutes together, of at least the interchange time between the
- * categories of the leg that arrives and of the leg that departs. A later part may have an earlier date; to stay on the same run is a change like any other.
+ * Whether a proposed connection holds: 1 to MOST_PARTS parts of ESTELUNYA_PART_WORDS words each, in the order in which they are ridden. It holds exactly if
+ * each part lies in that day's rows, boards before it alights, where boarding and alighting are allowed, and the next part boards at the same stop, after a
+ * wait, over date and minutes together, of at least the interchange time between the categories of the leg that arrives and of the leg that departs. A later
+ * part may have an earlier date; to stay on the same run is a change like any other.
  *
- * Else the first bad part and, in this order: 21 and 46 (not 1 to MOST_PARTS whole parts) with part 0; then part by part the walk's own refusals but 29, 47 not among that day's rows (not running that day too),
- * 48 order or permission, and from the second part on 49 another stop, 38, 50 the wait is too short; these three name the later part.
+ * Else the first bad part and, in this order: 21 and 46 (not 1 to MOST_PARTS whole parts) with part 0; then part by part the walk's own refusals but 29, 47 not
+ * among that day's rows (not running that day too), 48 order or permission, and from the second part on 49 another stop, 38, 50 the wait is too short; these
+ * three name the later part.
  *
  * estelunya_quick_connection asks by an index, at the cost of its parts: of a table and its own index the same answers.
  */
@@ -439,12 +443,12 @@ EstelunyaConnectionResult estelunya_quick_connection(
     const uint32_t *parts, size_t parts_len);
 
 /*
- * Writes the services of a table back as FPLAN, in one clean form: lines of 60 bytes, the last of them LF. Loaded beside the same other files it gives the same table but for the opening
- * lines, if the table is that of an accepted delivery.
+ * Writes the services of a table back as FPLAN, in one clean form: lines of 60 bytes, the last of them LF. Loaded beside the same other files it gives the same
+ * table but for the opening lines, if the table is that of an accepted delivery.
  *
- * Written: `text` begins with the bytes, as many as the answer says, and the bytes after them hold what they held; none for a table without services. Refused: all bytes hold what they
- * held: 21; 44, a value does not fit its columns or would not be read back as it is (never for the table of an accepted delivery); 45, fewer bytes were lent than are needed, and the
- * answer says how many. A call with none asks for their number.
+ * Written: `text` begins with the bytes, as many as the answer says, and the bytes after them hold what they held; none for a table without services. Refused:
+ * all bytes hold what they held: 21; 44, a value does not fit its columns or would not be read back as it is (never for the table of an accepted delivery); 45,
+ * fewer bytes were lent than are needed, and the answer says how many. A call with none asks for their number.
  */
 EstelunyaWriteResult estelunya_write(
     const uint32_t *table, size_t table_len,
@@ -454,8 +458,8 @@ EstelunyaWriteResult estelunya_write(
  * Arithmetic on operating days, inside a period of `n` days: no table is asked for. A field is the BIT_WORDS words that a table has after a bit field's
  * number: bits 0 and 1 are 1, bit d + 2 is day d, bits n + 2 and n + 3 are 1, the rest 0. The result is such a field again.
  *
- * Refused with 42: `n` is not 1 to MOST_PERIOD_DAYS; a field, or `result`, does not have exactly so many words; or a field's bits that are no days are not those above.
- * All words of `result` then hold what they held.
+ * Refused with 42: `n` is not 1 to MOST_PERIOD_DAYS; a field, or `result`, does not have exactly so many words; or a field's bits that are no days are not
+ * those above. All words of `result` then hold what they held.
  */
 
 /* The days of either. */

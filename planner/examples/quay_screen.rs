@@ -2,8 +2,9 @@
 //!
 //!     quay_screen [DIRECTORY STOP LANGUAGE DD.MM.YYYY HH:MM [COUNT]]
 //!
-//! LANGUAGE is a letter of the standard's list (5.1), such as d, e or f. Without words it shows the market of `examples/night` at 23:40 on the last night of 2025. Runs are asked by the date on which they
-//! start: after midnight last night's too, and their times read 25:10 in their own timetable, and 01:10 here. Beside the time stand the number and the category that hold from this stop on, and where the run ends.
+//! LANGUAGE is a letter of the standard's list (5.1), such as d, e or f. Without words it shows the market of `examples/night` at 23:40 on the last
+//! night of 2025. Runs are asked by the date on which they start: after midnight last night's too, and their times read 25:10 in their own timetable,
+//! and 01:10 here. Beside the time stand the number and the category that hold from this stop on, and where the run ends.
 
 use std::env;
 use std::error::Error;

@@ -71,13 +71,14 @@ impl<'t> Connection<'t> {
         &self.parts
     }
 
-    /// Whether it holds: each part lies in that day's calls and boards before it alights, both allowed; the next one boards at the same stop, after a wait of at least the interchange time between the
-    /// categories of the leg that arrives and of the leg that departs. It costs as much as its parts.
+    /// Whether it holds: each part lies in that day's calls and boards before it alights, both allowed; the next one boards at the same stop, after a
+    /// wait of at least the interchange time between the categories of the leg that arrives and of the leg that departs. It costs as much as its
+    /// parts.
     ///
     /// # Errors
     ///
-    /// The first bad part, counted from 1, and why: 47, 48, 49 or 50; 46, without a part, unless there are 1 to 10. Of the parts of one accepted delivery, that are runs of it, no other:
-    /// that is proved.
+    /// The first bad part, counted from 1, and why: 47, 48, 49 or 50; 46, without a part, unless there are 1 to 10. Of the parts of one accepted
+    /// delivery, that are runs of it, no other: that is proved.
     pub fn check(&self) -> Result<(), BadPart> {
         let parts: Vec<_> = self.parts.iter().map(bare).collect();
         self.scope.indexed().connection(&parts)

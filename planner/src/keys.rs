@@ -17,8 +17,9 @@ impl Load {
     }
 }
 
-/// What a host may keep of a handle, in a map, over a request, over the night: [`ServiceKey`], [`StopKey`], [`BitFieldKey`], [`CategoryKey`], [`RunKey`]. [`Scope::get`] finds the handle
-/// again, in the timetable that it is of and in no other: a key of yesterday's timetable is `None` today, also where both were loaded from the same files.
+/// What a host may keep of a handle, in a map, over a request, over the night: [`ServiceKey`], [`StopKey`], [`BitFieldKey`], [`CategoryKey`],
+/// [`RunKey`]. [`Scope::get`] finds the handle again, in the timetable that it is of and in no other: a key of yesterday's timetable is `None` today,
+/// also where both were loaded from the same files.
 ///
 /// ```
 /// # fn main() -> Result<(), Box<dyn std::error::Error>> {

@@ -66,8 +66,8 @@ fn departure(row: &[u32]) -> Departure {
 }
 
 impl Indexed<'_> {
-    /// Every departure from a stop of runs that start on a date, where boarding is allowed and the time is one of those given, in minutes of that date. It costs as much as the calls at the stop and what it lists. A first time after
-    /// the last is an empty board.
+    /// Every departure from a stop of runs that start on a date, where boarding is allowed and the time is one of those given, in minutes of that
+    /// date. It costs as much as the calls at the stop and what it lists. A first time after the last is an empty board.
     ///
     /// # Errors
     ///
@@ -104,7 +104,8 @@ impl Indexed<'_> {
         self.listed(raw::estelunya_quick_board, stop, date, times, list)
     }
 
-    /// The same for words of which nothing is known: table and index are looked through each time (21, and 43 exactly if the index is not this table's), which grows with the table.
+    /// The same for words of which nothing is known: table and index are looked through each time (21, and 43 exactly if the index is not this
+    /// table's), which grows with the table.
     ///
     /// # Errors
     ///

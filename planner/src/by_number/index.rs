@@ -34,7 +34,8 @@ impl<'a> Table<'a> {
         }
     }
 
-    /// Makes the index of the table in the words lent, and says how many it has: so many from the first, later ones stay. The time grows with the table, once.
+    /// Makes the index of the table in the words lent, and says how many it has: so many from the first, later ones stay. The time grows with the
+    /// table, once.
     ///
     /// # Errors
     ///
@@ -47,7 +48,8 @@ impl<'a> Table<'a> {
         answered(answer.number, answer.words, answer.words)
     }
 
-    /// Whether the words, all of them and no more, are the index of this table; the time grows with the table. Ask it once whenever the words or the index came out of a file.
+    /// Whether the words, all of them and no more, are the index of this table; the time grows with the table. Ask it once whenever the words or the
+    /// index came out of a file.
     ///
     /// # Errors
     ///
@@ -63,15 +65,16 @@ impl<'a> Table<'a> {
     /// The table beside its index, to be asked by it.
     ///
     /// **An index belongs to the words it was made of.** Beside the words of another table, or of last night's, a question may refuse, or walk another service than the one that was
-    /// meant. Any words may be given; whether the two belong together [`Table::check_index`] says, and no question here. A [`Timetable`](crate::Timetable) keeps the two together by itself.
+    /// meant. Any words may be given; whether the two belong together [`Table::check_index`] says, and no question here. A
+    /// [`Timetable`](crate::Timetable) keeps the two together by itself.
     pub fn with_index(self, index: &'a [u32]) -> Indexed<'a> {
         Indexed { table: self, index }
     }
 }
 
-/// A table and an index. Of a table and its own index each question answers exactly as that of [`Table`] does, at the cost of its answer, whatever the table's size: the words
-/// are not looked through. [`Refusal::NotATable`] only where there is no header of a table, [`Refusal::NotItsIndex`] where the index has a length that this
-/// table's cannot have, or points where no sound record stands.
+/// A table and an index. Of a table and its own index each question answers exactly as that of [`Table`] does, at the cost of its answer, whatever
+/// the table's size: the words are not looked through. [`Refusal::NotATable`] only where there is no header of a table, [`Refusal::NotItsIndex`]
+/// where the index has a length that this table's cannot have, or points where no sound record stands.
 #[derive(Clone, Copy)]
 pub struct Indexed<'a> {
     table: Table<'a>,
@@ -222,13 +225,14 @@ impl<'a> Indexed<'a> {
         self.record(3, category).map(|record| record[CLASS_AT])
     }
 
-    /// Where the index's chains of a section begin, which stand in this order: bit fields (0), stops (1), interchange records (2), categories (3). After them (4)
-    /// the places of the services.
+    /// Where the index's chains of a section begin, which stand in this order: bit fields (0), stops (1), interchange records (2), categories (3).
+    /// After them (4) the places of the services.
     fn chains(self, section: usize) -> usize {
         SECTIONS[..section].iter().map(|(count_at, _)| CHAIN_WORDS * self.table.header(*count_at) as usize).sum()
     }
 
-    /// The record of a section that has this first word, by its chain (`include/estelunya.h`, "Index"). What it gives has that first word, whatever the index says.
+    /// The record of a section that has this first word, by its chain (`include/estelunya.h`, "Index"). What it gives has that first word, whatever
+    /// the index says.
     fn record(self, section: usize, key: u32) -> Option<&'a [u32]> {
         let words = self.table.words();
         let before: usize = SECTIONS[..section].iter().map(|(at, size)| self.table.header(*at) as usize * size).sum();

@@ -6,7 +6,8 @@ use crate::refusal::Refusal;
 use crate::version::compared;
 
 impl Table<'_> {
-    /// Writes the services as FPLAN into the bytes lent, and says how many there are: so many from the first, later ones stay. A table without services is no bytes.
+    /// Writes the services as FPLAN into the bytes lent, and says how many there are: so many from the first, later ones stay. A table without
+    /// services is no bytes.
     ///
     /// # Errors
     ///
