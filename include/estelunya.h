@@ -71,8 +71,8 @@ typedef struct EstelunyaBoardResult {
 } EstelunyaBoardResult;
 
 typedef struct EstelunyaConnectionResult {
-    uint32_t number; /* 0: it holds; else the refusal: 21, 43 (quick), 46, or of a part 22 to 25, 31, 33 to 36, 47 to 50, 38 */
-    uint32_t part;   /* the first bad part, counted from 1; 0 if it holds, and for 21, 43 and 46 */
+    uint32_t number; /* 0: it holds; else the refusal: 21, 43 (quick), 46, or of a part 22 to 25, 31, 33 to 36, 38, 47 to 50, 43 (quick) */
+    uint32_t part;   /* the first bad part, counted from 1; 0 if it holds, and for 21, 46, and 43 by the index's length */
 } EstelunyaConnectionResult;
 
 typedef struct EstelunyaWriteResult {

@@ -93,7 +93,7 @@ pub struct BoardResult {
 pub struct ConnectionResult {
     /// 0: it holds; else the refusal: 21, 43, 46, or of a part 22 to 25, 31, 33 to 36, 47 to 50, 38.
     pub number: u32,
-    /// The first bad part, counted from 1; 0 if it holds, and for 21, 43 and 46.
+    /// The first bad part, counted from 1; 0 if it holds, and for 21, 46, and 43 by the index's length.
     pub part: u32,
 }
 

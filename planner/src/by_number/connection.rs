@@ -36,7 +36,7 @@ impl Part {
 #[derive(Clone, Copy, Debug, PartialEq, Eq)]
 #[non_exhaustive]
 pub struct BadPart {
-    /// The first bad part, counted from 1; 0 for 21, 43 and 46, which no part is to blame for.
+    /// The first bad part, counted from 1; 0 for 21, 46, and 43 by the index's length, which no part is to blame for.
     pub part: usize,
     /// Why. 49, 38 and 50 are of this part and the one before.
     pub refusal: Refusal,
