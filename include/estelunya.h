@@ -2,12 +2,13 @@
  * Estelunya: the proved timetable loader. Link libestelunya.a.
  *
  * A load makes a table from the six files of a delivery; day, interchange (between classes or between categories), stop name and walk are asked of a table, or
- * of a table and its index at the cost of the answer (estelunya_quick_..); FPLAN is written back from a table; and there is arithmetic on operating days. The
- * rules, and the numbers of the refusals, are those of documents 01 and 02; docs/REFUSALS.md tells them to people.
+ * of a table and its index at the cost of the answer (estelunya_quick_..); so are departure boards, and whether a proposed connection holds; FPLAN is written
+ * back from a table; and there is arithmetic on operating days. The rules, and the numbers of the refusals, are those of documents 01 and 02; docs/REFUSALS.md
+ * tells them to people.
  *
  * What the caller owes: each pointer is good for its length, given in items (bytes or 32-bit words), and aligned as its type is; it may be null where that
- * length is 0. The words and bytes that a call writes (table and helper of a load, rows of a walk, an index, a text, result of arithmetic) overlap none of its
- * other arguments. Nothing else: any bytes, any words and any numbers may be given, and have exactly one answer.
+ * length is 0. The words and bytes that a call writes (table and helper of a load, rows of a walk, an index, a list, a text, result of arithmetic) overlap none of
+ * its other arguments. Nothing else: any bytes, any words and any numbers may be given, and have exactly one answer.
  *
  * A call writes into the words lent to it and nowhere else. It keeps nothing: no pointer, no memory, no state between calls. So calls may run
  * side by side. Many questions may read one table at a time; words that a call writes may be used by no other call meanwhile.
