@@ -26,6 +26,8 @@ use Rattle.estelunya.proofs.estelunya_quick_walk.Reads.{Learnt as quick
 use Rattle.estelunya.proofs.estelunya_write.Reads.{Learnt as write-allows}
 use Rattle.estelunya.proofs.estelunya_connection.Reads.{Learnt as connection-allows}
 use Rattle.estelunya.proofs.estelunya_quick_connection.Reads.{Learnt as quick-connection-allows}
+use Rattle.estelunya.proofs.estelunya_board.Reads.{Learnt as board-allows}
+use Rattle.estelunya.proofs.estelunya_quick_board.Reads.{Learnt as quick-board-allows}
 
 -- What a contract allows: of the lent arguments a, an answer, and what the arguments hold at exit (κ are their lifetimes). Two answers that it allows are one.
 abbrev pub OneAnswer : {K : Type 0} {A X S : K → Type 0} → ((κ : K) → A κ → X κ → S κ → Type 0) → Type 0
@@ -108,3 +110,9 @@ connection-no-slack κ a x y s t p q = p ∙ sym q
 
 pub quick-connection-no-slack : OneAnswer quick-connection-allows
 quick-connection-no-slack κ a x y s t p q = p ∙ sym q
+
+pub board-no-slack : OneOutcome board-allows (λ κ s. s .1 .1 .1 .1 .1 .1 .1 .1 .0 .now)
+board-no-slack κ a x y s t p q = (p .0 ∙ sym (q .0), p .1 ∙ sym (q .1))
+
+pub quick-board-no-slack : OneOutcome quick-board-allows (λ κ s. s .1 .1 .1 .1 .1 .1 .1 .1 .0 .now)
+quick-board-no-slack κ a x y s t p q = (p .0 ∙ sym (q .0), p .1 ∙ sym (q .1))

@@ -15,11 +15,14 @@ use Rattle.whole_index.specs.declared.Made.{Made}
 use Rattle.whole_index.specs.declared.Made.the-variants.{Index, Refused as MadeRefused}
 use Rattle.index_check.specs.declared.IndexCheck.{IndexCheck}
 use Rattle.index_check.specs.declared.IndexCheck.the-variants.{Right, Refused as CheckRefused}
+use Rattle.board.specs.declared.BoardAnswer.{BoardAnswer}
+use Rattle.board.specs.declared.BoardAnswer.the-variants.{Listed as BoardListed, Refused as BoardRefused}
 use Rattle.connections.specs.declared.ConnectionAnswer.{ConnectionAnswer}
 use Rattle.connections.specs.declared.ConnectionAnswer.the-variants.{Holds, Refused as ConnectionRefused}
 use Rattle.plan_writing.specs.declared.WriteAnswer.{WriteAnswer}
 use Rattle.plan_writing.specs.declared.WriteAnswer.the-variants.{Bytes, Refused as WriteRefused}
 use Rattle.estelunya.specs.declared.IndexResult.{IndexResult}
+use Rattle.estelunya.specs.declared.BoardResult.{BoardResult}
 use Rattle.estelunya.specs.declared.ConnectionResult.{ConnectionResult}
 use Rattle.estelunya.specs.declared.WriteResult.{WriteResult}
 use Rattle.estelunya.specs.declared.LoadResult.{LoadResult}
@@ -64,6 +67,11 @@ indexResult (MadeRefused number needed) = record { number = number; words = need
 abbrev pub checkNumber : IndexCheck → ℕ
 checkNumber Right = 0
 checkNumber (CheckRefused number) = number
+
+-- No. 9: how many rows a board lists, or "29 list too short, with the words needed"
+abbrev pub boardResult : BoardAnswer → BoardResult
+boardResult (BoardListed rows) = record { number = 0; rows = rows; needed = 0 }
+boardResult (BoardRefused number needed) = record { number = number; rows = 0; needed = needed }
 
 -- No. 12: "number of the first bad part and" the refusal
 abbrev pub connectionResult : ConnectionAnswer → ConnectionResult

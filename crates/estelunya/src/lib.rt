@@ -1,5 +1,6 @@
-// The C boundary: the version, words enough for a load, load, walk, day, interchange (between classes and between categories) and stop name; an index and the same questions by it; FPLAN written back; and the arithmetic on operating days, with numbers and slices. Nothing is asked of
+// The C boundary: the version, words enough for a load, load, walk, day, interchange (between classes and between categories) and stop name; an index and the same questions by it; departure boards; a proposed connection; FPLAN written back; and the arithmetic on operating days, with numbers and slices. Nothing is asked of
 // the caller: bad input gets its numbered refusal, and table, rows and result words then hold what they held (the helper words of a load: `helped`, timetable/specs/Load).
+use board::BoardAnswer;
 use connections::ConnectionAnswer;
 use day_sets::CountAnswer;
 use day_sets::Operation;
@@ -23,10 +24,12 @@ ghost use Rattle.day_sets.specs.DaySets.{combineAsked, combineWritten, compleme
 ghost use Rattle.whole_index.specs.Whole.{madeOf, indexInto};
 ghost use Rattle.index_check.specs.Check.{checkedOf};
 ghost use Rattle.quick.specs.Quick.{dayQuick, interchangeQuick, betweenQuick, stopNameQuick, walkQuick};
+ghost use Rattle.board.specs.Question.{boardedBy, boardInto};
+ghost use Rattle.board_questions.specs.Quick.{boardChecked, boardQuick};
 ghost use Rattle.connections.specs.Connection.{connectionAsked};
 ghost use Rattle.connections.specs.Quick.{connectionQuick};
 ghost use Rattle.plan_writing.specs.Writing.{planAnswer, planBytes};
-ghost use Rattle.estelunya.specs.Answers.{version, loadResult, dayResult, interchangeResult, nameResult, walkResult, indexResult, checkNumber, connectionResult, writeResult};
+ghost use Rattle.estelunya.specs.Answers.{version, loadResult, dayResult, interchangeResult, nameResult, walkResult, indexResult, checkNumber, boardResult, connectionResult, writeResult};
 ghost use Rattle.room.specs.Room.{roomFor, Enough};
 ghost use Rattle.estelunya.specs.DaySets.{daySetResult, dayCountResult};
 
@@ -76,6 +79,14 @@ pub struct WalkResult {
 pub struct IndexResult {
     pub number: u32,
     pub words: usize,
+}
+
+// number 0: how many rows (of four words) are listed; 29 with the words needed; another number is a refusal.
+#[repr(C)]
+pub struct BoardResult {
+    pub number: u32,
+    pub rows: usize,
+    pub needed: usize,
 }
 
 // number 0: the connection holds; another number is a refusal, and part the first bad part, from 1 (0 for 21, 43 by the index's length, and 46).
@@ -315,6 +326,50 @@ pub extern "C" fn estelunya_quick_walk(
     walk_result(quick::quick_walk(table, index, service, repeat, day, month, year, rows))
 }
 
+// ---- a departure board (document 02, No. 9): rows of four words, time, service, repeat, place
+
+// With the index checked: 43 unless it is this table's own.
+#[no_mangle]
+pub extern "C" fn estelunya_board(
+    table: &[u32],
+    index: &[u32],
+    stop: u32,
+    day: u32,
+    month: u32,
+    year: u32,
+    first: u32,
+    last: u32,
+    list: &mut [u32],
+) -> BoardResult
+    ensures answer { λ r. ⌜ r ≡ boardResult (boardedBy (boardChecked (now (table .entry)) (now (index .entry)) stop day month year first last) (length (now (list .entry)))) ⌝ }
+    ensures words { λ r. ⌜ now (list .exit) ≡ boardInto (boardChecked (now (table .entry)) (now (index .entry)) stop day month year first last) (now (list .entry)) ⌝ }
+{
+    board_result(board_questions::ask_board(
+        table, index, stop, day, month, year, first, last, list,
+    ))
+}
+
+// By an index that is known to be its own: the cost does not grow with the table.
+#[no_mangle]
+pub extern "C" fn estelunya_quick_board(
+    table: &[u32],
+    index: &[u32],
+    stop: u32,
+    day: u32,
+    month: u32,
+    year: u32,
+    first: u32,
+    last: u32,
+    list: &mut [u32],
+) -> BoardResult
+    ensures answer { λ r. ⌜ r ≡ boardResult (boardedBy (boardQuick (now (table .entry)) (now (index .entry)) stop day month year first last) (length (now (list .entry)))) ⌝ }
+    ensures words { λ r. ⌜ now (list .exit) ≡ boardInto (boardQuick (now (table .entry)) (now (index .entry)) stop day month year first last) (now (list .entry)) ⌝ }
+{
+    board_result(board_questions::quick_board(
+        table, index, stop, day, month, year, first, last, list,
+    ))
+}
+
 // ---- a proposed connection (document 02, No. 12): parts of seven words, service, repeat, day, month, year, boarding call, alighting call
 
 #[no_mangle]
@@ -545,5 +600,22 @@ fn connection_result(a: ConnectionAnswer) -> ConnectionResult
     match a {
         ConnectionAnswer::Holds => ConnectionResult { number: 0, part: 0 },
         ConnectionAnswer::Refused { number, part } => ConnectionResult { number, part },
+    }
+}
+
+fn board_result(a: BoardAnswer) -> BoardResult
+    ensures { λ r. ⌜ r ≡ boardResult a ⌝ }
+{
+    match a {
+        BoardAnswer::Listed(rows) => BoardResult {
+            number: 0,
+            rows,
+            needed: 0,
+        },
+        BoardAnswer::Refused { number, needed } => BoardResult {
+            number,
+            rows: 0,
+            needed,
+        },
     }
 }
