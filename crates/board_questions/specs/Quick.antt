@@ -1,5 +1,5 @@
--- The quick board: of any words and any words lent as their index. It is told by what both show (`boardBy`); of a table and its own index it is the plain board
--- (`quick-agrees`, proofs/Agrees). Assumes nothing.
+-- A departure board of any words and any words lent as their index: checked (43 unless they are this table's index), and quick, told by what both show (`boardBy`); of a
+-- table and its own index the two are one (`quick-agrees`, proofs/Agrees). Assumes nothing.
 use Prim.Native.Nat.{ℕ}
 use mathlib.Core.List.{List}
 use mathlib.Core.Bool.{cond}
@@ -8,7 +8,9 @@ use Rattle.timetable.specs.Table.{used}
 use Rattle.timetable.specs.Questions.{Dated, undated, dated, dateOf}
 use Rattle.index.specs.Index.{indexSize, headed, viewIn}
 use Rattle.index.specs.Quick.{indexLong, lookupsOf}
-use Rattle.board.specs.Question.{BoardFound, refused, board}
+use Rattle.chain_check.specs.Tally.{same}
+use Rattle.whole_index.specs.Whole.{wholeIndexOf}
+use Rattle.board.specs.Question.{BoardFound, refused, board, boardAsked}
 use Rattle.boards.specs.ByWords.{boardBy}
 
 -- The checked board. "An index is valid only if it equals the one this table would get": the words lent, all of them, are that index, else "43 words that are not
