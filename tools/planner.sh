@@ -8,7 +8,7 @@ seed=${1:-1} count=${2:-20000} first=${3:-0}
 . tools/archive.sh
 
 # The programs of requests.sh whose functions the archive has; a further one is named here when its functions land.
-requests='isolation'
+requests='indexes quick boards quick_boards connections quick_connections writes isolation'
 
 # The crate as a user of cargo has it, where there is cargo: form, lints, documentation, tests.
 as_cargo_user() {
