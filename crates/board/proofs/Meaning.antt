@@ -176,7 +176,7 @@ along-run : (v : View) (i r k : ℕ) (s : Service) (a m : ℕ) → v .service i 
 unfolding runOf serviceCourse
 along-run v i r k s a m q h c = rw (q, h, c)
 
-offered-departure : (v : View) (n k t u i services : ℕ) (e : Departure) → Served v services → Offered v n k t u i e → IsDeparture v n k t u e
+pub offered-departure : (v : View) (n k t u i services : ℕ) (e : Departure) → Served v services → Offered v n k t u i e → IsDeparture v n k t u e
 offered-departure v n k t u i services e z f =
     let s = f .service in
     let b = f .placed .boarding in

@@ -1,2 +1,3 @@
 pub mod Gather
 pub mod Own
+pub mod Table
