@@ -345,7 +345,15 @@ pub extern "C" fn estelunya_board(
     ensures words { λ r. ⌜ now (list .exit) ≡ boardInto (boardChecked (now (table .entry)) (now (index .entry)) stop day month year first last) (now (list .entry)) ⌝ }
 {
     board_result(board_questions::ask_board(
-        table, index, stop, day, month, year, first, last, list,
+        table,
+        index,
+        stop,
+        day,
+        month,
+        year,
+        first,
+        last,
+        list,
     ))
 }
 
@@ -366,7 +374,15 @@ pub extern "C" fn estelunya_quick_board(
     ensures words { λ r. ⌜ now (list .exit) ≡ boardInto (boardQuick (now (table .entry)) (now (index .entry)) stop day month year first last) (now (list .entry)) ⌝ }
 {
     board_result(board_questions::quick_board(
-        table, index, stop, day, month, year, first, last, list,
+        table,
+        index,
+        stop,
+        day,
+        month,
+        year,
+        first,
+        last,
+        list,
     ))
 }
 
