@@ -1,5 +1,5 @@
 -- A board as any words and any index show it: `x` the words of the look-ups, `y` those of the calls. For a table and its own index this is the board (`own-board`,
--- proofs/Own): nobody has to believe this file for that. Assumes nothing.
+-- board_agrees/proofs/Own): nobody has to believe this file for that. Assumes nothing.
 use Prim.Native.Nat.{ℕ, _+_, _*_, _≤_, _<_}
 use mathlib.Core.Path.{_≡_}
 use mathlib.Core.List.{List}

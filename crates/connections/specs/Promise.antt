@@ -1,5 +1,6 @@
--- What it means that a connection holds, in the words of document 02, No. 12, with no order of tests: `IsConnection`. Proved in proofs/Accepts.antt: `accepts-exactly`
--- (it is answered "holds" exactly if this is so) and `names-first` (else the part named is the first that does not go on). Assumes nothing.
+-- What it means that a connection holds, in the words of document 02, No. 12, with no order of tests: `IsConnection`, of the words proposed
+-- `Proposed`. Proved in proofs/Accepts.antt: `accepts-exactly` (it is answered "holds" exactly if the words are `Proposed`) and `names-first` (else 46, which names 0, or
+-- the part named is the first that does not go on). Assumes nothing.
 use Prim.Native.Nat.{ℕ, _+_, _-_, _*_, _/_, _%_, _≤_, _<_}
 use mathlib.Core.Path.{_≡_}
 use mathlib.Core.List.{List, [], _∷_}

@@ -1,4 +1,4 @@
--- The connection asked `quickly` (crate index: 21, 43, then of what words and index show). Assumes nothing.
+-- The connection asked `quickly` (crate index: 21, 43 by the length, both naming part 0, then of what words and index show; 43 of a service's record names its part). Assumes nothing.
 use Prim.Native.Nat.{ℕ}
 use mathlib.Core.List.{List}
 use Rattle.timetable.specs.View.{View}

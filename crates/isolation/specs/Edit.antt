@@ -26,7 +26,7 @@ endsLine (b ∷ c ∷ s) = endsLine (c ∷ s)
 abbrev pub serviceCount : List ℕ → ℕ
 serviceCount s = length (blocks (linesOf s))
 
--- the first line that is not skipped opens a service
+-- the first line that is not skipped, if there is one, opens a service
 abbrev pub startsService : List ℕ → Bool
 startsService s = every (λ (l : Line). skipped (l .text)) (headLines (linesOf s))
 

@@ -1,4 +1,5 @@
--- What 44 keeps out: a text that would answer 4 when read, or would not be read back as it is (document 02, No. 11). Assumes nothing.
+-- What 44 lets through: a text of which no line is broken and each service is read back as it is but for its line (document 02, No. 11). Proved in proofs/Back.antt, both ways:
+-- `no-44`, `back-no-44`. Assumes nothing.
 use Prim.Native.Nat.{ℕ}
 use mathlib.Core.Path.{_≡_}
 use mathlib.Core.List.{List, map}

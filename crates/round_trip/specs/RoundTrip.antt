@@ -1,5 +1,6 @@
 -- Document 02, No. 11: "For a table of an accepted delivery, loading the text with the same other files gives the same table except the opening line
--- numbers, and writing that again gives the same bytes." Assumes nothing.
+-- numbers, and writing that again gives the same bytes." Proved in proofs/Round.antt: `round-trip`, of files that a load accepts (`loaded f (length t) helper ≡ Accepted u`) and
+-- whose FPLAN is bytes (each below 256). Assumes nothing.
 use Prim.Native.Nat.{ℕ}
 use mathlib.Core.Path.{_≡_}
 use mathlib.Core.List.{List}

@@ -1,5 +1,5 @@
 -- The calls at a stop, by its number, as any words beside a table say: `x` with the chains of the stops, `y` with those of the calls. A link that does not go down
--- ends its chain, so that any words come to an end. What this is where the words are the table's own is said in proofs/Own of the crate that lists boards.
+-- ends its chain, so that any words come to an end. What this is where the words are the table's own is said in board_agrees/proofs/Own.
 -- Assumes nothing.
 use Prim.Native.Nat.{ℕ, zero, suc, _+_, _-_, _*_, _/_, _≤_, _<_}
 use mathlib.Core.Path.{_≡_}

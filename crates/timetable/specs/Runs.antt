@@ -1,6 +1,6 @@
 -- The runs of a service, by what its opening line says: which there are, how late each is, and what a table asks of the line's numbers. A service's kind
--- is looked at here, and beside it only by `RunsBy` (whole_runs/specs/Promise), which says the paper's words for each kind: everything else goes by these
--- three names. Assumes nothing.
+-- is looked at here; beside it by `RunsBy` and `Opened` (whole_runs/specs), which say the paper's words for each kind, by the arithmetic on runs (spans) and where its opening line is
+-- written (plan_services). Everything else goes by these three names. Assumes nothing.
 use Prim.Native.Nat.{ℕ, _+_, _*_, _/_}
 use mathlib.Core.Bool.{Bool, cond, _&&_}
 use lib.Dec.{leb, eqb}

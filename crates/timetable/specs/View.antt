@@ -42,7 +42,7 @@ classFor d code = classBy (find (λ (c : CategoryClass). eqb (c .code) code) (d 
 abbrev pub stopNumbered : ℕ → List StopRecord → Option StopRecord
 stopNumbered n stops = find (λ (s : StopRecord). eqb (s .number) n) stops
 
--- a service by its index, or the number that refuses it: "24 service index not below V"
+-- a service by its index, or the number that refuses it: "24 service index not below V" (by words beside a table also 43, where no sound record stands: crate index)
 pub data ServiceFound : Type 0 where
   noService : ℕ → ServiceFound
   aService : Service → ServiceFound
