@@ -1,2 +1,3 @@
 pub mod Interval
 pub mod Needs
+pub mod Hidden

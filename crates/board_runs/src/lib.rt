@@ -8,6 +8,7 @@ use timetable::Call;
 use timetable::Course;
 use timetable::Opening;
 use timetable::SERVICE_WORDS;
+use timetable::SERVICES_AT;
 ghost use mathlib.Core.Path.{_≡_};
 ghost use mathlib.Core.List.{[], map};
 ghost use mathlib.Core.Bool.{true, _&&_};
@@ -17,13 +18,13 @@ ghost use lib.Dec.{eqb, leb, ltb};
 ghost use Rattle.base.specs.Lists.{gathered, upto};
 ghost use Rattle.timetable.specs.Layout.{mostPeriodDays, serviceHead, callSize, latestTime};
 ghost use Rattle.timetable.specs.Runs.{openingSound};
-ghost use Rattle.timetable.specs.Table.{stops#, calls#, callAt, openingAt, serviceAt, withStops, recordSound};
+ghost use Rattle.timetable.specs.Table.{stops#, services#, callAt, openingAt, serviceAt, withStops, recordSound};
 ghost use Rattle.words.specs.Words.{write};
-ghost use Rattle.index.specs.Index.{Ready, viewIn};
+ghost use Rattle.index.specs.Index.{Ready, recordPlaceIn, viewIn};
 ghost use Rattle.sort.specs.Rows.{rowSize, rowWords};
 ghost use Rattle.spans.specs.Spans.{runs#};
 ghost use Rattle.board.specs.Board.{boardable, departureOf, runsFrom, callDepartures, leaves, placeDepartures};
-ghost use Rattle.board_runs.specs.Batch.{departuresAt, batchRows, Batched};
+ghost use Rattle.board_runs.specs.Batch.{departuresAt, batchRows, Batched, leavesWithin, Hides};
 
 // Departures from one place of a service's route: of the runs from `low` on and below `high`, where run 0 leaves at `departure`.
 pub struct Batch {
@@ -42,11 +43,71 @@ pub fn runs_at(w: &[u32], x: &[u32], n: u32, k: u32, first: u32, last: u32, i: u
     requires { ⌜ Ready (now w) (now x) × (k < mostPeriodDays) ⌝ }
     ensures { λ r. ⌜ Batched r (departuresAt (viewIn (now (w .entry)) (now (x .entry))) n k first last i p) ⌝ }
 {
+    if !may_leave(w, x, first, last, i, p) {
+        return no_runs();
+    }
     let record = index::service_record(w, x, i);
     let ServiceRecord::From(at) = record else {
         return no_runs();
     };
     record_runs(w, x, index::words_from(w, at), n, k, first, last, i, p)
+}
+
+// Whether a run may leave from there within the two minutes, by the opening line and the call alone: most calls at a stop are told here, before a record is checked and
+// its course looked at.
+fn may_leave(w: &[u32], x: &[u32], first: u32, last: u32, i: u32, p: u32) -> bool
+    requires { ⌜ Ready (now w) (now x) ⌝ }
+    ensures { λ r. ⌜ Hides (now (w .entry)) (now (x .entry)) first last i p r ⌝ }
+{
+    if x.len() == 0 {
+        return true;
+    }
+    if w[SERVICES_AT] <= i {
+        return false;
+    }
+    let at = place_of(w, x, i);
+    if w.len() < call_end(at, p) {
+        return false;
+    }
+    leaves_within(index::words_from(w, at), first, last, p)
+}
+
+// Where the index says that the record of the i-th service begins.
+fn place_of(w: &[u32], x: &[u32], i: u32) -> usize
+    requires { ⌜ Ready (now w) (now x) × (length (now x) ≡ 0 → ⊥) × (i < services# (now w)) ⌝ }
+    ensures is { λ r. ⌜ r ≡ recordPlaceIn (now (w .entry)) (now (x .entry)) i ⌝ }
+    ensures low { λ r. ⌜ r < 4294967296 ⌝ }
+{
+    wide(x[index::services_from(w) + wide(i)])
+}
+
+// Where the words of place p of a record end.
+fn call_end(at: usize, p: u32) -> usize
+    requires { ⌜ at < 4294967296 ⌝ }
+    ensures { λ r. ⌜ r ≡ at + serviceHead + callSize * p + callSize ⌝ }
+{
+    at + SERVICE_WORDS + CALL_WORDS * wide(p) + CALL_WORDS
+}
+
+// Whether a run leaves from place p of a record within the two minutes, whatever the course.
+fn leaves_within(s: &[u32], first: u32, last: u32, p: u32) -> bool
+    requires { ⌜ serviceHead + callSize * p + callSize ≤ length (now s) ⌝ }
+    ensures { λ r. ⌜ r ≡ leavesWithin (now (s .entry)) first last p ⌝ }
+{
+    let opening = table::opening_at(s);
+    if !runs::opening_sound(opening) {
+        return false;
+    }
+    let c = call_of(s, p);
+    let span = spans::runs_between(opening, c.departure, first, last);
+    span.low < span.high
+}
+
+fn wide(x: u32) -> usize
+    ensures is { λ r. ⌜ r ≡ x ⌝ }
+    ensures low { λ r. ⌜ r < 4294967296 ⌝ }
+{
+    x as usize
 }
 
 // Of the service whose record stands at the front of `s`: none where the day's course does not go on from there.
