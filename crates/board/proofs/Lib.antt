@@ -1,3 +1,4 @@
 pub mod Among
 pub mod Ascending
 pub mod Meaning
+pub mod Complete

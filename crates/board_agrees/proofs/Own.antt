@@ -88,7 +88,6 @@ module _ (w x y : List ℕ) (h : JustTable w) (ex : x ≡ indexOf w) (ey : y ≡
   calls-are : (s : ℕ) → 0 < s → s ≤ stops# w → callsOn (stops# w) y s ≡ passing (atStop w (stops# w - s)) (allCalls w)
   unfolding callsOn lastAt
   calls-are s z l =
-      let b : ℕ = stops# w - s in
       let head : getD y (stops# w - s) 0 ≡ greatest (atStop w (stops# w - s)) (allCalls w) = head-held w y ey (stops# w - s) (omega arith) in
       rw (entries-are, head)
       (chained-right (atStop w (stops# w - s)) (entryWord (stops# w) y 0) (allCalls w) (allCalls w) (λ e a c q. before-is (stops# w - s) e a c q) (omega arith))
@@ -98,7 +97,6 @@ module _ (w x y : List ℕ) (h : JustTable w) (ex : x ≡ indexOf w) (ey : y ≡
   module _ {Y : Type 0} (n : ℕ) (g : Stand → List Y) (off : (c : Stand) → Proper w c → stopOf w c < stops# w → hasKey w (sectionEnd (stopSection w)) stopSize n (stops# w - stopOf w c) ≡ false → g c ≡ []) where
     met : (c : Stand) → Proper w c → stopOf w c < stops# w → gathered (λ (s : ℕ). cond (eqb (stopOf w c) (stops# w - s)) (g c) []) (passing (numbered n) (stops# w)) ≡ g c
     met c p l =
-        let m : ℕ = stops# w - stopOf w c in
         gathered-same (λ (e : ℕ). (0 < e) × (e ≤ stops# w) × (numbered n e ≡ true)) (λ (s : ℕ). cond (eqb (stopOf w c) (stops# w - s)) (g c) []) (λ (s : ℕ). cond (eqb (stops# w - stopOf w c) s) (g c) [])
         (λ s q. ap (λ (u : Bool). cond u (g c) []) (turned s (q .0) (q .1))) (passing-each (numbered n) (stops# w) (stops# w) (omega arith))
         ∙ pick (numbered n) (stops# w - stopOf w c) (g c) (stops# w) (omega arith)
@@ -118,7 +116,6 @@ module _ (w x y : List ℕ) (h : JustTable w) (ex : x ≡ indexOf w) (ey : y ≡
 
     pub all-calls : List·Permᴰ (gathered (λ (s : ℕ). gathered g (listedAt w (stops# w - s))) (passing (numbered n) (stops# w))) (gathered g (callsOf w))
     all-calls =
-        let f : ℕ → Stand → List Y = λ s c. cond (eqb (stopOf w c) (stops# w - s)) (g c) [] in
         let a : List·Permᴰ (gathered (λ (s : ℕ). gathered g (listedAt w (stops# w - s))) (passing (numbered n) (stops# w))) (gathered (λ (s : ℕ). gathered (λ (c : Stand). cond (eqb (stopOf w c) (stops# w - s)) (g c) []) (callsOf w)) (passing (numbered n) (stops# w)))
         = gathered-perm (λ (s : ℕ). gathered g (listedAt w (stops# w - s))) (λ (s : ℕ). gathered (λ (c : Stand). cond (eqb (stopOf w c) (stops# w - s)) (g c) []) (callsOf w)) (λ s. listed-all w (stops# w - s) g) (passing (numbered n) (stops# w)) in
         let b : List·Permᴰ (gathered (λ (s : ℕ). gathered (λ (c : Stand). cond (eqb (stopOf w c) (stops# w - s)) (g c) []) (callsOf w)) (passing (numbered n) (stops# w))) (gathered (λ (c : Stand). gathered (λ (s : ℕ). cond (eqb (stopOf w c) (stops# w - s)) (g c) []) (passing (numbered n) (stops# w))) (callsOf w))
@@ -201,9 +198,6 @@ module _ (w x y : List ℕ) (h : JustTable w) (ex : x ≡ indexOf w) (ey : y ≡
     off-given : (c : Stand) → Proper w c → stopOf w c < stops# w → hasKey w (sectionEnd (stopSection w)) stopSize n (stops# w - stopOf w c) ≡ false → departuresAt (viewOf (tableOf w)) n k t u (c .service) (c .place) ≡ []
     unfolding departuresAt hasKey
     off-given c p l e =
-        let i : ℕ = c .service in
-        let at : ℕ = servicePlace w (c .service) in
-        let s : List ℕ = drop (servicePlace w (c .service)) w in
         let inside : c .place < calls# (drop (servicePlace w (c .service)) w) = omega (arith, p .place, p .at, ap (λ (a : ℕ). getD w (a + 6) 0) (p .at), getD-drop (servicePlace w (c .service)) w 6 0) in
         let call = call-there (stopNumberAt (tableOf w .stops)) (drop (servicePlace w (c .service)) w) (c .place) inside in
         let raw : getD (drop (serviceHead + callSize * c .place) (drop (servicePlace w (c .service)) w)) 0 0 ≡ stopOf w c
@@ -254,7 +248,6 @@ module _ (w x y : List ℕ) (h : JustTable w) (ex : x ≡ indexOf w) (ey : y ≡
     pub own-departures : List·Permᴰ (departuresBy w x y n k t u) (gathered (serviceDepartures (viewOf (tableOf w)) n k t u) (below (services# w)))
     unfolding departuresBy
     own-departures =
-        let D : ℕ → List Departure = B.callDepartures (viewOf (tableOf w)) (stops# w) y n k t u in
         let a : gathered (B.callDepartures (viewIn w x) (stops# w) y n k t u) (take (usedWords w) (callsBy w x y (sectionEnd (stopSection w)) (stops# w) (stopsFrom w) n))
         ≡ gathered (λ (s : ℕ). gathered given (listedAt w (stops# w - s))) (passing (numbered n) (stops# w))
         = ap (λ (z : View). gathered (B.callDepartures z (stops# w) y n k t u) (take (usedWords w) (callsBy w x y (sectionEnd (stopSection w)) (stops# w) (stopsFrom w) n))) (view-agrees w x h ex)
