@@ -14,7 +14,7 @@ use Rattle.timetable.specs.Layout.{helperHead, helperLine, mostFileBytes}
 use Rattle.timetable.specs.declared.Checked.{Checked}
 use Rattle.timetable.specs.declared.Checked.the-variants.{Holds, Refused}
 use Rattle.sections.specs.SectionMap.{MapOf, Lent, MapAfter}
-use Rattle.sections.specs.ClassIndex.{IndexOf, ClassesAfter}
+use Rattle.classes.specs.Index.{IndexOf, IndexRoom, ClassesAfter}
 use Rattle.sections.specs.declared.Section.the-variants.{BitFields, Stops}
 use Rattle.reading.specs.Maps.{FieldMap, StopMap, ClassIndex}
 use Rattle.table_words.specs.declared.Header.{Header}
@@ -115,10 +115,10 @@ map-first b at m h = rw (sub-zero at) h
 pub map-part : (s : List ℕ) (at words : ℕ) (m : List ℕ) → StopMap s (take words (drop at m)) → StopMap s (take (at + words - at) (drop at m))
 map-part s at words m h = let e : at + words - at ≡ words = omega arith in rw e h
 
-pub index-part : (z m : List ℕ) → ClassIndex z (drop (length m - helperHead) m) → ClassIndex z (take (length m - (length m - helperHead)) (drop (length m - helperHead) m))
-index-part z m h = subst (ClassIndex z) (sym (to-end m (length m - helperHead))) h
+pub index-part : (z : List ℕ) (at words : ℕ) (m : List ℕ) → ClassIndex z (drop (at + words) m) → ClassIndex z (take (length m - (at + words)) (drop (at + words) m))
+index-part z at words m h = subst (ClassIndex z) (sym (to-end m (at + words))) h
 
--- the words of UMSTEIGB's map end where the index begins
+-- the words of UMSTEIGB's map leave the last ones free
 module _ (u : List ℕ) (at words : ℕ) (m : List ℕ) (i : at + words + helperHead ≤ length m) where
   -- how many words stand between
   abbrev n : ℕ
@@ -142,7 +142,7 @@ module _ (u : List ℕ) (at words : ℕ) (m : List ℕ) (i : at + words + helper
       ap (λ (j : ℕ). drop words (take j (drop at m))) e ∙ middle (drop at m) words k (omega (arith, length-drop at m)) ∙ ap (take k) (drop-drop words at m) in
       subst (Lent u) (sym d) (lent u (at + words) k m h)
 
-  -- m′ is what is left of them: the first words, so many, stay, and so does what is behind them
+  -- m′ is what is left of them: the first words, so many, stay
   module _ (m′ : List ℕ) (l : length m′ ≡ length (take (length m - helperHead - at) (drop at m))) where
     pub front-stays : take words m′ ≡ take words (take (length m - helperHead - at) (drop at m))
         → take (at + words) (take at m ++ (m′ ++ drop (length m - helperHead - at) (drop at m))) ≡ take (at + words) m
@@ -155,30 +155,39 @@ module _ (u : List ℕ) (at words : ℕ) (m : List ℕ) (i : at + words + helper
         (ap (take words) (drop-at (take at m) (m′ ++ after) at (length-take-le at m (omega arith))) ∙ take-append-le words m′ after long ∙ e ∙ front-same)
         ∙ sym (take-add at words m))
 
-    pub index-stays : drop (length m - helperHead) (take at m ++ (m′ ++ drop (length m - helperHead - at) (drop at m))) ≡ drop (length m - helperHead) m
-    index-stays = drop-put at (length m - helperHead) m m′ (omega arith) (omega arith) (l ∙ length-take-le n (drop at m) (omega (arith, length-drop at m)))
+-- ---- the words behind a place, lent for the index
 
--- ---- the last words, lent for the index
+pub index-room : (at words : ℕ) (m : List ℕ) → IndexLent at words m → IndexRoom (take (length m - (at + words)) (drop (at + words) m))
+index-room at words m h =
+    let n : length (take (length m - (at + words)) (drop (at + words) m)) ≡ length m - (at + words) = ap length (to-end m (at + words)) ∙ length-drop (at + words) m in
+    record { enough = omega (arith, n, h .inside); small = omega (arith, n, h .small) }
 
-pub index-zeros : (m : List ℕ) → IndexLent m → take (length m - (length m - helperHead)) (drop (length m - helperHead) m) ≡ replicate helperHead 0
-index-zeros m h = to-end m (length m - helperHead) ∙ h .zeros
+module _ (at words : ℕ) (m : List ℕ) (h : IndexLent at words m) where
+  pub index-start : at + words ≤ length m
+  index-start = omega (arith, h .inside)
+
+  pub index-place : at + words < 2 ^ 64
+  index-place = omega (arith, h .inside, h .small)
+
+  pub index-bytes : (at + words) * 4 < 2 ^ 64
+  index-bytes = omega (arith, h .inside, h .small)
+
+pub ruleset index-fits = (tests, index-start, index-place, index-bytes)
 
 -- m′ is what is left in them
-pub index-after : (z : List ℕ) (r : Checked) (m m′ : List ℕ) → IndexLent m → length m′ ≡ length (take (length m - (length m - helperHead)) (drop (length m - helperHead) m)) → ClassesAfter z r m′
-    → IndexAfter z r m (take (length m - helperHead) m ++ (m′ ++ drop (length m - (length m - helperHead)) (drop (length m - helperHead) m)))
+pub index-after : (z : List ℕ) (r : Checked) (at words : ℕ) (m m′ : List ℕ) → IndexLent at words m → length m′ ≡ length (take (length m - (at + words)) (drop (at + words) m)) → ClassesAfter z r m′
+    → IndexAfter z r at words m (take (at + words) m ++ (m′ ++ drop (length m - (at + words)) (drop (at + words) m)))
 unfolding ClassIndex
-index-after z r m m′ h l a =
-    let at : ℕ = length m - helperHead in
+index-after z r at words m m′ h l a =
+    let p : ℕ = at + words in
     let i = h .inside in
-    let after : List ℕ = drop (length m - at) (drop at m) in
-    let same : length (take at m ++ (m′ ++ after)) ≡ length m = same-len-mid at (length m - at) m m′ l in
-    let nothing : m′ ++ after ≡ m′ = ap (λ (x : List ℕ). m′ ++ x) (drop-of-length-le (drop at m) {i = length m - at} (omega (arith, length-drop at m))) ∙ append-nil m′ in
-    let own : drop (length (take at m ++ (m′ ++ after)) - helperHead) (take at m ++ (m′ ++ after)) ≡ m′ =
-    ap (λ (j : ℕ). drop (j - helperHead) (take at m ++ (m′ ++ after))) same ∙ drop-at (take at m) (m′ ++ after) at (length-take-le at m (omega arith)) ∙ nothing in
+    let after : List ℕ = drop (length m - p) (drop p m) in
+    let nothing : m′ ++ after ≡ m′ = ap (λ (x : List ℕ). m′ ++ x) (drop-of-length-le (drop p m) {i = length m - p} (omega (arith, length-drop p m))) ∙ append-nil m′ in
+    let own : drop p (take p m ++ (m′ ++ after)) ≡ m′ = drop-at (take p m) (m′ ++ after) p (length-take-le p m (omega arith)) ∙ nothing in
     record {
       held = λ count next e. subst (IndexOf z) (sym own) (a .held count next e);
-      same = same;
-      front = take-put at (length m - at) m m′ (omega arith);
+      same = same-len-mid p (length m - p) m m′ l;
+      front = take-put p (length m - p) m m′ (omega arith);
     }
 
 -- ---- from file to file
@@ -238,28 +247,16 @@ module _ (e b s u p z : List ℕ) (r : Room) (m : List ℕ) (h : Short e b s u p
             zeros = ap (take k) behind ∙ take-zeros (r .words - (r .fields + r .stops)) k (omega (arith, f, g, w, n));
           }
 
-      index-empty : drop (length m₂ - helperHead) m₂ ≡ replicate helperHead 0
-      index-empty =
-          let i = stops-inside in let n = size₂ in
-          let k : ℕ = length m₂ - helperHead - (r .fields + r .stops) in
-          let e : r .fields + r .stops + k ≡ length m₂ - helperHead = omega (arith, i) in
-          let d : r .words - (r .fields + r .stops) - k ≡ helperHead = omega (arith, i, n) in
-          sym (drop-drop k (r .fields + r .stops) m₂ ∙ ap (λ (j : ℕ). drop j m₂) e)
-          ∙ ap (drop k) behind ∙ drop-zeros (r .words - (r .fields + r .stops)) k (omega (arith, i, n)) ∙ ap (λ (j : ℕ). replicate {A = ℕ} j 0) d
-
       module _ (m₃ : List ℕ) (l : length m₃ ≡ length m₂) (d : take (r .fields + r .stops) m₃ ≡ take (r .fields + r .stops) m₂) where
-        pub lent-index : drop (length m₂ - helperHead) m₃ ≡ drop (length m₂ - helperHead) m₂ → IndexLent m₃
-        lent-index g = let i = stops-inside in record { inside = omega (arith, i, l); zeros = ap (λ (j : ℕ). drop (j - helperHead) m₃) l ∙ g ∙ index-empty }
+        pub lent-index : IndexLent (r .fields) (r .stops) m₃
+        lent-index = let i = stops-inside in let n = size₂ in record { inside = omega (arith, i, l); small = omega (arith, small, n, l) }
 
-        module _ (v : Checked) (m₄ : List ℕ) (t : IndexAfter z v m₃ m₄) where
+        module _ (v : Checked) (m₄ : List ℕ) (t : IndexAfter z v (r .fields) (r .stops) m₃ m₄) where
           pub maps-inside : r .fields + r .stops + helperHead ≤ length m₄
           maps-inside = let i = stops-inside in omega (arith, l, t .same)
 
           maps-same : take (r .fields + r .stops) m₄ ≡ take (r .fields + r .stops) m₂
-          maps-same =
-              let i = stops-inside in
-              let k : ℕ = length m₃ - helperHead in
-              sym (take-take (r .fields + r .stops) k m₄ (omega (arith, i, l))) ∙ ap (take (r .fields + r .stops)) (t .front) ∙ take-take (r .fields + r .stops) k m₃ (omega (arith, i, l)) ∙ d
+          maps-same = t .front ∙ d
 
           pub fields-held : (k j : ℕ) → x ≡ Holds k j → FieldMap b (take (r .fields) m₄)
           fields-held k j g =

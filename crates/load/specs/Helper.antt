@@ -1,6 +1,6 @@
 -- The helper words while the files are checked: how many each map and the index take, and what they hold between the checks. Nobody has to believe
 -- this file. Assumes nothing.
-use Prim.Native.Nat.{ℕ, _+_, _*_, _-_, _≤_, _<_}
+use Prim.Native.Nat.{ℕ, _+_, _*_, _≤_, _<_}
 use mathlib.Core.Path.{_≡_}
 use mathlib.Core.List.{List}
 use lib.ListN.{length, take, drop, replicate}
@@ -43,10 +43,10 @@ pub record LentAt (f : List ℕ) (at words : ℕ) (m : List ℕ) : Type 0 where
   pub small : length m < 4294967296
   pub zeros : take words (drop at m) ≡ replicate words 0
 
--- the last words of m are lent for the index of ZUGART: all 0
-pub record IndexLent (m : List ℕ) : Type 0 where
-  pub inside : helperHead ≤ length m
-  pub zeros : drop (length m - helperHead) m ≡ replicate helperHead 0
+-- the words of m behind so many from a place on are lent for the index of ZUGART: enough
+pub record IndexLent (at words : ℕ) (m : List ℕ) : Type 0 where
+  pub inside : at + words + helperHead ≤ length m
+  pub small : length m < 4294967296
 
 -- what is left of m after the check of BITFELD with its first words, so many
 pub record FieldsAfter (b : List ℕ) (r : Checked) (words : ℕ) (m m′ : List ℕ) : Type 0 where
@@ -61,11 +61,11 @@ pub record StopsAfter (s : List ℕ) (r : Checked) (at words : ℕ) (m m′ : Li
   pub front : take at m′ ≡ take at m
   pub rest : drop (at + words) m′ ≡ drop (at + words) m
 
--- what is left of m after the check of ZUGART with its last words
-pub record IndexAfter (z : List ℕ) (r : Checked) (m m′ : List ℕ) : Type 0 where
-  pub held : (count next : ℕ) → r ≡ Holds count next → ClassIndex z (drop (length m′ - helperHead) m′)
+-- what is left of m after the check of ZUGART with those words
+pub record IndexAfter (z : List ℕ) (r : Checked) (at words : ℕ) (m m′ : List ℕ) : Type 0 where
+  pub held : (count next : ℕ) → r ≡ Holds count next → ClassIndex z (drop (at + words) m′)
   pub same : length m′ ≡ length m
-  pub front : take (length m - helperHead) m′ ≡ take (length m - helperHead) m
+  pub front : take (at + words) m′ ≡ take (at + words) m
 
 -- where the checks of a delivery answer d and it holds, the map of BAHNHOF stands in so many words of m from a place on
 pub record StopsStand (s : List ℕ) (at words : ℕ) (d : Delivered) (m : List ℕ) : Type 0 where

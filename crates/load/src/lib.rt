@@ -1,5 +1,5 @@
 // A delivery of six files to the table, or its first offence. Nothing is written into the table before everything is checked; meanwhile the helper
-// words hold the maps of BITFELD, BAHNHOF and UMSTEIGB and the index of ZUGART, until all is written.
+// words hold the maps of BITFELD, BAHNHOF and UMSTEIGB and, where UMSTEIGB's was, the index of ZUGART, until all is written.
 use table_words::Header;
 use timetable::BIT_FIELD_WORDS;
 use timetable::CLASS_WORDS;
@@ -91,7 +91,7 @@ pub fn load(
 
 // ---- the helper words
 
-// What the maps take of them: the words for the lines of BITFELD and of BAHNHOF; and all words needed, the last of them for the index of ZUGART.
+// What the maps take of them: the words for the lines of BITFELD and of BAHNHOF; and all words needed.
 struct Room {
     pub fields: usize,
     pub stops: usize,
@@ -203,7 +203,7 @@ fn load_mapped(
 }
 
 // ---- the checks: files 1 to 4, 6 and 5 ("ZUGART is file 6, its lengths and lines checked after UMSTEIGB's"), with words that hold 0 for the maps of
-// BITFELD, BAHNHOF and UMSTEIGB and for the index of ZUGART, in this order
+// BITFELD, BAHNHOF and UMSTEIGB, in this order; only ZUGART's index is asked after them, and stands where the map of UMSTEIGB was
 
 fn check_delivery(
     eckdaten: &[u8],
@@ -236,7 +236,7 @@ fn check_delivery(
     let Checked::Holds(interchanges, _) = interchange_section else {
         return refused(4, interchange_section);
     };
-    let class_section = classes_in(zugart, m);
+    let class_section = classes_in(zugart, m, room.fields, room.stops);
     let Checked::Holds(classes, _) = class_section else {
         return refused(6, class_section);
     };
@@ -276,7 +276,7 @@ fn stops_in(bahnhof: &[u8], m: &mut [u32], at: usize, words: usize) -> Checked
     sections::check_stops(bahnhof, &mut m[at..at + words])
 }
 
-// UMSTEIGB, its map behind that of BAHNHOF, which takes so many words from place `at` on, up to the index of ZUGART, which stays.
+// UMSTEIGB, its map behind that of BAHNHOF, which takes so many words from place `at` on.
 fn interchanges_in(
     umsteigb: &[u8],
     bahnhof: &[u8],
@@ -289,24 +289,23 @@ fn interchanges_in(
     requires { ⌜ LentAt (now umsteigb) (at + words) (length (now m) - helperHead - (at + words)) (now m) ⌝ }
     ensures { λ r. ⌜ r ≡ checkedBy (interchangesFirst (stopsIn (now (bahnhof .entry))) (linesOf (now (umsteigb .entry)))) (length (interchangesIn (now (umsteigb .entry)))) (length (linesOf (now (umsteigb .entry))) + 1) ⌝ }
     ensures { λ _. ⌜ take (at + words) (now (m .exit)) ≡ take (at + words) (now (m .entry)) ⌝ }
-    ensures { λ _. ⌜ drop (length (now (m .entry)) - helperHead) (now (m .exit)) ≡ drop (length (now (m .entry)) - helperHead) (now (m .entry)) ⌝ }
 {
     let end = m.len() - HELPER_HEAD_WORDS;
     sections::check_interchanges(umsteigb, bahnhof, &mut m[at..end], words)
 }
 
-// ZUGART, its index in the last words.
-fn classes_in(zugart: &[u8], m: &mut [u32]) -> Checked
+// ZUGART, its index behind the map of BAHNHOF, which takes so many words from place `at` on, where the map of UMSTEIGB was.
+fn classes_in(zugart: &[u8], m: &mut [u32], at: usize, words: usize) -> Checked
     requires { ⌜ length (now zugart) ≤ mostFileBytes ⌝ }
-    requires { ⌜ IndexLent (now m) ⌝ }
+    requires { ⌜ IndexLent at words (now m) ⌝ }
     ensures { λ r. ⌜ r ≡ checkedBy (classesFirst (linesOf (now (zugart .entry)))) (length (classesIn (now (zugart .entry)))) (length (linesOf (now (zugart .entry))) + 1) ⌝ }
-    ensures { λ r. ⌜ IndexAfter (now (zugart .entry)) r (now (m .entry)) (now (m .exit)) ⌝ }
+    ensures { λ r. ⌜ IndexAfter (now (zugart .entry)) r at words (now (m .entry)) (now (m .exit)) ⌝ }
 {
     let end = m.len();
-    sections::check_classes(zugart, &mut m[end - HELPER_HEAD_WORDS..end])
+    classes::check_classes(zugart, &mut m[at + words..end])
 }
 
-// FPLAN, with the maps of BITFELD, in the first words, and of BAHNHOF, behind them, and the index of ZUGART, in the last words.
+// FPLAN, with the maps of BITFELD, in the first words, and of BAHNHOF, behind them, and the index of ZUGART, in the rest.
 fn plan_by(
     fplan: &[u8],
     bitfeld: &[u8],
@@ -317,14 +316,14 @@ fn plan_by(
     room: Room,
 ) -> Checked
     requires { ⌜ (length (now fplan) ≤ mostFileBytes) × (days ≤ mostPeriodDays) × (room .fields + room .stops + helperHead ≤ length (now m)) ⌝ }
-    requires { ⌜ FieldMap (now bitfeld) (take (room .fields) (now m)) × StopMap (now bahnhof) (take (room .stops) (drop (room .fields) (now m))) × ClassIndex (now zugart) (drop (length (now m) - helperHead) (now m)) ⌝ }
+    requires { ⌜ FieldMap (now bitfeld) (take (room .fields) (now m)) × StopMap (now bahnhof) (take (room .stops) (drop (room .fields) (now m))) × ClassIndex (now zugart) (drop (room .fields + room .stops) (now m)) ⌝ }
     ensures { λ r. ⌜ r ≡ checkedBy (planFirst (bitFieldsIn (now (bitfeld .entry))) (stopsIn (now (bahnhof .entry))) (classesIn (now (zugart .entry))) days (linesOf (now (fplan .entry)))) (length (blocks (linesOf (now (fplan .entry))))) (length (blockWords (blocks (linesOf (now (fplan .entry)))))) ⌝ }
 {
     let at = room.fields;
     let fields = &m[0..at];
     let stops = &m[at..at + room.stops];
     let end = m.len();
-    let index = &m[end - HELPER_HEAD_WORDS..end];
+    let index = &m[at + room.stops..end];
     plan::check_plan(fplan, bitfeld, fields, bahnhof, stops, zugart, index, days)
 }
 

@@ -23,7 +23,7 @@ use Rattle.timetable.specs.declared.Told.the-variants.{Skip, Other, Broken, Ope
 use Rattle.timetable.specs.declared.Verdict.{Verdict}
 use Rattle.timetable.specs.declared.Verdict.the-variants.{Fine, Offends}
 use Rattle.sections.specs.SectionMap.{MapOf}
-use Rattle.sections.specs.ClassIndex.{IndexOf}
+use Rattle.classes.specs.Index.{IndexOf}
 use Rattle.sections.specs.declared.Section.the-variants.{BitFields, Stops}
 use Rattle.draft.specs.declared.Counts.{Counts}
 use Rattle.reading.specs.Maps.{FieldMap, StopMap, ClassIndex}

@@ -3,7 +3,7 @@
 use Prim.Native.Nat.{ℕ}
 use mathlib.Core.List.{List}
 use Rattle.sections.specs.SectionMap.{MapOf}
-use Rattle.sections.specs.ClassIndex.{IndexOf}
+use Rattle.classes.specs.Index.{IndexOf}
 use Rattle.sections.specs.declared.Section.the-variants.{BitFields, Stops}
 
 unfoldable pub FieldMap : List ℕ → List ℕ → Type 0

@@ -321,7 +321,7 @@ fn category_listed(part: Part, name: u32, zugart: &[u8], index: &[u32]) -> bool
     ensures { λ r. ⌜ r ≡ categoryListed part name (classesIn (now (zugart .entry))) ⌝ }
 {
     match part {
-        Part::Category => sections::known_class(zugart, index, name),
+        Part::Category => classes::known_class(zugart, index, name),
         Part::Days => true,
         Part::Extra => true,
     }

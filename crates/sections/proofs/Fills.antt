@@ -127,9 +127,9 @@ module _ (s : Section) (f b m₀ : List ℕ) (split : ℕ) (w : Ready s f b spli
     pub fill-reached : Reached s (take (at - 0) (drop 0 f)) b split m
     fill-reached = rw sub-zero (record {
       inside = omega (arith, w .inside, v .same);
-      seen = λ z. record { count = count; chained = v .filled .chained; numbers-held = v .filled .numbers-held };
+      seen = record { count = count; chained = v .filled .chained; numbers-held = v .filled .numbers-held };
       stops = λ e. rw (v .front) (w .stops e);
-      index = λ e. absurd (w .mapped e);
+      mapped = w .mapped;
     })
 
     pub fill-ready : (line : ℕ) → Walked f at line → at < length f → length f ≤ mostFileBytes → count ≡ length (numbers s (linesOf (take at f))) → PutReady count split at m

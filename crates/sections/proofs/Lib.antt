@@ -6,6 +6,4 @@ pub mod Walk
 pub mod Scans
 pub mod Fills
 pub mod Files
-pub mod Classes
-pub mod Index
 pub mod Places

@@ -8,7 +8,7 @@ use native.Mathlib.Omega.{arith}
 use lib.ListN.{length, take, drop, length-drop}
 use lib.Seq.{take-all}
 use Rattle.base.specs.Lists.{some-of}
-use Rattle.base.proofs.Laws.{tests, apart}
+use Rattle.base.proofs.Laws.{tests}
 use Rattle.lines.specs.Lines.{Line, skipped, linesOf}
 use Rattle.forms.specs.Form.{formOf}
 use Rattle.forms.specs.Columns.{columnsOf}
@@ -21,7 +21,6 @@ use Rattle.map.specs.declared.Found.the-variants.{At, Nowhere}
 use Rattle.map.proofs.Meaning.{found-none, found-some}
 use Rattle.timetable.specs.Files.{held-in, bitFieldOf, stopOf, interchangeOf, classOf, hasField, hasStop, hasInterchange, hasClass}
 use Rattle.sections.specs.Sections.{lineKind, keyOn, numberOn, numbers, hasNumber}
-use Rattle.sections.specs.ClassIndex.{IndexOf}
 use Rattle.sections.specs.SectionMap.{Seen, MapOf, Reached}
 use Rattle.sections.specs.declared.Section.{Section}
 use Rattle.sections.specs.declared.Section.the-variants.{BitFields, Stops, Interchanges, Classes}
@@ -100,22 +99,19 @@ pub own-part : (split : ℕ) (m : List ℕ) → take (length m - split) (drop sp
 own-part split m = take-all (length m - split) (drop split m) (omega (arith, length-drop split m))
 
 module _ (s : Section) (p b : List ℕ) (split : ℕ) (m : List ℕ) (w : Reached s p b split m) where
-  seen-as : (t : Section) → s ≡ t → (t ≡ Classes → ⊥) → Seen t (linesOf p) (take (length m - split) (drop split m))
-  seen-as t e z = rw (own-part, ← e) (w .seen (λ y. z (sym e ∙ y)))
+  seen-as : (t : Section) → s ≡ t → Seen t (linesOf p) (take (length m - split) (drop split m))
+  seen-as t e = rw (own-part, ← e) (w .seen)
 
   pub fields-seen : s ≡ BitFields → Seen BitFields (linesOf p) (take (length m - split) (drop split m))
-  fields-seen e = seen-as BitFields e (λ y. apart cc)
+  fields-seen e = seen-as BitFields e
 
   pub stops-seen : s ≡ Stops → Seen Stops (linesOf p) (take (length m - split) (drop split m))
-  stops-seen e = seen-as Stops e (λ y. apart cc)
+  stops-seen e = seen-as Stops e
 
   pub interchanges-seen : s ≡ Interchanges → Seen Interchanges (linesOf p) (take (length m - split) (drop split m))
-  interchanges-seen e = seen-as Interchanges e (λ y. apart cc)
+  interchanges-seen e = seen-as Interchanges e
 
   pub reached-stops : s ≡ Interchanges → MapOf Stops b (take (split - 0) (drop 0 m))
   reached-stops e = rw sub-zero (w .stops e)
 
-  pub reached-index : s ≡ Classes → IndexOf p (take (length m - split) (drop split m))
-  reached-index e = rw own-part (w .index e)
-
-pub ruleset reached = (fields-seen, stops-seen, interchanges-seen, reached-stops, reached-index)
+pub ruleset reached = (fields-seen, stops-seen, interchanges-seen, reached-stops)

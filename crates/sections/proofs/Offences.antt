@@ -15,12 +15,12 @@ use Rattle.bitfield.specs.BitField.{bitsIn, framed}
 use Rattle.names.specs.Names.{isNameList}
 use Rattle.timetable.specs.Delivery.{StopRecord, Interchange}
 use Rattle.timetable.specs.Offences.{offenceAt, given, _<|>_, verdictBy}
-use Rattle.timetable.specs.Files.{held-in, bitFieldOf, bitFieldOffence, hasInterchange, hasStop, nameField, stopOf, stopOffence, namedStopOffence, interchangeOf, interchangeOffence, classOf, hasClass, hasTariff, tariffOf, tariffOffence, classOffence}
+use Rattle.timetable.specs.Files.{held-in, bitFieldOf, bitFieldOffence, hasInterchange, hasStop, nameField, stopOf, stopOffence, namedStopOffence, interchangeOf, interchangeOffence}
 use Rattle.timetable.specs.declared.Verdict.{Verdict}
 use Rattle.timetable.specs.declared.Verdict.the-variants.{Fine, Offends}
 use Rattle.timetable.proofs.Offences.{then-none, given-none}
 use Rattle.sections.specs.Sections.{numbers, hasNumber, recordOffence, numberedOffence}
-use Rattle.sections.specs.ClassIndex.{differs}
+use Rattle.sections.specs.SectionMap.{Reached}
 use Rattle.sections.specs.declared.Section.{Section}
 use Rattle.sections.specs.declared.Section.the-variants.{BitFields, Stops, Interchanges, Classes}
 use Rattle.sections.specs.declared.Numbered.{Numbered}
@@ -139,31 +139,6 @@ module _ (c k no : ℕ) (ls : List Line) (stops : List StopRecord) (d : c ≡ le
 
 pub ruleset interchange-checks = (tests, first-fine, first-other, later-seen, later-fine, later-unknown)
 
--- ---- a category of code k: 6, 37. b is whether it was seen earlier, d whether its line or the first has a tariff group and the other has none
-
-by-differs : (es : List Bool) (line : ℕ) (has : Bool) → tariffOffence es line has ≡ given (differs es has) 37 line
-by-differs [] line has = refl
-by-differs (e ∷ es) line has = refl
-
-module _ (k no : ℕ) (text : List ℕ) (ls : List Line) (b : Bool) (s : b ≡ hasClass k (held-in classOf ls)) where
-  abbrev ClassGives : Verdict → Type 0
-  ClassGives v = v ≡ verdictBy (classOffence (held-in classOf ls) (held-in tariffOf ls) no text (record { code = k; class = 0 }))
-
-  pub class-seen : (v : Verdict) → b ≡ true → v ≡ Offends (offenceAt 6 no) → ClassGives v
-  unfolding _<|>_
-  class-seen v y e = rw (sym s ∙ y) e
-
-  module _ (y : b ≡ false) (d : Bool) (t : d ≡ differs (held-in tariffOf ls) (hasTariff text)) where
-    pub class-tariff : (v : Verdict) → d ≡ true → v ≡ Offends (offenceAt 37 no) → ClassGives v
-    unfolding _<|>_
-    class-tariff v z e = rw (sym s ∙ y, by-differs, sym t ∙ z) e
-
-    pub class-fine : d ≡ false → ClassGives Fine
-    unfolding _<|>_
-    class-fine z = rw (sym s ∙ y, by-differs, sym t ∙ z) refl
-
-pub ruleset class-checks = (tests, class-seen, class-tariff, class-fine)
-
 -- ---- a line that has n for a number: 4, then the record's own
 
 module _ (s : Section) (days no : ℕ) (stops : List StopRecord) (before : List Line) (text : List ℕ) (n : Numbered) where
@@ -189,9 +164,9 @@ module _ (s : Section) (days no : ℕ) (stops : List StopRecord) (before : List 
     unfolding recordOffence
     line-interchange z e = rw (y, z) e
 
-    pub line-class : s ≡ Classes → v ≡ verdictBy (classOffence (held-in classOf before) (held-in tariffOf before) no text (record { code = k; class = 0 })) → LineGives v
-    unfolding recordOffence
-    line-class z e = rw (y, z) e
+    -- a line of ZUGART is not asked for
+    pub line-class : (part b : List ℕ) (split : ℕ) (m : List ℕ) → s ≡ Classes → Reached s part b split m → LineGives v
+    line-class part b split m z w = absurd (w .mapped z)
 
 -- the records before, where they are those of UMSTEIGB
 pub interchanges-before : (s : Section) (c : ℕ) (ls : List Line) → s ≡ Interchanges → c ≡ length (numbers s ls) → c ≡ length (numbers Interchanges ls)

@@ -19,7 +19,7 @@ walked-first f = record { start = start-first f; number = rw lines-nil refl }
 
 module _ (f : List ℕ) (at no : ℕ) (w : Walked f at no) where
   -- the lines before and the lines from there on
-  walked-lines : linesOf f ≡ linesOf (take at f) ++ linesFrom no at (drop at f)
+  pub walked-lines : linesOf f ≡ linesOf (take at f) ++ linesFrom no at (drop at f)
   walked-lines =
       let k : 1 + length (linesOf (take at f)) ≡ no = omega (arith, w .number) in
       lines-parts f 1 0 at (w .start) (omega arith) ∙ rw k refl

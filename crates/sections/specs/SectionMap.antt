@@ -10,7 +10,6 @@ use Rattle.map.specs.Map.{recordWords, wordValues, Chained, Distinct, numbersIn
 use Rattle.timetable.specs.declared.Checked.{Checked}
 use Rattle.timetable.specs.declared.Checked.the-variants.{Holds}
 use Rattle.sections.specs.Sections.{numberOn, asNumber, numbers}
-use Rattle.sections.specs.ClassIndex.{IndexOf}
 use Rattle.sections.specs.declared.Section.{Section}
 use Rattle.sections.specs.declared.Section.the-variants.{Stops, Interchanges, Classes}
 use Rattle.sections.specs.declared.Numbered.{Numbered}
@@ -68,12 +67,12 @@ pub record Ready (s : Section) (f bahnhof : List ℕ) (split : ℕ) (m : List �
   pub stops : s ≡ Interchanges → MapOf Stops bahnhof (take split m)
   pub mapped : s ≡ Classes → ⊥
 
--- after the lines of the part `before` of a file; those of ZUGART have an index in place of a map
+-- after the lines of the part `before` of a file
 pub record Reached (s : Section) (before bahnhof : List ℕ) (split : ℕ) (m : List ℕ) : Type 0 where
   pub inside : split ≤ length m
-  pub seen : (s ≡ Classes → ⊥) → Seen s (linesOf before) (drop split m)
+  pub seen : Seen s (linesOf before) (drop split m)
   pub stops : s ≡ Interchanges → MapOf Stops bahnhof (take split m)
-  pub index : s ≡ Classes → IndexOf before (drop split m)
+  pub mapped : s ≡ Classes → ⊥
 
 -- there is room for a record of a line that starts at a place
 pub record PutReady (count split place : ℕ) (m : List ℕ) : Type 0 where

@@ -1,6 +1,6 @@
-// BITFELD, BAHNHOF, UMSTEIGB and ZUGART: each line's own checks, and look-ups by number. The checks put each record into a map in lent words, four for each
-// line, and a look-up takes no longer in a long file than in a short one. ZUGART's lines are given no words of their own: its categories, which are few, are
-// looked for line by line, from the first line on whose code leaves the same remainder.
+// BITFELD, BAHNHOF and UMSTEIGB: each line's own checks, and look-ups by number. The checks put each record into a map in lent words, four for each line, and
+// a look-up takes no longer in a long file than in a short one. ZUGART's lines are given no words of their own: what is here of them is what a line holds; the
+// crate `classes` checks them.
 use forms::Form;
 use forms::LineKind;
 use map::Found;
@@ -12,23 +12,21 @@ ghost use mathlib.Core.Path.{_≡_};
 ghost use mathlib.Core.List.{[]};
 ghost use mathlib.Core.Bool.{true, cond, not, _||_};
 ghost use Prim.Native.Nat.{_+_, _%_, _≤_};
-ghost use lib.ListN.{length, getD, take, drop, replicate};
+ghost use lib.ListN.{length, take, drop};
 ghost use lib.Dec.{eqb};
-ghost use Rattle.lines.specs.Lines.{linesAt, linesOf};
+ghost use Rattle.lines.specs.Lines.{linesOf};
 ghost use Rattle.bitfield.specs.BitField.{bitsIn};
-ghost use Rattle.timetable.specs.Layout.{mostFileBytes, mostPeriodDays, helperHead};
+ghost use Rattle.timetable.specs.Layout.{mostFileBytes, mostPeriodDays};
 ghost use Rattle.timetable.specs.Offences.{first, verdictBy, checkedBy};
 ghost use Rattle.timetable.specs.Files.{bitFieldsIn, hasField, bitFieldOffence, bitFieldsFirst};
 ghost use Rattle.timetable.specs.Files.{stopsIn, hasStop, stopOffence, namedStopOffence, stopsFirst};
 ghost use Rattle.timetable.specs.Files.{interchangesIn, interchangeOffence, interchangesFirst};
-ghost use Rattle.timetable.specs.Files.{held-in, classOf, classesIn, hasClass, hasTariff, tariffOf, classOffence, classesFirst};
 ghost use Rattle.timetable.specs.Plan.{threeBytes};
 ghost use Rattle.timetable.specs.Table.{stopPlace};
 ghost use Rattle.sections.specs.Sections.{lineKind, keyOn, numberOn, asNumber, numbers, hasNumber};
 ghost use Rattle.sections.specs.Sections.{recordOffence, numberedOffence, lineOffence, wordsOf};
-ghost use Rattle.sections.specs.ClassIndex.{sound, holdsCode, differs, buckets, IndexOf, noteCode, noted, ClassesAfter};
 ghost use Rattle.sections.specs.SectionMap.{textAt, Seen, MapOf, Lent, MapAfter, Ready, Reached, PutReady, Put};
-ghost use Rattle.sections.specs.declared.Section.the-variants.{BitFields, Stops, Interchanges, Classes};
+ghost use Rattle.sections.specs.declared.Section.the-variants.{BitFields, Stops, Interchanges};
 
 // The sections of the table that files 2 to 4 and 6 give.
 pub enum Section {
@@ -88,16 +86,6 @@ pub fn check_interchanges(f: &[u8], bahnhof: &[u8], m: &mut [u32], split: usize)
     checked
 }
 
-// ZUGART may have no record.
-pub fn check_classes(zugart: &[u8], index: &mut [u32]) -> Checked
-    requires { ⌜ length (now zugart) ≤ mostFileBytes ⌝ }
-    requires { ⌜ now index ≡ replicate helperHead 0 ⌝ }
-    ensures { λ r. ⌜ r ≡ checkedBy (classesFirst (linesOf (now (zugart .entry)))) (length (classesIn (now (zugart .entry)))) (length (linesOf (now (zugart .entry))) + 1) ⌝ }
-    ensures { λ r. ⌜ ClassesAfter (now (zugart .entry)) r (now (index .exit)) ⌝ }
-{
-    check_class_lines(zugart, index)
-}
-
 // ---- look-ups, each behind one function, by the map of the file
 
 // Whether BITFELD has a bit field of this number.
@@ -114,22 +102,6 @@ pub fn known_stop(f: &[u8], m: &[u32], number: u32) -> bool
     ensures { λ r. ⌜ r ≡ hasStop number (stopsIn (now (f .entry))) ⌝ }
 {
     has_number(Section::Stops, f, m, number)
-}
-
-// Whether ZUGART, or a part of it, lists a category of this code: nearly always the first line that the index has for it is the one.
-pub fn known_class(zugart: &[u8], index: &[u32], code: u32) -> bool
-    requires { ⌜ IndexOf (now zugart) (now index) ⌝ }
-    ensures { λ r. ⌜ r ≡ hasClass code (classesIn (now (zugart .entry))) ⌝ }
-{
-    let w = index_word(index, code);
-    if w == 0 {
-        return false;
-    }
-    let at = (w - 1) as usize;
-    if code_on(&zugart[at..zugart.len()]) == code {
-        return true;
-    }
-    has_class(zugart, at, code)
 }
 
 // The twelve words of the first bit field of this number, zeros where there is none.
@@ -327,7 +299,8 @@ fn line_verdict(
                 Section::Interchanges => {
                     interchange_verdict(x, before, seen, no, bahnhof, &m[0..split], count)
                 }
-                Section::Classes => class_verdict(x, before, seen, text, no),
+                // not asked for
+                Section::Classes => Verdict::Fine,
             }
         }
     }
@@ -421,173 +394,4 @@ fn interchange_verdict(
         return Verdict::Fine;
     }
     timetable::offends(9, no)
-}
-
-// ---- ZUGART
-
-// How many remainders the index has a word for.
-const BUCKETS: u32 = 61;
-
-// The own checks of every line of ZUGART, which goes into the index.
-fn check_class_lines(f: &[u8], index: &mut [u32]) -> Checked
-    requires { ⌜ length (now f) ≤ mostFileBytes ⌝ }
-    requires { ⌜ now index ≡ replicate helperHead 0 ⌝ }
-    ensures { λ r. ⌜ r ≡ checkedBy (first (lineOffence Classes 0 (stopsIn (now (f .entry)))) [] (linesOf (now (f .entry)))) (length (numbers Classes (linesOf (now (f .entry))))) (length (linesOf (now (f .entry))) + 1) ⌝ }
-    ensures { λ r. ⌜ ClassesAfter (now (f .entry)) r (now (index .exit)) ⌝ }
-{
-    let mut at: usize = 0;
-    let mut no: u32 = 1;
-    let mut count: u32 = 0;
-    while at < f.len() {
-        let cut = reader::line_from(f, at, no);
-        let stop = cut.stop;
-        let text = &f[at..stop];
-        let n = number_on(Section::Classes, text);
-        // neither the days nor BAHNHOF are read here: 0 and the file itself stand in their places
-        let own = line_verdict(
-            Section::Classes,
-            n,
-            &f[0..at],
-            text,
-            no,
-            0,
-            f,
-            index,
-            0,
-            count,
-        );
-        if let Verdict::Offends(offence) = own {
-            return Checked::Refused(offence);
-        }
-        count = count_with(n, count);
-        note_line(n, index, at);
-        at = cut.next;
-        no = cut.no;
-    }
-    Checked::Holds(count, no)
-}
-
-// How many records there are with this line, after so many.
-fn count_with(n: Numbered, count: u32) -> u32
-    requires { ⌜ count ≤ mostFileBytes ⌝ }
-    ensures { λ r. ⌜ r ≡ count + length (asNumber n) ⌝ }
-{
-    match n {
-        Numbered::Skipped => count,
-        Numbered::Broken(column) => count,
-        Numbered::Number(x) => count + 1,
-    }
-}
-
-// The word of a code's remainder.
-fn index_word(index: &[u32], code: u32) -> u32
-    requires { ⌜ length (now index) ≡ helperHead ⌝ }
-    ensures { λ r. ⌜ r ≡ getD (now (index .entry)) (code % buckets) 0 ⌝ }
-{
-    index[(code % BUCKETS) as usize]
-}
-
-// Puts a line that starts at a place into the index, if it holds a record.
-fn note_line(n: Numbered, index: &mut [u32], at: usize)
-    requires { ⌜ length (now index) ≡ helperHead ⌝ }
-    requires { ⌜ at ≤ mostFileBytes ⌝ }
-    ensures { λ _. ⌜ now (index .exit) ≡ noted at n (now (index .entry)) ⌝ }
-{
-    match n {
-        Numbered::Skipped => {}
-        Numbered::Broken(column) => {}
-        Numbered::Number(x) => note_code(index, x, at),
-    }
-}
-
-// The first line of a remainder stays.
-fn note_code(index: &mut [u32], code: u32, at: usize)
-    requires { ⌜ length (now index) ≡ helperHead ⌝ }
-    requires { ⌜ at ≤ mostFileBytes ⌝ }
-    ensures { λ _. ⌜ now (index .exit) ≡ noteCode at code (now (index .entry)) ⌝ }
-{
-    let h = (code % BUCKETS) as usize;
-    if index[h] == 0 {
-        index[h] = (at + 1) as u32;
-    }
-}
-
-// 6 or 37: seen earlier, a tariff group missing or alone. For each line the lines before it are read again, for its code from the first of its remainder
-// on, for the tariff group up to the first record: that is quadratic in ZUGART's lines, which are few.
-fn class_verdict(code: u32, before: &[u8], seen: &[u32], text: &[u8], no: u32) -> Verdict
-    requires { ⌜ IndexOf (now before) (now seen) ⌝ }
-    ensures { λ r. ⌜ r ≡ verdictBy (classOffence (classesIn (now (before .entry))) (held-in tariffOf (linesOf (now (before .entry)))) no (now (text .entry)) (record { code = code; class = 0 })) ⌝ }
-{
-    if known_class(before, seen, code) {
-        return timetable::offends(6, no);
-    }
-    if tariff_differs(before, text) {
-        return timetable::offends(37, no);
-    }
-    Verdict::Fine
-}
-
-// Whether a line from a place on holds a category of this code. The lines have their form; their numbers do not matter, so they count from 1.
-fn has_class(f: &[u8], from: usize, code: u32) -> bool
-    requires { ⌜ length (now f) ≤ mostFileBytes ⌝ }
-    requires { ⌜ sound (linesAt (now f) from 1) ≡ true ⌝ }
-    ensures { λ r. ⌜ r ≡ hasClass code (held-in classOf (linesAt (now (f .entry)) from 1)) ⌝ }
-{
-    let mut at = from;
-    let mut no: u32 = 1;
-    while at < f.len() {
-        let cut = reader::line_from(f, at, no);
-        let stop = cut.stop;
-        if holds_code(&f[at..stop], code) {
-            return true;
-        }
-        at = cut.next;
-        no = cut.no;
-    }
-    false
-}
-
-fn holds_code(text: &[u8], code: u32) -> bool
-    ensures { λ r. ⌜ r ≡ holdsCode code (now (text .entry)) ⌝ }
-{
-    if code_on(text) == code {
-        return !lines::skips(text);
-    }
-    false
-}
-
-// Whether a line has a tariff group and the first record of the part of its file before it has none, or the other way.
-fn tariff_differs(before: &[u8], text: &[u8]) -> bool
-    requires { ⌜ length (now before) ≤ mostFileBytes ⌝ }
-    requires { ⌜ sound (linesOf (now before)) ≡ true ⌝ }
-    ensures { λ r. ⌜ r ≡ differs (held-in tariffOf (linesOf (now (before .entry)))) (hasTariff (now (text .entry))) ⌝ }
-{
-    let mut at: usize = 0;
-    let mut no: u32 = 1;
-    while at < before.len() {
-        let cut = reader::line_from(before, at, no);
-        let stop = cut.stop;
-        let line = &before[at..stop];
-        if !lines::skips(line) {
-            return one_has_tariff(line, text);
-        }
-        at = cut.next;
-        no = cut.no;
-    }
-    false
-}
-
-fn one_has_tariff(line: &[u8], text: &[u8]) -> bool
-    ensures { λ r. ⌜ r ≡ cond (hasTariff (now (line .entry))) (not (hasTariff (now (text .entry)))) (hasTariff (now (text .entry))) ⌝ }
-{
-    if has_tariff(line) {
-        return !has_tariff(text);
-    }
-    has_tariff(text)
-}
-
-fn has_tariff(text: &[u8]) -> bool
-    ensures { λ r. ⌜ r ≡ hasTariff (now (text .entry)) ⌝ }
-{
-    columns::column_at(text, 8) != b' '
 }

@@ -93,7 +93,7 @@ classes-in-requires c κs =
     let period = fields .before .before .before .before .before in
     let start = period .before .before .before .before .before .before .before .before in (
       start .pre .0 .zugart,
-      lent-index _ _ _ _ _ _ _ _ (start .pre .0) (start .pre .1) _ _ (fields .fields-in .ensures .1) _ _ (stops .stops-in .ensures .1) _ (interchanges .interchanges-in .kept .1 .1 .0) (interchanges .interchanges-in .ensures .1 .0) (interchanges .interchanges-in .ensures .1 .1),
+      lent-index _ _ _ _ _ _ _ _ (start .pre .0) (start .pre .1) _ _ (fields .fields-in .ensures .1) _ _ (stops .stops-in .ensures .1) _ (interchanges .interchanges-in .kept .1 .1 .0) (interchanges .interchanges-in .ensures .1),
     )
 
 enum-known-class-section : tie.Need-enum-known-class-section
@@ -140,10 +140,10 @@ plan-by-requires c κs =
     let fields = stops .before .before .before .before .before .before .before in
     let period = fields .before .before .before .before .before in
     let start = period .before .before .before .before .before .before .before .before in (
-      (start .pre .0 .fplan, search (days-few, period .check-period .ensures, fields .before .before .before .period .given .1), maps-inside _ _ _ _ _ _ _ _ (start .pre .0) (start .pre .1) _ _ (fields .fields-in .ensures .1) _ _ (stops .stops-in .ensures .1) _ (interchanges .interchanges-in .kept .1 .1 .0) (interchanges .interchanges-in .ensures .1 .0) _ _ (classes .classes-in .ensures .1)),
+      (start .pre .0 .fplan, search (days-few, period .check-period .ensures, fields .before .before .before .period .given .1), maps-inside _ _ _ _ _ _ _ _ (start .pre .0) (start .pre .1) _ _ (fields .fields-in .ensures .1) _ _ (stops .stops-in .ensures .1) _ (interchanges .interchanges-in .kept .1 .1 .0) (interchanges .interchanges-in .ensures .1) _ _ (classes .classes-in .ensures .1)),
       (
-        fields-held _ _ _ _ _ _ _ _ (start .pre .0) (start .pre .1) _ _ (fields .fields-in .ensures .1) _ _ (stops .stops-in .ensures .1) _ (interchanges .interchanges-in .kept .1 .1 .0) (interchanges .interchanges-in .ensures .1 .0) _ _ (classes .classes-in .ensures .1) _ _ (stops .before .before .before .field-section .given .1),
-        stops-still _ _ _ _ _ _ _ _ (start .pre .0) (start .pre .1) _ _ (fields .fields-in .ensures .1) _ _ (stops .stops-in .ensures .1) _ (interchanges .interchanges-in .kept .1 .1 .0) (interchanges .interchanges-in .ensures .1 .0) _ _ (classes .classes-in .ensures .1) _ _ (interchanges .before .before .before .stop-section .given .1),
+        fields-held _ _ _ _ _ _ _ _ (start .pre .0) (start .pre .1) _ _ (fields .fields-in .ensures .1) _ _ (stops .stops-in .ensures .1) _ (interchanges .interchanges-in .kept .1 .1 .0) (interchanges .interchanges-in .ensures .1) _ _ (classes .classes-in .ensures .1) _ _ (stops .before .before .before .field-section .given .1),
+        stops-still _ _ _ _ _ _ _ _ (start .pre .0) (start .pre .1) _ _ (fields .fields-in .ensures .1) _ _ (stops .stops-in .ensures .1) _ (interchanges .interchanges-in .kept .1 .1 .0) (interchanges .interchanges-in .ensures .1) _ _ (classes .classes-in .ensures .1) _ _ (interchanges .before .before .before .stop-section .given .1),
         classes .classes-in .ensures .1 .held _ _ (c .before .before .class-section .given .1),
       ),
     )
@@ -243,7 +243,7 @@ returns-7 c =
         c .before .before .plan .given .1,
         c .header-of .ensures,
       ),
-      stops-stand _ _ _ _ _ _ _ _ (start .pre .0) (start .pre .1) _ _ (fields .fields-in .ensures .1) _ _ (stops .stops-in .ensures .1) _ (interchanges .interchanges-in .kept .1 .1 .0) (interchanges .interchanges-in .ensures .1 .0) _ _ (classes .classes-in .ensures .1) _ _ (interchanges .before .before .before .stop-section .given .1) _,
+      stops-stand _ _ _ _ _ _ _ _ (start .pre .0) (start .pre .1) _ _ (fields .fields-in .ensures .1) _ _ (stops .stops-in .ensures .1) _ (interchanges .interchanges-in .kept .1 .1 .0) (interchanges .interchanges-in .ensures .1) _ _ (classes .classes-in .ensures .1) _ _ (interchanges .before .before .before .stop-section .given .1) _,
     )
 
 pub check-delivery-spec : {M : Type 1} → statement M

@@ -1,5 +1,5 @@
 use Rattle.base.proofs.Laws.{tests}
-use Rattle.load.proofs.Helper.{split-inside, split-stops, split-lent, front-stays, index-stays}
+use Rattle.load.proofs.Helper.{split-inside, split-stops, split-lent, front-stays}
 use Rattle.load.proofs.interchanges_in.Statement.{statement}
 use Rattle.load.proofs.interchanges_in.Tie as tie
 
@@ -25,7 +25,7 @@ same-length : tie.Need-same-length
 same-length c = search tests
 
 returns : tie.Need-returns
-returns c = (search tests, (search front-stays, search index-stays))
+returns c = (search tests, search front-stays)
 
 pub interchanges-in-spec : {M : Type 1} → statement M
 interchanges-in-spec =

@@ -27,14 +27,14 @@ part-stops-start c = search tests
 part-stops-end : tie.Need-part-stops-end
 part-stops-end c = search tests
 
-sub-index : tie.Need-sub-index
-sub-index c = search tests
+add-index : tie.Need-add-index
+add-index c = search tests
 
 mul-index : tie.Need-mul-index
 mul-index c = search tests
 
-sub-index-2 : tie.Need-sub-index-2
-sub-index-2 c = search tests
+sub-index : tie.Need-sub-index
+sub-index c = search tests
 
 part-index-start : tie.Need-part-index-start
 part-index-start c = search tests
@@ -60,9 +60,9 @@ plan-by-spec =
     sub-stops
     part-stops-start
     part-stops-end
-    sub-index
+    add-index
     mul-index
-    sub-index-2
+    sub-index
     part-index-start
     part-index-end
     check-plan-requires

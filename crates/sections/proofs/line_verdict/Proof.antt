@@ -53,9 +53,6 @@ interchange-verdict-requires c κs = search line-checks
 enum-told-5 : tie.Need-enum-told-5
 enum-told-5 c = search line-checks
 
-class-verdict-requires : tie.Need-class-verdict-requires
-class-verdict-requires c κs = search line-checks
-
 returns : tie.Need-returns
 returns c = search line-checks
 
@@ -95,7 +92,6 @@ line-verdict-spec =
     part-interchange-verdict-end
     interchange-verdict-requires
     enum-told-5
-    class-verdict-requires
     returns
     returns-2
     returns-3

@@ -1,0 +1,5 @@
+pub mod Lines
+pub mod Marks
+pub mod Once
+pub mod Check
+pub mod Slots
