@@ -1,6 +1,6 @@
 #!/bin/sh
 # planner.sh [SEED COUNT [FIRST]]: makes the planner's crate and the comparison with the archive, and runs them: the crate's tests and documentation, the data desk's program
-# and its tests, README's program, the program in C, the crate with cargo, the trial week, the standard's examples, 2,000 cases of each of the programs of requests.sh that are named below, the declarations (drift.sh), and COUNT generated cases of a SEED from case FIRST on.
+# and its tests, README's program, the program in C, the depth of the stack, the crate with cargo, the trial week, the standard's examples, 2,000 cases of each of the programs of requests.sh that are named below, the declarations (drift.sh), and COUNT generated cases of a SEED from case FIRST on.
 # Ends with 'planner.sh: ok'.
 set -eu
 cd "$(dirname "$0")/.."
@@ -84,6 +84,10 @@ echo "  include/example.c: $(head -1 "$out/example.txt")"
 
 # The quay screen; what it has to show was worked out by hand.
 run "$out/quay_screen" | diff -u planner/examples/quay_screen.txt - || die 'planner/examples/quay_screen.rs does not show planner/examples/quay_screen.txt'
+
+# How deep a load goes on the stack, by the archive itself: at most what docs/MEASURED.md says.
+c -std=c11 -Wall -Wextra -Wpedantic -Werror -Iinclude tools/stack.c -L"$ARCHIVE" -lestelunya -lpthread -o "$out/stack"
+run "$out/stack" 45056
 
 run "$out/readme"
 run "$out/trial_week"
