@@ -1,12 +1,12 @@
 -- Laws of forms. For callers: `row-holds` (what the row at a place asks holds of a line that has the form), `fits-form`, `from-one-says`. Assumes nothing.
 use mathlib.Core.Path.{_≡_, refl, ap, _∙_, sym}
 use mathlib.Core.List.{List, [], _∷_}
-use mathlib.Core.Bool.{Bool, true, false, not}
+use mathlib.Core.Bool.{Bool, true, false, not, _&&_, _||_}
 use Prim.Native.Nat.{ℕ, zero, suc, _+_, _-_, _*_, _≤_, _<_}
 use native.Mathlib.Omega.{arith}
 use lib.ListN.{length, getD, drop, drop-of-length-le}
-use lib.Dec.{eqb}
-use borrow.Author.Tests.{eq-eqb, ne-eqb, eqb-false, leb-true, not-true}
+use lib.Dec.{leb, eqb}
+use borrow.Author.Tests.{eq-eqb, eqb-true, le-leb, ne-eqb, eqb-false, leb-true, not-true}
 use Rattle.base.specs.Lists.{every}
 use Rattle.base.proofs.Laws.{clash, drop-next, tests}
 use Rattle.base.proofs.Loops.{and-true}
@@ -15,7 +15,7 @@ use Rattle.columns.specs.Columns.{isDigit, digitValue, digits, numberFrom, numb
 use Rattle.columns.proofs.Laws.{number-grows}
 use Rattle.forms.specs.declared.Form.{Form}
 use Rattle.forms.specs.declared.Form.the-variants.{Fits, Broken}
-use Rattle.forms.specs.Form.{Row, column, free, fromOne, before, strayFrom, unnamed, named, rowForm, formFrom, formOf, isFit, fits}
+use Rattle.forms.specs.Form.{Row, column, free, offsetOf, fromOne, before, strayFrom, unnamed, named, rowForm, formFrom, formOf, isFit, fits}
 use Rattle.forms.specs.Columns.{columnsOf}
 use Rattle.forms.specs.declared.LineKind.{LineKind}
 use Rattle.forms.specs.Rows.{ruleOf, fromOf, toOf, rowOf, ruleNumber, withRule, rowsOf}
@@ -150,6 +150,48 @@ some-digit n (b ∷ p) d z = go (eqb b 48) refl (some-digit (n * 10 + digitValue
 
 pub from-one-says : (line p : List ℕ) → fromOne line p ≡ true → 1 ≤ number p
 from-one-says line p e = let (d, z) = and-true (digits p) (not (every (λ (b : ℕ). eqb b 48) p)) e in some-digit 0 p d (not-true _ z)
+
+-- a test denied twice
+twice : (t : Bool) → t ≡ not (not t)
+twice true = refl
+twice false = refl
+
+-- and all "0" say 0
+zeros-say : (n : ℕ) (p : List ℕ) → n ≡ 0 → every (λ (b : ℕ). eqb b 48) p ≡ true → numberFrom n p ≡ 0
+unfolding every numberFrom
+zeros-say n [] o e = o
+zeros-say n (b ∷ p) o e =
+    let h = and-true (eqb b 48) (every (λ (b : ℕ). eqb b 48) p) e in
+    let v : digitValue b ≡ 0 = rw (eqb-true b 48 (h .0)) refl in
+    zeros-say (n * 10 + digitValue b) p (omega (arith, v, o)) (h .1)
+
+-- The paper's words: "at least 1", "one or more". Of digits, "not all 0" is exactly that their number is at least 1.
+pub one-or-more : (p : List ℕ) → digits p ≡ true → not (every (λ (b : ℕ). eqb b 48) p) ≡ leb 1 (number p)
+one-or-more p d = go (every (λ (b : ℕ). eqb b 48) p) refl
+  where
+    go : (t : Bool) → every (λ (b : ℕ). eqb b 48) p ≡ t → not t ≡ leb 1 (number p)
+    go true e = rw (zeros-say 0 p refl e) refl
+    go false e = sym (le-leb 1 (number p) (some-digit 0 p d e))
+
+-- "density is at least 1"
+pub from-one-is : (line p : List ℕ) → fromOne line p ≡ digits p && leb 1 (number p)
+from-one-is line p = go (digits p) refl
+  where
+    go : (t : Bool) → digits p ≡ t → t && not (every (λ (b : ℕ). eqb b 48) p) ≡ t && leb 1 (number p)
+    go true e = one-or-more p e
+    go false e = refl
+
+-- "One or more repeats need an offset of at least 1, else 4." The repeats, digits, stand in the three columns from c; the offset p beside them
+pub offset-is : (c : ℕ) (line p : List ℕ) → C.blank (C.columns c (c + 2) line) ≡ false → digits (C.columns c (c + 2) line) ≡ true
+    → offsetOf c line p ≡ digits p && (not (leb 1 (number (C.columns c (c + 2) line))) || leb 1 (number p))
+offset-is c line p b d = go (digits p) refl
+  where
+    zero-is : every (λ (b : ℕ). eqb b 48) (C.columns c (c + 2) line) ≡ not (leb 1 (number (C.columns c (c + 2) line)))
+    zero-is = twice (every (λ (b : ℕ). eqb b 48) (C.columns c (c + 2) line)) ∙ ap not (one-or-more (C.columns c (c + 2) line) d)
+
+    go : (t : Bool) → digits p ≡ t → offsetOf c line p ≡ t && (not (leb 1 (number (C.columns c (c + 2) line))) || leb 1 (number p))
+    go true e = rw (b, e, zero-is, one-or-more p e) refl
+    go false e = rw (b, e) refl
 
 -- ---- the form of a kind of line, for `line_form`
 

@@ -91,13 +91,13 @@ abbrev pub detailOf : ℕ → Rule
 detailOf c line p = cond (isStop (F.rangeEnd (C.columns c (c + 6) line))) (isDetail (F.detail p)) true
 
 -- the offset beside the repeats in the three columns from c: "digits, both or neither blank";
--- "One or more repeats need an offset of at least 1, else 4." Digits say 1 or more exactly where not all of them are "0" (byte 48).
+-- "One or more repeats need an offset of at least 1, else 4." Digits say 1 or more exactly where not all of them are "0" (byte 48): laws `one-or-more`, `offset-is`.
 abbrev pub offsetOf : ℕ → Rule
 offsetOf c line p =
     cond (C.blank (C.columns c (c + 2) line)) (C.blank p)
     (C.digits p && (byte 48 line (C.columns c (c + 2) line) || not (byte 48 line p)))
 
--- digits that say at least 1: not all of them are "0" (byte 48)
+-- digits that say at least 1: not all of them are "0" (byte 48); law `from-one-is`
 abbrev pub fromOne : Rule
 fromOne line p = C.digits p && not (byte 48 line p)
 
