@@ -1,0 +1,1 @@
+// No code: the board of an accepted delivery is complete (proofs/Complete).
