@@ -6,9 +6,9 @@ use mathlib.Core.Bool.{Bool, true, false, cond}
 use Prim.Native.Nat.{ℕ, _≤_, _<_}
 use native.Mathlib.Decide.{decLt}
 use native.Mathlib.Omega.{arith}
-use lib.Dec.{ltb, leb, eqb}
-use borrow.Author.Tests.{lt-ltb, le-ltb, le-leb, lt-leb, eq-eqb, ne-eqb, ltb-true, leb-true}
-use Rattle.base.specs.Lists.{All, nil, cons}
+use lib.Dec.{ltb}
+use borrow.Author.Tests.{lt-ltb, le-leb, eq-eqb, ne-eqb, ltb-true, leb-true}
+use Rattle.base.specs.Lists.{nil, cons}
 use Rattle.base.proofs.Laws.{clash, by-eqb, by-ltb}
 use Rattle.sort.specs.Sorted.{insert, sorted}
 use Rattle.sort.specs.Rows.{lower, notAfter, sortedRows}

@@ -15,7 +15,7 @@ use Rattle.timetable.specs.Delivery.{Service}
 use Rattle.timetable.specs.Runs.{hasRun}
 use Rattle.timetable.specs.View.{View, aService}
 use Rattle.timetable.specs.Run.{Run, RunFound, barred, atRest, aRun, runOf, stretchCalls, stretchFrom}
-use Rattle.timetable.specs.Questions.{rowFlags, rowOf, rowsOf, Journey, rows, rowsAlong}
+use Rattle.timetable.specs.Questions.{rowOf, rowsOf, rows, rowsAlong}
 use Rattle.timetable.specs.declared.Call.{Call}
 use Rattle.board.specs.Board.{Departure, boardable, IsDeparture, Among, boardOf}
 use Rattle.board.proofs.Meaning.{Served, board-is}

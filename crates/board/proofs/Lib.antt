@@ -2,3 +2,4 @@ pub mod Among
 pub mod Ascending
 pub mod Meaning
 pub mod Complete
+pub mod Examples

@@ -1,16 +1,16 @@
 -- There is one board (`one-board`), and `boardOf` is it (`board-is`). Assumes nothing.
 use mathlib.Core.Path.{_≡_, refl, ap, _∙_, sym}
-use mathlib.Core.List.{List, [], _∷_, _++_}
-use mathlib.Core.Logic.{_⊎_, inl, inr, ⊎-elim}
+use mathlib.Core.List.{List, [], _∷_}
+use mathlib.Core.Logic.{inl, inr}
 use mathlib.Core.Bool.{Bool, true, false, cond, not, _&&_}
 use mathlib.Core.Option.{Option, none, some}
 use Prim.Native.Nat.{ℕ, zero, suc, _+_, _≤_, _<_}
 use native.Mathlib.Omega.{arith}
 use lib.ListN.{length, getElem?}
-use lib.Dec.{ltb, leb, eqb}
+use lib.Dec.{leb, eqb}
 use borrow.Author.Tests.{lt-ltb, le-leb, eq-eqb, ltb-true, leb-true, eqb-true}
 use Rattle.base.specs.Lists.{gathered, below}
-use Rattle.base.proofs.Laws.{clash, by-ltb}
+use Rattle.base.proofs.Laws.{clash}
 use Rattle.base.proofs.Loops.{and-true}
 use Rattle.timetable.specs.Delivery.{Service}
 use Rattle.timetable.specs.Runs.{hasRun, lateness, openingSound}
@@ -22,7 +22,7 @@ use Rattle.timetable.specs.declared.Course.{Course}
 use Rattle.timetable.specs.declared.Course.the-variants.{Along, NotRunning, Refused}
 use Rattle.spans.specs.Spans.{runs#}
 use Rattle.spans.proofs.Meaning.{has-below, and-both}
-use Rattle.board.specs.Board.{Departure, boardable, IsDeparture, Among, Ascending, IsBoard, departureOf, runDeparture, runsFrom, callDepartures, leaves, placeDepartures, foundDepartures, serviceDepartures, boardOf}
+use Rattle.board.specs.Board.{Departure, boardable, IsDeparture, Among, IsBoard, departureOf, runDeparture, runsFrom, callDepartures, leaves, placeDepartures, foundDepartures, serviceDepartures, boardOf}
 use Rattle.board.proofs.Among.{Distinct, gathered-among, among-gathered, distinct-gathered}
 use Rattle.board.proofs.Ascending.{one-ascending, among-sorted, sorted-among, sorted-ascending}
 

@@ -2,7 +2,7 @@
 -- allowed and the time is not below the first nor above the second, each once, by time, then service, repeat and place in the route; a row is these four
 -- words, service and place from 0." First what a board is (`IsBoard`; there is only one, `one-board`), then the one that there is (`boardOf`, `board-is`;
 -- both laws in proofs/Meaning). Assumes nothing.
-use Prim.Native.Nat.{ℕ, _+_, _*_, _/_, _%_, _≤_, _<_}
+use Prim.Native.Nat.{ℕ, _+_, _/_, _%_, _≤_, _<_}
 use mathlib.Core.Path.{_≡_}
 use mathlib.Core.List.{List, [], _∷_}
 use mathlib.Core.Logic.{_⊎_}

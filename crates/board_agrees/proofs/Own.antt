@@ -1,22 +1,20 @@
 -- By a table's own index a board is the board of the table (`own-board`). Assumes nothing.
 use mathlib.Core.Path.{_≡_, refl, ap, _∙_, sym, fun-ext}
-use mathlib.Core.List.{List, [], _∷_, _++_, map, append-nil, List·Permᴰ, List·Permᴰ·trans}
-use mathlib.Core.Bool.{Bool, true, false, cond, _&&_}
-use mathlib.Core.Option.{Option, none, some}
-use Prim.Native.Nat.{ℕ, zero, suc, _+_, _-_, _*_, _/_, _≤_, _<_}
-use native.Mathlib.Nat.{add-zero}
-use native.Mathlib.Decide.{ℕ-discrete}
+use mathlib.Core.List.{List, [], _∷_, _++_, List·Permᴰ, List·Permᴰ·trans}
+use mathlib.Core.Bool.{Bool, true, false, cond}
+use mathlib.Core.Option.{Option}
+use Prim.Native.Nat.{ℕ, zero, suc, _+_, _-_, _*_, _≤_, _<_}
 use native.Mathlib.Omega.{arith}
-use lib.ListN.{length, getD, getElem?, take, drop, length-append, length-map}
+use lib.ListN.{length, getD, take, drop, length-append, length-map}
 use lib.Seq.{drop-drop, drop-at, getD-drop, take-all}
-use lib.Dec.{eqb, leb, ltb}
-use borrow.Author.Tests.{eq-eqb, ne-eqb, eqb-true, le-leb, lt-leb, lt-ltb}
-use Rattle.base.specs.Lists.{All, nil, cons, gathered, upto, below}
+use lib.Dec.{eqb}
+use borrow.Author.Tests.{eq-eqb, ne-eqb, le-leb, lt-ltb}
+use Rattle.base.specs.Lists.{All, nil, cons, gathered, below}
 use Rattle.base.proofs.Laws.{by-eqb}
 use Rattle.timetable.specs.Delivery.{Service}
 use Rattle.timetable.specs.Layout.{stopSize, serviceHead, callSize}
-use Rattle.timetable.specs.Table.{word, usedWords, stops#, services#, bitFields#, calls#, callAt, rowsIn, serviceAt, withStop, withStops, resolved, stopNumberAt, tableOf}
-use Rattle.timetable.specs.View.{View, ServiceFound, noService, aService, serviceBy, viewOf}
+use Rattle.timetable.specs.Table.{usedWords, stops#, services#, calls#, callAt, rowsIn, serviceAt, withStop, withStops, resolved, stopNumberAt, tableOf}
+use Rattle.timetable.specs.View.{View, aService, serviceBy, viewOf}
 use Rattle.timetable.specs.Run.{courseOn}
 use Rattle.timetable.specs.declared.Call.{Call}
 use Rattle.timetable.proofs.Rows.{length-rows}
@@ -24,21 +22,21 @@ use Rattle.table.specs.JustTable.{JustTable, stopsPlace}
 use Rattle.table.proofs.Records.{first-word}
 use Rattle.lookups.specs.Lookups.{servicePlace}
 use Rattle.lookups.proofs.Services.{service-is}
-use Rattle.chains.specs.Chains.{greatest, hasKey, keyOf, firstBy, nextBy}
+use Rattle.chains.specs.Chains.{greatest, hasKey, keyOf, nextBy}
 use Rattle.chains.proofs.Agrees.{first-agrees, next-agrees}
-use Rattle.index.specs.Index.{stopsFrom, interchangesFrom, fieldSection, stopSection, interchangeSection, classSection, sectionEnd, chainsOf, placesOf, indexOf, viewIn}
+use Rattle.index.specs.Index.{stopsFrom, fieldSection, stopSection, interchangeSection, classSection, sectionEnd, chainsOf, placesOf, indexOf, viewIn}
 use Rattle.index.proofs.Agrees.{view-agrees, length-of}
-use Rattle.calls.specs.Calls.{Stand, standAt, standsFrom, callsOf, allCalls, callOf, stopOf, atStop, lastAt, entryBy, entryOf, callIndexOf, callIndexSize}
+use Rattle.calls.specs.Calls.{Stand, standAt, standsFrom, callsOf, allCalls, callOf, stopOf, atStop, lastAt, entryBy, entryOf, callIndexOf}
 use Rattle.calls.proofs.Calls.{call-number, each-inside, all-few}
 use Rattle.calls.proofs.Words.{index-long}
 use Rattle.calls_at.specs.Listed.{listedTo, listedAt}
 use Rattle.calls_at.proofs.Chain.{head-held, word-held, at-is}
 use Rattle.calls_at.proofs.Meaning.{Proper, call-proper}
 use Rattle.calls_at.proofs.Boards.{calls-by-service, listed-all}
-use Rattle.sort.specs.Rows.{notAfter, sortedRows}
+use Rattle.sort.specs.Rows.{notAfter}
 use Rattle.sort.proofs.Meaning.{perm-sorted}
 use Rattle.sort.proofs.Order.{row-order}
-use Rattle.board.specs.Board.{Departure, boardable, runsFrom, callDepartures, leaves, placeDepartures, foundDepartures, serviceDepartures, boardOf}
+use Rattle.board.specs.Board.{Departure, callDepartures, leaves, serviceDepartures, boardOf}
 use Rattle.board_runs.specs.Batch.{foundAt, departuresAt}
 use Rattle.board_runs.proofs.Needs.{call-there}
 use Rattle.stop_calls.specs.StopCalls.{chained, entries#, entryWord, callsOn, stopsBy, callsBy}

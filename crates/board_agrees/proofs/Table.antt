@@ -1,27 +1,26 @@
 -- The board that the contracts cite is a board by its definition: for the view of any words (`shown-board`) and of a table (`table-board`). And whatever the words of the
 -- calls: what a quick board lists is a departure (`by-only`). Assumes nothing.
-use mathlib.Core.Path.{_≡_, refl, ap, _∙_, sym}
-use mathlib.Core.List.{List, [], _∷_, _++_}
+use mathlib.Core.Path.{_≡_, refl, ap}
+use mathlib.Core.List.{List, [], _∷_}
 use mathlib.Core.Logic.{⊎-elim}
 use mathlib.Core.Bool.{Bool, true, false, cond}
-use Prim.Native.Nat.{ℕ, _≤_, _<_}
-use native.Mathlib.Omega.{arith}
-use lib.ListN.{length, take}
+use Prim.Native.Nat.{ℕ, _<_}
+use lib.ListN.{take}
 use lib.Dec.{ltb}
-use borrow.Author.Tests.{ltb-true, ltb-false, lt-ltb, le-ltb}
+use borrow.Author.Tests.{ltb-true}
 use Rattle.base.specs.Lists.{gathered}
-use Rattle.base.proofs.Laws.{clash, by-ltb}
+use Rattle.base.proofs.Laws.{clash}
 use Rattle.timetable.specs.Delivery.{Service}
 use Rattle.timetable.specs.Table.{services#, stops#, usedWords, tableOf}
-use Rattle.timetable.specs.View.{View, ServiceFound, noService, aService, viewOf}
+use Rattle.timetable.specs.View.{ServiceFound, noService, aService, viewOf}
 use Rattle.table.specs.JustTable.{JustTable}
 use Rattle.index.specs.Index.{recordIn, recordFrom, recordPlaceIn, serviceFrom, stopsFrom, stopSection, sectionEnd, viewIn}
 use Rattle.index.proofs.Agrees.{view-plain}
 use Rattle.stop_calls.specs.StopCalls.{entryWord, callsBy}
-use Rattle.board.specs.Board.{Departure, Among, IsDeparture, IsBoard, placeDepartures, boardOf}
+use Rattle.board.specs.Board.{Departure, Among, IsDeparture, IsBoard, boardOf}
 use Rattle.board.proofs.Among.{among-either}
 use Rattle.board.proofs.Ascending.{among-sorted}
-use Rattle.board.proofs.Meaning.{Served, Offered, place-among, offered-departure, board-is}
+use Rattle.board.proofs.Meaning.{Served, place-among, offered-departure, board-is}
 use Rattle.board_runs.specs.Batch.{foundAt, departuresAt}
 use Rattle.boards.specs.ByWords.{departuresBy, boardBy}
 use Rattle.boards.specs.ByWords as B

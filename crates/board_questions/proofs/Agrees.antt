@@ -1,18 +1,17 @@
 -- THE AGREEMENT: of a table and its own index the quick board is the plain one (`quick-agrees`), and the plain one answers no 43 (`own-index`). Assumes nothing.
-use mathlib.Core.Path.{_≡_, refl, ap, _∙_, sym}
+use mathlib.Core.Path.{_≡_, refl, ap, _∙_}
 use mathlib.Core.List.{List}
-use mathlib.Core.Bool.{Bool, true, false, cond, _&&_}
+use mathlib.Core.Bool.{true, cond}
 use Prim.Native.Nat.{ℕ, _+_, _-_, _*_, _%_}
 use native.Mathlib.Omega.{arith}
-use lib.ListN.{length, getD, take, drop, length-append}
+use lib.ListN.{length, take, drop, length-append}
 use lib.Seq.{take-at, drop-at, getD-take}
-use lib.Dec.{leb, eqb}
 use borrow.Author.Tests.{le-leb}
 use Rattle.timetable.specs.Layout.{headerSize}
-use Rattle.timetable.specs.Questions.{asked, Dated, undated, dated, dateOf}
+use Rattle.timetable.specs.Questions.{Dated, undated, dated, dateOf}
 use Rattle.timetable.specs.Table.{usedWords, stops#, services#, used, tableOf, isTable}
 use Rattle.timetable.specs.View.{View, viewOf}
-use Rattle.table.specs.JustTable.{JustTable, headerSound}
+use Rattle.table.specs.JustTable.{JustTable}
 use Rattle.table.proofs.Says.{table-parts, table-says}
 use Rattle.table.proofs.JustTable.{used-just, used-same}
 use Rattle.chain_check.specs.Tally.{same}
@@ -21,11 +20,11 @@ use Rattle.index.specs.Index.{indexSize, indexOf, headed, viewIn}
 use Rattle.index.specs.Quick.{indexLong, lookupsOf}
 use Rattle.index.proofs.Agrees.{view-agrees}
 use Rattle.index.proofs.Quick.{length-index}
-use Rattle.calls.specs.Calls.{allCalls, callIndexOf, callIndexSize}
+use Rattle.calls.specs.Calls.{allCalls, callIndexOf}
 use Rattle.calls.proofs.Words.{index-long}
 use Rattle.whole_index.specs.Whole.{wholeIndexOf}
 use Rattle.board.specs.Board.{boardOf}
-use Rattle.board.specs.Question.{BoardFound, refused, board, boardOn, boardIn, boardAsked}
+use Rattle.board.specs.Question.{refused, board, boardOn, boardIn, boardAsked}
 use Rattle.boards.specs.ByWords.{boardBy}
 use Rattle.board_agrees.proofs.Own.{own-board}
 use Rattle.board_questions.specs.Quick.{boardByDay, boardByWords, callsPart, boardQuick}

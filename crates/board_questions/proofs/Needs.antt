@@ -1,18 +1,17 @@
 -- The needs of the functions of src: each value that code computed stands with its equation. Assumes nothing.
 use mathlib.Core.Path.{_≡_, refl, ap, _∙_, sym}
-use mathlib.Core.List.{List, _++_}
-use mathlib.Core.Bool.{Bool, true, false, cond, not, _&&_}
+use mathlib.Core.List.{List}
+use mathlib.Core.Bool.{Bool, true, false, cond, not}
 use Prim.Native.Nat.{ℕ, _+_, _-_, _*_, _^_, _≤_, _<_}
 use native.Mathlib.Nat.{sub-zero}
 use native.Mathlib.Omega.{arith}
 use lib.ListN.{length, getD, take, drop, length-append, length-drop}
 use lib.Seq.{take-at, drop-at, getD-take, length-take-le}
-use lib.Dec.{leb, eqb}
+use lib.Dec.{leb}
 use borrow.Author.Tests.{not-true, not-false, leb-true}
 use Rattle.base.proofs.Laws.{tests}
 use Rattle.base.proofs.Loops.{and-true}
-use Rattle.timetable.specs.Layout.{mostPeriodDays}
-use Rattle.timetable.specs.Questions.{asked, Dated, undated, dated, dateOf}
+use Rattle.timetable.specs.Questions.{dated, dateOf}
 use Rattle.timetable.specs.Table.{usedWords, stops#, services#, used, tableOf, isTable}
 use Rattle.timetable.specs.View.{View, viewOf}
 use Rattle.table.specs.JustTable.{JustTable, headerSound}
@@ -29,14 +28,14 @@ use Rattle.index.specs.Index.{indexSize, indexOf, headed, Ready, viewIn}
 use Rattle.index.specs.Quick.{indexLong, lookupsOf, quickRefusal}
 use Rattle.index.proofs.Agrees.{view-plain}
 use Rattle.index.proofs.Shows.{day-low}
-use Rattle.index.proofs.Quick.{asked-refused, asked-on, plain-table, plain-ready, quick-headed, quick-head, quick-long, quick-ready, length-index}
+use Rattle.index.proofs.Quick.{asked-refused, asked-on, plain-table, quick-headed, quick-head, quick-long, quick-ready, length-index}
 use Rattle.calls.specs.Calls.{callIndexOf, callIndexSize}
 use Rattle.calls.proofs.Words.{index-long}
 use Rattle.whole_index.specs.Whole.{wholeIndexOf}
 use Rattle.board.specs.Board.{boardOf}
 use Rattle.board.specs.Question.{BoardFound, refused, board, boardOn, boardIn, boardAsked, boardedBy, boardInto}
 use Rattle.board.specs.declared.BoardAnswer.{BoardAnswer}
-use Rattle.board.specs.declared.BoardAnswer.the-variants.{Listed, Refused}
+use Rattle.board.specs.declared.BoardAnswer.the-variants.{Refused}
 use Rattle.boards.specs.ByWords.{boardBy, Lends}
 use Rattle.board_agrees.proofs.Own.{own-board}
 use Rattle.board_questions.specs.Quick.{boardByDay, boardByWords, callsPart, boardQuick}

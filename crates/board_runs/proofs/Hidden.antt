@@ -1,31 +1,28 @@
 -- The needs of the first look at a call: where the opening line and the call say no, nothing leaves. Assumes nothing.
 use mathlib.Core.Path.{_≡_, refl, ap, _∙_, sym}
-use mathlib.Core.List.{List, [], _∷_, map}
+use mathlib.Core.List.{List, [], map}
 use mathlib.Core.Bool.{Bool, true, false, cond, not, _&&_}
 use mathlib.Core.Option.{Option, none, some}
-use Prim.Native.Nat.{ℕ, _+_, _-_, _*_, _^_, _≤_, _<_}
+use Prim.Native.Nat.{ℕ, _+_, _*_, _^_, _≤_, _<_}
 use native.Mathlib.Omega.{arith}
-use lib.ListN.{length, getD, getElem?, drop, length-drop}
+use lib.ListN.{length, getElem?, drop, length-drop}
 use lib.Dec.{eqb, ltb}
 use borrow.Author.Tests.{lt-ltb, le-ltb, ltb-false, not-true, not-false}
-use Rattle.base.specs.Lists.{upto}
 use Rattle.base.proofs.Laws.{tests, clash, by-ltb}
 use Rattle.base.proofs.Loops.{upto-none}
-use Rattle.timetable.specs.Delivery.{Service}
 use Rattle.timetable.specs.Layout.{serviceHead, callSize}
 use Rattle.timetable.specs.Runs.{openingSound}
 use Rattle.timetable.specs.Table.{stops#, services#, calls#, callAt, openingAt, serviceAt, withStop, withStops, recordSound}
-use Rattle.timetable.specs.View.{View, ServiceFound, noService, aService}
 use Rattle.timetable.specs.Run.{courseOn}
 use Rattle.timetable.specs.declared.Call.{Call}
 use Rattle.timetable.specs.declared.Opening.{Opening}
-use Rattle.index.specs.Index.{Ready, recordPlaceIn, recordFrom, recordIn, serviceFrom, viewIn}
+use Rattle.index.specs.Index.{recordPlaceIn, recordFrom, recordIn, serviceFrom, viewIn}
 use Rattle.index.specs.declared.ServiceRecord.{ServiceRecord}
 use Rattle.index.specs.declared.ServiceRecord.the-variants.{From, Refused}
 use Rattle.index.proofs.Shows.{ready-head, ready-word}
 use Rattle.spans.specs.Spans.{firstRun, endRun, spanOf}
 use Rattle.spans.specs.declared.Span.{Span}
-use Rattle.board.specs.Board.{Departure, boardable, departureOf, runsFrom, callDepartures, leaves, placeDepartures}
+use Rattle.board.specs.Board.{boardable, departureOf, runsFrom, callDepartures, leaves}
 use Rattle.board_runs.specs.Batch.{foundAt, departuresAt, Batched, leavesWithin, Hides}
 use Rattle.board_runs.specs.declared.Batch.{Batch}
 use Rattle.board_runs.proofs.Interval.{runs-in-a-row}

@@ -1,8 +1,8 @@
 -- The runs that leave a call within a span follow each other: what trying every run gives is what counting from one run to another gives. Assumes nothing.
-use mathlib.Core.Path.{_≡_, refl, ap, _∙_, sym}
+use mathlib.Core.Path.{_≡_, ap, _∙_, sym}
 use mathlib.Core.List.{List, [], _∷_, _++_, map}
 use mathlib.Core.Logic.{⊎-elim}
-use mathlib.Core.Bool.{Bool, true, false, cond, _&&_}
+use mathlib.Core.Bool.{Bool, true, cond, _&&_}
 use Prim.Native.Nat.{ℕ, zero, suc, _+_, _-_, _≤_, _<_}
 use native.Mathlib.Nat.{eq-or-lt-of-le}
 use native.Mathlib.Decide.{decLt}
@@ -12,9 +12,9 @@ use borrow.Author.Tests.{lt-ltb, le-ltb, le-leb, lt-leb}
 use Rattle.base.specs.Lists.{gathered, upto}
 use Rattle.timetable.specs.Runs.{hasRun, lateness, openingSound}
 use Rattle.timetable.specs.declared.Opening.{Opening}
-use Rattle.spans.specs.Spans.{runs#, mostRuns, firstRun, endRun, spanOf}
-use Rattle.spans.proofs.Meaning.{has-below, span-runs, within-few, end-runs}
-use Rattle.board.specs.Board.{Departure, departureOf, runDeparture, runsFrom}
+use Rattle.spans.specs.Spans.{runs#, firstRun, endRun, spanOf}
+use Rattle.spans.proofs.Meaning.{has-below, span-runs, end-runs}
+use Rattle.board.specs.Board.{departureOf, runsFrom}
 
 -- ---- numbers in a row that pass a test
 

@@ -1,12 +1,12 @@
 -- The needs of the functions of src: each value that code computed stands with its equation. Assumes nothing.
 use mathlib.Core.Path.{_≡_, refl, ap, _∙_, sym}
-use mathlib.Core.List.{List, [], _∷_, _++_, map}
+use mathlib.Core.List.{List, [], _∷_, map}
 use mathlib.Core.Bool.{Bool, true, false, cond, not, _&&_}
 use mathlib.Core.Option.{Option, none, some}
 use Prim.Native.Nat.{ℕ, zero, suc, _+_, _-_, _*_, _/_, _%_, _^_, _≤_, _<_}
 use native.Mathlib.Nat.{mul-zero, mul-suc}
 use native.Mathlib.Omega.{arith}
-use lib.ListN.{length, getD, getElem?, take, drop}
+use lib.ListN.{length, getD, getElem?, drop}
 use lib.Seq.{drop-drop}
 use lib.Dec.{eqb, leb, ltb}
 use borrow.Author.Tests.{eq-eqb, ne-eqb, lt-ltb, le-ltb, le-leb, lt-leb, not-true, not-false}
@@ -15,29 +15,28 @@ use Rattle.base.proofs.Laws.{tests, by-ltb}
 use Rattle.base.proofs.Loops.{upto-next, upto-none}
 use Rattle.timetable.specs.Layout.{serviceHead, callSize, latestTime, mostDelay}
 use Rattle.timetable.specs.Runs.{hasRun, lateness, openingSound}
-use Rattle.timetable.specs.Delivery.{Service}
-use Rattle.timetable.specs.Table.{stops#, calls#, rowsIn, callAt, openingAt, serviceAt, withStop, withStops, callSound, sizesSound, recordSound}
-use Rattle.timetable.specs.View.{View, ServiceFound, noService, aService}
+use Rattle.timetable.specs.Table.{calls#, rowsIn, callAt, openingAt, serviceAt, withStop, withStops, sizesSound, recordSound}
+use Rattle.timetable.specs.View.{View}
 use Rattle.timetable.specs.Run.{courseOn}
 use Rattle.timetable.specs.declared.Call.{Call}
 use Rattle.timetable.specs.declared.Opening.{Opening}
 use Rattle.timetable.specs.declared.Course.{Course}
 use Rattle.timetable.specs.declared.Course.the-variants.{Along, NotRunning, Refused}
-use Rattle.table.proofs.Says.{record-says, record-sized, call-sound, call-says, head-word}
+use Rattle.table.proofs.Says.{record-says, record-sized, call-sound, call-says}
 use Rattle.words.specs.Words.{write}
 use Rattle.words.proofs.Laws.{write-none, write-turn, length-write}
-use Rattle.index.specs.Index.{Ready, recordIn, viewIn}
+use Rattle.index.specs.Index.{recordIn, viewIn}
 use Rattle.index.specs.declared.ServiceRecord.{ServiceRecord}
 use Rattle.index.specs.declared.ServiceRecord.the-variants.{From, Refused as RecordRefused}
 use Rattle.index.proofs.Records.{record-refused, record-service, record-sound, record-within}
 use Rattle.rows.specs.Rows.{shownBy}
 use Rattle.course.proofs.Laws.{on-shown}
 use Rattle.sort.specs.Rows.{rowWords}
-use Rattle.spans.specs.Spans.{runs#, firstRun, endRun, spanOf}
+use Rattle.spans.specs.Spans.{runs#, spanOf}
 use Rattle.spans.specs.declared.Span.{Span}
 use Rattle.spans.proofs.Meaning.{has-below, end-runs}
 use Rattle.board.specs.Board.{Departure, boardable, departureOf, runsFrom, callDepartures, leaves, placeDepartures}
-use Rattle.board_runs.specs.Batch.{foundAt, departuresAt, batchRows, Batched}
+use Rattle.board_runs.specs.Batch.{departuresAt, batchRows, Batched}
 use Rattle.board_runs.specs.declared.Batch.{Batch}
 use Rattle.board_runs.proofs.Interval.{runs-in-a-row}
 

@@ -1,32 +1,29 @@
 -- Of an accepted delivery no run's walk is refused (demand 3), so its boards are complete (`accepted-complete`): each run that a service of its own text has rests on the
 -- date, or each of its departures from the stop within the two times is on the board that `ask_board` lists. Assumes nothing.
-use mathlib.Core.Path.{_≡_, refl, ap, _∙_, sym}
+use mathlib.Core.Path.{_≡_, refl, ap, _∙_}
 use mathlib.Core.List.{List, []}
-use mathlib.Core.Bool.{Bool, true, false, cond, _&&_}
+use mathlib.Core.Bool.{Bool, true, false}
 use mathlib.Core.Option.{Option, none, some}
 use Prim.Native.Nat.{ℕ, _+_, _-_, _≤_, _<_}
 use native.Mathlib.Omega.{arith}
-use lib.ListN.{length, getD, getElem?}
+use lib.ListN.{length, getElem?}
 use lib.Seq.{getD-take}
-use lib.Dec.{leb, ltb}
 use borrow.Author.Tests.{le-leb, lt-ltb}
 use Rattle.base.proofs.Laws.{clash}
 use Rattle.calendar.specs.Calendar.{dayOf}
-use Rattle.calendar.specs.declared.Date.{Date}
 use Rattle.calendar.specs.declared.Date.the-variants.{Day}
 use Rattle.timetable.specs.Delivery.{Files, Service}
 use Rattle.timetable.specs.Load.{loaded, written, delivered}
 use Rattle.timetable.specs.Runs.{hasRun}
 use Rattle.timetable.specs.Table.{usedWords, services#, used, tableOf, isTable}
-use Rattle.timetable.specs.View.{View, ServiceFound, noService, aService, serviceBy, viewOf}
-use Rattle.timetable.specs.Run.{RunFound, barred, runOf}
-use Rattle.timetable.specs.Questions.{Dated, dated, datedBy, dateOf, datedRun, refused, rowsAlong, journey, walkOf}
+use Rattle.timetable.specs.View.{ServiceFound, noService, aService, serviceBy, viewOf}
+use Rattle.timetable.specs.Run.{barred, runOf}
+use Rattle.timetable.specs.Questions.{Dated, dated, dateOf, datedRun, refused, rowsAlong, journey, walkOf}
 use Rattle.timetable.specs.declared.Loaded.the-variants.{Accepted}
 use Rattle.table.proofs.Says.{table-says}
 use Rattle.table.proofs.JustTable.{used-just, used-same}
 use Rattle.index.specs.Index.{viewIn}
 use Rattle.index.proofs.Agrees.{view-plain}
-use Rattle.whole_runs.specs.Promise.{Asked}
 use Rattle.whole_runs.proofs.Accepted.{table-is, table-holds}
 use Rattle.whole_runs.proofs.Demand3.{demand3}
 use Rattle.board.proofs.Meaning.{Served}

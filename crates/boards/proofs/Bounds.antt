@@ -1,19 +1,19 @@
 -- How many departures there can be: at most as many from a call as a service has runs. Assumes nothing.
 use mathlib.Core.Path.{_≡_, refl, ap, _∙_, sym}
-use mathlib.Core.List.{List, [], _∷_, _++_, map}
+use mathlib.Core.List.{List, [], _∷_}
 use mathlib.Core.Bool.{Bool, true, false, cond, _&&_}
 use mathlib.Core.Option.{Option, none, some}
-use Prim.Native.Nat.{ℕ, zero, suc, _+_, _-_, _*_, _≤_, _<_}
-use native.Mathlib.Nat.{mul-le-mul, mul-suc}
+use Prim.Native.Nat.{ℕ, _-_, _*_, _≤_}
+use native.Mathlib.Nat.{mul-suc}
 use native.Mathlib.Omega.{arith}
-use lib.ListN.{length, getElem?, take, drop, length-append, length-take}
+use lib.ListN.{length, getElem?, drop, length-append}
 use lib.Dec.{eqb}
-use Rattle.base.specs.Lists.{gathered, upto}
+use Rattle.base.specs.Lists.{gathered}
 use Rattle.base.proofs.Lists.{length-map-upto}
 use Rattle.base.proofs.Laws.{clash}
 use Rattle.timetable.specs.Delivery.{Service}
 use Rattle.timetable.specs.Runs.{openingSound}
-use Rattle.timetable.specs.Table.{stops#, usedWords, openingAt, serviceAt, withStops}
+use Rattle.timetable.specs.Table.{stops#, serviceAt, withStops}
 use Rattle.timetable.specs.View.{View, ServiceFound, noService, aService}
 use Rattle.timetable.specs.Run.{courseOn}
 use Rattle.timetable.specs.declared.Call.{Call}
@@ -23,12 +23,11 @@ use Rattle.index.specs.Index.{recordIn, viewIn}
 use Rattle.index.specs.declared.ServiceRecord.{ServiceRecord}
 use Rattle.index.specs.declared.ServiceRecord.the-variants.{From, Refused}
 use Rattle.index.proofs.Records.{record-refused, record-service, record-sound}
-use Rattle.spans.specs.Spans.{runs#, mostRuns, firstRun, endRun}
+use Rattle.spans.specs.Spans.{mostRuns, firstRun, endRun}
 use Rattle.spans.proofs.Meaning.{end-few}
-use Rattle.board.specs.Board.{Departure, boardable, departureOf, runsFrom, callDepartures, leaves, placeDepartures}
+use Rattle.board.specs.Board.{boardable, departureOf, runsFrom, callDepartures, leaves, placeDepartures}
 use Rattle.board_runs.specs.Batch.{foundAt, departuresAt}
 use Rattle.board_runs.proofs.Interval.{runs-in-a-row}
-use Rattle.boards.specs.ByWords.{departuresBy}
 
 -- every service that words and an index show has an opening line as a table has it
 pub opening-shown : (w x : List ℕ) (i : ℕ) (s : Service) → viewIn w x .service i ≡ aService s → openingSound (s .opening) ≡ true

@@ -1,28 +1,25 @@
 -- The needs of the functions of src: each value that code computed stands with its equation. Assumes nothing.
 use mathlib.Core.Path.{_≡_, refl, ap, _∙_, sym}
-use mathlib.Core.List.{List, [], _∷_, _++_, map}
-use mathlib.Core.Bool.{Bool, true, false, cond}
+use mathlib.Core.List.{List, [], _∷_, _++_}
+use mathlib.Core.Bool.{true}
 use Prim.Native.Nat.{ℕ, zero, suc, _+_, _-_, _*_, _^_, _≤_, _<_}
-use native.Mathlib.Nat.{mul-zero, mul-le-mul}
+use native.Mathlib.Nat.{mul-le-mul}
 use native.Mathlib.Omega.{arith}
 use lib.ListN.{length, getD, take, length-append, length-take}
-use lib.Dec.{eqb, ltb}
 use borrow.Author.Tests.{eq-eqb, lt-ltb, le-ltb}
-use Rattle.base.specs.Lists.{gathered, upto}
+use Rattle.base.specs.Lists.{gathered}
 use Rattle.base.proofs.Laws.{tests}
 use Rattle.base.proofs.Lists.{gathered-append, length-map-upto}
 use Rattle.timetable.specs.Layout.{latestTime}
 use Rattle.timetable.specs.Load.{onto}
 use Rattle.timetable.specs.Runs.{openingSound}
-use Rattle.timetable.specs.Table.{usedWords, stops#, bitFields#}
 use Rattle.timetable.specs.View.{View}
 use Rattle.timetable.proofs.Rows.{any, all-any, length-gathered}
 use Rattle.table.specs.JustTable.{headerSound}
 use Rattle.table.proofs.Says.{header-says, header-word}
 use Rattle.words.specs.Words.{write}
 use Rattle.words.proofs.Laws.{write-none, write-turn, write-front, length-write}
-use Rattle.chains.specs.Chains.{Records}
-use Rattle.index.specs.Index.{stopsFrom, stopSection, sectionEnd, indexSize, Ready, viewIn}
+use Rattle.index.specs.Index.{stopsFrom, stopSection, sectionEnd, Ready, viewIn}
 use Rattle.index.proofs.Sections.{sections-fit}
 use Rattle.sort.specs.Rows.{rowWords, sortedRows, inOrder}
 use Rattle.sort.proofs.Sorted.{length-sorted}
@@ -31,7 +28,6 @@ use Rattle.sort.specs.Rows.{notAfter}
 use Rattle.spans.specs.Spans.{runs#, mostRuns}
 use Rattle.board.specs.Board.{Departure, departureOf}
 use Rattle.board.specs.Question.{board, boardedBy, boardInto}
-use Rattle.board.specs.declared.BoardAnswer.{BoardAnswer}
 use Rattle.board.specs.declared.BoardAnswer.the-variants.{Listed, Refused}
 use Rattle.board_runs.specs.Batch.{departuresAt, batchRows, Batched}
 use Rattle.board_runs.specs.declared.Batch.{Batch}

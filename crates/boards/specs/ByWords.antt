@@ -1,11 +1,10 @@
 -- A board as any words and any index show it: `x` the words of the look-ups, `y` those of the calls. For a table and its own index this is the board (`own-board`,
 -- board_agrees/proofs/Own): nobody has to believe this file for that. Assumes nothing.
-use Prim.Native.Nat.{ℕ, _+_, _*_, _≤_, _<_}
+use Prim.Native.Nat.{ℕ, _+_, _*_, _≤_}
 use mathlib.Core.Path.{_≡_}
 use mathlib.Core.List.{List}
 use lib.ListN.{length, take}
 use Rattle.base.specs.Lists.{gathered}
-use Rattle.timetable.specs.Layout.{mostPeriodDays}
 use Rattle.timetable.specs.Table.{usedWords, stops#}
 use Rattle.timetable.specs.View.{View}
 use Rattle.index.specs.Index.{stopsFrom, stopSection, sectionEnd, indexSize, Ready, viewIn}

@@ -16,7 +16,6 @@ ghost use Prim.Native.Nat.{_+_, _*_, _≤_, _<_};
 ghost use lib.ListN.{length};
 ghost use Rattle.base.specs.Lists.{gathered};
 ghost use Rattle.timetable.specs.Layout.{mostPeriodDays};
-ghost use Rattle.timetable.specs.Table.{stops#};
 ghost use Rattle.table.specs.JustTable.{headerSound};
 ghost use Rattle.words.specs.Words.{write};
 ghost use Rattle.index.specs.Index.{stopsFrom, stopSection, sectionEnd, Ready, viewIn};

@@ -3,7 +3,6 @@ use timetable::KIND_T;
 use timetable::Opening;
 ghost use mathlib.Core.Path.{_≡_};
 ghost use mathlib.Core.Bool.{true};
-ghost use Prim.Native.Nat.{_≤_};
 ghost use Rattle.timetable.specs.Runs.{openingSound};
 ghost use Rattle.spans.specs.Spans as S;
 
