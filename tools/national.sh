@@ -21,7 +21,7 @@ case ${*:-} in
 '') set -- 1 4 16 ;;
 worst)
     set -- 4:20000:20000:consecutive 4:20000:20000:equal-ending 4:20000:20000:random bitfeld:16 bahnhof:16 umsteigb:16 shortest:16 \
-        shortest:16:equal-ending shortest:16:random zugart:0.1 categories:4:500 empty:16 worst:4:500 worst:4 worst:4:20000
+        shortest:16:equal-ending shortest:16:random zugart:1 zugart:16 categories:4:500 categories:4:5000 empty:16 worst:4:500 worst:4 worst:4:20000
     ;;
 esac
 command -v valgrind >/dev/null || { echo 'national.sh: no valgrind on the path' >&2; exit 1; }
