@@ -77,8 +77,8 @@ impl<'t> Connection<'t> {
     ///
     /// # Errors
     ///
-    /// The first bad part, counted from 1, and why: 47, 48, 49 or 50; 46, without a part, unless there are 1 to 10. Of the parts of one accepted
-    /// delivery, that are runs of it, no other: that is proved.
+    /// The first bad part, counted from 1, and why: 47, 48, 49 or 50; 46, without a part, unless there are 1 to 10. Of an accepted
+    /// delivery no 38 comes, and of a walk's own refusals only 22 to 25: that is proved; a run that was listed is refused by none of these.
     pub fn check(&self) -> Result<(), BadPart> {
         let parts: Vec<_> = self.parts.iter().map(bare).collect();
         self.scope.indexed().connection(&parts)

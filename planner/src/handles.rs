@@ -766,7 +766,7 @@ impl<'t> Departure<'t> {
     /// The call at which it leaves, with the number, the administration and the category that hold from there on. It walks the run.
     pub fn call(self) -> Call<'t> {
         let mut calls = self.run.calls();
-        // A board lists what a walk lists: that is proved.
+        // Each departure is a row of its run's walk: that is proved (`departure-row`).
         calls.find(|call| call.place == self.place).unwrap_or_else(|| panic!("{:?} is no call of its run", self))
     }
 }
