@@ -4,7 +4,7 @@
 # An edit costs a check of its whole crate, so it holds every wrong program that can stand beside the others: each of another function, or of another way out of one. A function is proved against contracts alone,
 # so what is refused of one is not refused for another's sake. Of each the edit says, in lines that rt passes over,
 #
-#   wrong: NAME                    what docs/PROOFS.md calls it
+#   wrong: NAME                    its name, by which papers call it; tools/wrong.sh lists them
 #   refused at: FILE DECLARATION   the declaration of the proofs that must fail, for its own fact: not because another one does, nor because the proof no longer fits the code's shape
 #
 # Ends with 'refused.sh: N wrong programs in M edits, each refused at its own place'.
