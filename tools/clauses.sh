@@ -38,7 +38,9 @@ theorems() {
         part=$(basename "$file" .antt)
         awk -v of="proofs.$1.Reads." -v part="$part" '
             index($0, of) && match($0, /Learnt as [a-z0-9-]+/) { allowed = substr($0, RSTART + 10, RLENGTH - 10) }
-            allowed != "" && /^pub [^ ]+ : / && index($0 " ", " " allowed " ") { print part, $2 }' "$file"
+            /^pub [^ ]+ :/ { theorem = $2 }
+            theorem != "" && index($0, theorem " ") == 1 { theorem = "" }
+            allowed != "" && theorem != "" && index($0 " ", " " allowed " ") { print part, theorem }' "$file"
     done
 }
 
