@@ -10,17 +10,19 @@ seed=${1:-1} count=${2:-20000} first=${3:-0}
 # The programs of requests.sh whose functions the archive has; a further one is named here when its functions land.
 requests='indexes quick boards quick_boards connections quick_connections writes isolation'
 
-# The crate as a user of cargo has it, where there is cargo: form, lints, documentation, tests.
+# The crates as a user of cargo has them, where there is cargo: form, lints, documentation, tests.
 as_cargo_user() {
     for tool in cargo cargo-fmt cargo-clippy; do
         command -v "$tool" >/dev/null || { say "no $tool on the path, so the crate is not tried with cargo"; return 0; }
     done
-    set -- --manifest-path planner/Cargo.toml
-    cargo fmt "$@" --check
-    set -- "$@" --quiet --target-dir "$out/cargo"
-    ESTELUNYA_LIB=$ARCHIVE cargo clippy "$@" --all-targets -- -D warnings
-    ESTELUNYA_LIB=$ARCHIVE RUSTDOCFLAGS='-D warnings' cargo doc "$@"
-    ESTELUNYA_LIB=$ARCHIVE cargo test "$@"
+    for crate in planner desk; do
+        set -- --manifest-path "$crate/Cargo.toml"
+        cargo fmt "$@" --check
+        set -- "$@" --quiet --target-dir "$out/cargo"
+        ESTELUNYA_LIB=$ARCHIVE cargo clippy "$@" --all-targets -- -D warnings
+        ESTELUNYA_LIB=$ARCHIVE RUSTDOCFLAGS='-D warnings' cargo doc "$@" --no-deps
+        ESTELUNYA_LIB=$ARCHIVE cargo test "$@"
+    done
 }
 
 planner_library
@@ -37,8 +39,8 @@ linked quay_screen planner/examples/quay_screen.rs
 tests='boards connections dates days handles helper index keys largest names refusals room rows runs table'
 for test in $tests; do linked "$test" "planner/tests/$test.rs" --test; done
 program own_tests planner/src/lib.rs --test -L "$ARCHIVE" -l static=estelunya
-linked desk planner/src/bin/desk/main.rs
-linked desk_tests planner/src/bin/desk/main.rs --test
+linked desk desk/src/main.rs
+linked desk_tests desk/src/main.rs --test
 # shellcheck disable=SC2016 # the marks of a block
 sed -n '/^```rust$/,/^```$/p' README.md | sed '/^```/d' >"$out/readme.rs"
 linked readme "$out/readme.rs"

@@ -54,7 +54,9 @@ impl Month {
         MONTHS.iter().copied().find(|month| month.number() == number)
     }
 
-    fn days(self, year: u32) -> u32 {
+    /// How many days it has in a year.
+    #[must_use]
+    pub fn days(self, year: u32) -> u32 {
         match self {
             Month::February if is_leap(year) => 29,
             Month::February => 28,

@@ -36,6 +36,10 @@ fn text_of<T: Copy + PartialEq>(texts: &[(T, &'static str)], value: T) -> &'stat
 }
 
 impl File {
+    /// All, by their numbers.
+    pub const ALL: [File; 6] =
+        [File::Eckdaten, File::Bitfeld, File::Bahnhof, File::Umsteigb, File::Fplan, File::Zugart];
+
     /// The file's number, 1 to 6.
     pub fn number(self) -> u32 {
         self as u32

@@ -315,7 +315,13 @@ pub struct Period {
 }
 
 impl Period {
-    /// How many days it has, 1 to 380.
+    /// The period of two days; `None` if the second is earlier. A delivery's has at most 380 days.
+    #[must_use]
+    pub fn new(first: Date, last: Date) -> Option<Period> {
+        Some(Period { first, last }).filter(|period| period.first <= period.last)
+    }
+
+    /// How many days it has.
     #[must_use]
     pub fn day_count(self) -> u32 {
         self.last.day_number() - self.first.day_number() + 1

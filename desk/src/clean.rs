@@ -6,8 +6,9 @@ use std::path::Path;
 
 use estelunya_planner::by_number::Table;
 use estelunya_planner::layout::{FIRST_SERVICE_AT, OPENING_LINE_AT, SERVICES_AT, SIZE_AT};
+use estelunya_planner::File;
 
-use super::lines::{Delivery, FPLAN, NAMES};
+use super::lines::{file_name, Delivery, FPLAN};
 use super::{accepted, loaded, read, screen, ACCEPTED, REFUSED, UNREAD};
 
 /// The bytes of a line, with LF.
@@ -17,7 +18,7 @@ const LINE: usize = 60;
 pub fn run(directory: &Path, out: &Path) -> (i32, String) {
     let delivery = match read(directory) {
         Ok(delivery) => delivery,
-        Err((number, why)) => return (UNREAD, format!("unread file {}\n{}: {}\n", number, NAMES[number - 1], why)),
+        Err((number, why)) => return (UNREAD, format!("unread file {}\n{}: {}\n", number, file_name(number), why)),
     };
     let words = match loaded(&delivery) {
         Ok(words) => words,
@@ -60,9 +61,9 @@ fn fill(delivery: &Delivery, plan: &[u8], out: &Path) -> io::Result<()> {
     if fs::read_dir(out)?.next().is_some() {
         return Err(io::Error::new(io::ErrorKind::AlreadyExists, "the directory is not empty"));
     }
-    for (at, name) in NAMES.iter().enumerate() {
-        let bytes = if at + 1 == FPLAN as usize { plan } else { &delivery.files[at] };
-        fs::write(out.join(name), bytes)?;
+    for file in File::ALL {
+        let bytes = if file == File::Fplan { plan } else { delivery.file(file.number()) };
+        fs::write(out.join(file.name()), bytes)?;
     }
     Ok(())
 }

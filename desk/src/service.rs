@@ -1,6 +1,6 @@
 //! One service of FPLAN: its calls and ranges, and what is wrong with it as a whole (14 to 19).
 
-use super::dates::{later, period, written};
+use super::dates::period;
 use super::lines::{
     blank, column, columns, digits, gives_days, hashed, kind, minutes, numbered, passed_over, text, Delivery, Kind,
     BITFELD, ECKDATEN, FPLAN,
@@ -333,7 +333,7 @@ impl Service {
 
     /// 19: the first day with two stretches, and these.
     pub fn stretches(&self, delivery: &Delivery) -> Finding {
-        let (first_day, days) = match period(delivery.file(ECKDATEN)) {
+        let period = match period(delivery.file(ECKDATEN)) {
             Some(period) => period,
             None => return Finding::default(),
         };
@@ -346,17 +346,16 @@ impl Service {
             .collect();
         let bits: Vec<Option<Vec<u8>>> =
             fields.iter().map(|(number, _)| bit_field(delivery.file(BITFELD), *number)).collect();
-        for day in 0..days {
+        for (day, date) in period.dates().enumerate() {
             let runs: Vec<bool> =
                 bits.iter().map(|bits| bits.as_ref().map_or(true, |line| bit(line, day + 2))).collect();
             let found = stretches(&runs);
             if found.len() > 1 {
-                let date = written(later(first_day, day));
                 let mut says = vec![format!(
                     "on {}, day {} of {}, it would run on {} stretches:",
                     date,
                     day + 1,
-                    days,
+                    period.day_count(),
                     found.len()
                 )];
                 says.extend(found.iter().map(|(first, last)| format!("  {}", self.leg(*first, *last))));

@@ -1,21 +1,25 @@
 //! A file's lines and columns, as the loader reads them, and the fields that each kind of line has.
 
 use estelunya_planner::layout::MOST_CLASS;
+use estelunya_planner::File;
 
-/// The files of a delivery by their numbers, from 1.
-pub const NAMES: [&str; 6] = ["ECKDATEN", "BITFELD", "BAHNHOF", "UMSTEIGB", "FPLAN", "ZUGART"];
-/// ECKDATEN.
-pub const ECKDATEN: u32 = 1;
-/// BITFELD.
-pub const BITFELD: u32 = 2;
-/// BAHNHOF.
-pub const BAHNHOF: u32 = 3;
-/// UMSTEIGB.
-pub const UMSTEIGB: u32 = 4;
-/// FPLAN.
-pub const FPLAN: u32 = 5;
-/// ZUGART, which is checked before FPLAN.
-pub const ZUGART: u32 = 6;
+/// The number of ECKDATEN.
+pub const ECKDATEN: u32 = File::Eckdaten as u32;
+/// The number of BITFELD.
+pub const BITFELD: u32 = File::Bitfeld as u32;
+/// The number of BAHNHOF.
+pub const BAHNHOF: u32 = File::Bahnhof as u32;
+/// The number of UMSTEIGB.
+pub const UMSTEIGB: u32 = File::Umsteigb as u32;
+/// The number of FPLAN.
+pub const FPLAN: u32 = File::Fplan as u32;
+/// The number of ZUGART, which is checked before FPLAN.
+pub const ZUGART: u32 = File::Zugart as u32;
+
+/// The name of the file of a number; empty if there is none.
+pub fn file_name(number: u32) -> &'static str {
+    File::from_number(number).map_or("", File::name)
+}
 
 /// The files of a delivery, each as its bytes.
 #[derive(Clone, Debug)]

@@ -31,11 +31,11 @@ use std::time::{Duration, Instant};
 use estelunya_planner::by_number::{load, room};
 use estelunya_planner::layout::{BIT_FIELDS_AT, CLASSES_AT, INTERCHANGES_AT, PERIOD_DAYS_AT, SERVICES_AT, STOPS_AT};
 use estelunya_planner::raw::VERSION;
-use estelunya_planner::{Files, LoadRefusal};
+use estelunya_planner::{File, Files, LoadRefusal};
 
 use explain::{screen, short, Answer};
 use further::Further;
-use lines::{Delivery, NAMES};
+use lines::{file_name, Delivery};
 
 /// The crate's version; a program that was made without cargo does not know it.
 const RELEASE: &str = match option_env!("CARGO_PKG_VERSION") {
@@ -108,16 +108,15 @@ fn usage(why: &str) -> ! {
 fn run(directory: &Path, all: bool) -> (i32, String) {
     match read(directory) {
         Ok(delivery) => told(&delivery, all),
-        Err((number, why)) => (UNREAD, format!("unread file {}\n{}: {}\n", number, NAMES[number - 1], why)),
+        Err((number, why)) => (UNREAD, format!("unread file {}\n{}: {}\n", number, file_name(number), why)),
     }
 }
 
-fn read(directory: &Path) -> Result<Delivery, (usize, String)> {
+fn read(directory: &Path) -> Result<Delivery, (u32, String)> {
     let mut delivery = Delivery { files: Default::default() };
-    for (at, name) in NAMES.iter().enumerate() {
-        let path = directory.join(name);
-        delivery.files[at] =
-            std::fs::read(&path).map_err(|error| (at + 1, format!("{}: {}", path.display(), error)))?;
+    for (file, bytes) in File::ALL.iter().zip(&mut delivery.files) {
+        let path = directory.join(file.name());
+        *bytes = std::fs::read(&path).map_err(|error| (file.number(), format!("{}: {}", path.display(), error)))?;
     }
     Ok(delivery)
 }
@@ -189,8 +188,10 @@ fn accepted(delivery: &Delivery, words: &[u32]) -> String {
         text.push_str("look: there are no services: FPLAN has no line that is not passed over. The delivery keeps the rules, and nothing runs.\n");
         text.push_str("see:  docs/REFUSALS.md#no-services\n");
     }
-    for (name, told) in NAMES.iter().zip(&delivery.files).filter_map(|(name, file)| Some((name, looks::file(file)?))) {
-        text.push_str(&format!("look: {}: {}\nsee:  docs/REFUSALS.md#looks-right\n", name, told));
+    for (file, told) in
+        File::ALL.iter().zip(&delivery.files).filter_map(|(file, bytes)| Some((file, looks::file(bytes)?)))
+    {
+        text.push_str(&format!("look: {}: {}\nsee:  docs/REFUSALS.md#looks-right\n", file, told));
     }
     text
 }
@@ -207,7 +208,7 @@ fn further(delivery: &Delivery, first: &Answer) -> String {
     }
     let name = match first.file {
         0 => return String::new(),
-        file => NAMES[file as usize - 1],
+        file => file_name(file),
     };
     let end = match shown.len() {
         0 => format!("--all: nothing else of {} was found, which is no proof\n", name),

@@ -5,8 +5,8 @@ use std::path::Path;
 
 use estelunya_planner::by_number::load_with;
 use estelunya_planner::layout::MOST_FILE_BYTES;
+use estelunya_planner::{Date, File};
 
-use super::dates::{later, written};
 use super::explain::{screen, Answer};
 use super::form::frame;
 use super::lines::{lines, Delivery, BAHNHOF, BITFELD, ECKDATEN, FPLAN, UMSTEIGB, ZUGART};
@@ -17,12 +17,12 @@ const SCREENS: &str = include_str!("screens.txt");
 fn trial_week() -> Delivery {
     Delivery {
         files: [
-            include_bytes!("../../../../crates/ferry/data/ECKDATEN").to_vec(),
-            include_bytes!("../../../../crates/ferry/data/BITFELD").to_vec(),
-            include_bytes!("../../../../crates/ferry/data/BAHNHOF").to_vec(),
-            include_bytes!("../../../../crates/ferry/data/UMSTEIGB").to_vec(),
-            include_bytes!("../../../../crates/ferry/data/FPLAN").to_vec(),
-            include_bytes!("../../../../crates/ferry/data/ZUGART").to_vec(),
+            include_bytes!("../../crates/ferry/data/ECKDATEN").to_vec(),
+            include_bytes!("../../crates/ferry/data/BITFELD").to_vec(),
+            include_bytes!("../../crates/ferry/data/BAHNHOF").to_vec(),
+            include_bytes!("../../crates/ferry/data/UMSTEIGB").to_vec(),
+            include_bytes!("../../crates/ferry/data/FPLAN").to_vec(),
+            include_bytes!("../../crates/ferry/data/ZUGART").to_vec(),
         ],
     }
 }
@@ -274,7 +274,7 @@ fn every_number_has_a_screen() {
 /// Each place that a screen sends to is in REFUSALS.md.
 #[test]
 fn places_in_refusals() {
-    let document = include_str!("../../../../docs/REFUSALS.md");
+    let document = include_str!("../../docs/REFUSALS.md");
     let places: BTreeSet<&str> =
         SCREENS.lines().filter_map(|line| line.split_once("REFUSALS.md#")).map(|(_, place)| place).collect();
     assert!(places.len() > 25);
@@ -358,7 +358,8 @@ fn second_pair() {
         let line = [b"000001 ".to_vec(), digits].concat();
         assert_eq!(frame(&line, days), None, "{}", days);
         let mut delivery = with_file(BITFELD, &line);
-        let last = written(later((1, 12, 2025), days - 1));
+        let first: Date = "01.12.2025".parse().unwrap();
+        let last = Date::from_day_number(first.day_number() + days as u32 - 1).unwrap();
         delivery.files[0] = format!("01.12.2025\n{}\n\n", last).into_bytes();
         assert_eq!(loaded(&delivery).map(|words| words[2] as usize), Ok(days));
     }
@@ -442,8 +443,8 @@ fn clean() {
         ROUTE[2],
         ROUTE[3],
     ]);
-    for (name, file) in super::NAMES.iter().zip(&delivery.files) {
-        std::fs::write(from.join(name), file).unwrap();
+    for (file, bytes) in File::ALL.iter().zip(&delivery.files) {
+        std::fs::write(from.join(file.name()), bytes).unwrap();
     }
     let (status, text) = super::clean::run(&from, &out);
     assert_eq!(status, 0, "{}", text);

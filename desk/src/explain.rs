@@ -2,11 +2,12 @@
 //! rest is worked out here.
 
 use estelunya_planner::layout::{MOST_CLASS, MOST_FILE_BYTES};
+use estelunya_planner::Period;
 
-use super::dates::{day_count, period, stated, written, wrong};
+use super::dates::{existing, period, stated, wrong};
 use super::lines::{
-    column, columns, digits, field_at, kind, line, lines, numbered, passed_over, text, trimmed, Delivery, Kind, Rule,
-    BAHNHOF, BITFELD, ECKDATEN, FPLAN, NAMES, UMSTEIGB, ZUGART,
+    column, columns, digits, field_at, file_name, kind, line, lines, numbered, passed_over, text, trimmed, Delivery,
+    Kind, Rule, BAHNHOF, BITFELD, ECKDATEN, FPLAN, UMSTEIGB, ZUGART,
 };
 use super::service::{of_delivery, service_of, Finding};
 use super::{form, looks};
@@ -77,7 +78,7 @@ pub fn short(delivery: &Delivery, answer: &Answer) -> String {
 fn place(delivery: &Delivery, answer: &Answer, found: &Finding) -> String {
     let name = match answer.file {
         0 => return "no file".to_string(),
-        file => NAMES[file as usize - 1],
+        file => file_name(file),
     };
     if answer.line == 0 {
         return format!("{}, {} bytes", name, delivery.file(answer.file).len());
@@ -173,10 +174,12 @@ fn finding(delivery: &Delivery, answer: &Answer) -> Finding {
             (1, 7),
             format!("the first record is that of {}, and must be that of 9999999", text(&columns(bytes, 1, 7))),
         ),
-        (8, _) => match period(delivery.file(ECKDATEN)).and_then(|(_, days)| form::frame(bytes, days)) {
-            Some((place, says)) => Finding { marks: vec![(at, vec![(place, place)])], says },
-            None => Finding::default(),
-        },
+        (8, _) => {
+            match period(delivery.file(ECKDATEN)).and_then(|period| form::frame(bytes, period.day_count() as usize)) {
+                Some((place, says)) => Finding { marks: vec![(at, vec![(place, place)])], says },
+                None => Finding::default(),
+            }
+        }
         (9, _) => Finding::at(at, (1, 7), format!("there is no line of {} in BAHNHOF", text(&columns(bytes, 1, 7)))),
         (10, _) => {
             Finding::at(at, (23, 28), format!("there is no line of {} in BITFELD", text(&columns(bytes, 23, 28))))
@@ -229,13 +232,13 @@ fn date(eckdaten: &[u8], at: u32, bytes: &[u8]) -> Finding {
     if let Some((columns, why)) = wrong(day) {
         return Finding::at(at, columns, why);
     }
-    let first = match line(eckdaten, 1).and_then(stated) {
-        Some(first) => first,
-        None => return Finding::default(),
+    let (first, last) = match (line(eckdaten, 1).and_then(stated).and_then(existing), existing(day)) {
+        (Some(first), Some(last)) => (first, last),
+        _ => return Finding::default(),
     };
-    let says = match day_count(first, day) {
-        None => format!("it is before the first day, {}", written(first)),
-        Some(count) => format!("from {} it is day {}: a period has at most 380", written(first), count),
+    let says = match Period::new(first, last) {
+        None => format!("it is before the first day, {}", first),
+        Some(period) => format!("from {} it is day {}: a period has at most 380", first, period.day_count()),
     };
     Finding { marks: vec![(at, vec![(1, 10)]), (1, vec![(1, 10)])], says: vec![says] }
 }
@@ -304,11 +307,9 @@ fn hints(delivery: &Delivery, answer: &Answer) -> Vec<String> {
         (38, FPLAN) => ZUGART,
         _ => 0,
     };
-    if let Some(name) = NAMES.get((searched as usize).wrapping_sub(1)) {
-        let told = looks::searched(delivery.file(searched));
-        if !told.is_empty() {
-            return told.into_iter().map(|told| format!("{}: {}", name, told)).collect();
-        }
+    let told = looks::searched(delivery.file(searched));
+    if !told.is_empty() {
+        return told.into_iter().map(|told| format!("{}: {}", file_name(searched), told)).collect();
     }
     let mut found: Vec<String> = looks::file(file).into_iter().collect();
     if found.is_empty() && [4, 11, 12, 39].contains(&answer.number) {
@@ -382,7 +383,7 @@ fn form_number(field: &[u8]) -> Option<u32> {
 pub fn anchor(answer: &Answer) -> String {
     match (answer.number, answer.file) {
         (number @ (1 | 20 | 51), _) | (number, 0) => format!("any-{}", number),
-        (number, file) => format!("{}-{}", NAMES[file as usize - 1].to_lowercase(), number),
+        (number, file) => format!("{}-{}", file_name(file).to_lowercase(), number),
     }
 }
 
