@@ -2,32 +2,7 @@
 
 use compare::functions::Boards;
 use compare::reader::BoardQuestion;
-// it has the archive
-use estelunya_planner as _;
-
-#[repr(C)]
-struct BoardResult {
-    number: u32,
-    rows: usize,
-    needed: usize,
-}
-
-extern "C" {
-    fn estelunya_board(
-        table: *const u32,
-        table_words: usize,
-        index: *const u32,
-        index_words: usize,
-        stop: u32,
-        day: u32,
-        month: u32,
-        year: u32,
-        first: u32,
-        last: u32,
-        list: *mut u32,
-        list_words: usize,
-    ) -> BoardResult;
-}
+use estelunya_planner::raw::{estelunya_board, BoardResult};
 
 pub struct Exported;
 

@@ -1,23 +1,7 @@
 //! `estelunya_connection` of the linked archive.
 
 use compare::functions::Connections;
-// it has the archive
-use estelunya_planner as _;
-
-#[repr(C)]
-struct ConnectionResult {
-    number: u32,
-    part: u32,
-}
-
-extern "C" {
-    fn estelunya_connection(
-        table: *const u32,
-        table_words: usize,
-        parts: *const u32,
-        parts_words: usize,
-    ) -> ConnectionResult;
-}
+use estelunya_planner::raw::{estelunya_connection, ConnectionResult};
 
 pub struct Exported;
 

@@ -1,19 +1,7 @@
 //! `estelunya_index` and `estelunya_check_index` of the linked archive.
 
 use compare::functions::Indexes;
-// it has the archive
-use estelunya_planner as _;
-
-#[repr(C)]
-struct IndexResult {
-    number: u32,
-    words: usize,
-}
-
-extern "C" {
-    fn estelunya_index(table: *const u32, table_words: usize, index: *mut u32, index_words: usize) -> IndexResult;
-    fn estelunya_check_index(table: *const u32, table_words: usize, index: *const u32, index_words: usize) -> u32;
-}
+use estelunya_planner::raw::{estelunya_check_index, estelunya_index, IndexResult};
 
 pub struct Exported;
 

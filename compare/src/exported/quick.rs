@@ -2,62 +2,10 @@
 
 use compare::boundary::size_word;
 use compare::functions::Quick;
-use estelunya_planner::raw::{DayResult, InterchangeResult, NameResult, WalkResult};
-
-extern "C" {
-    fn estelunya_quick_day(
-        table: *const u32,
-        table_words: usize,
-        index: *const u32,
-        index_words: usize,
-        day: u32,
-        month: u32,
-        year: u32,
-        field: u32,
-    ) -> DayResult;
-    fn estelunya_quick_interchange(
-        table: *const u32,
-        table_words: usize,
-        index: *const u32,
-        index_words: usize,
-        stop: u32,
-        arriving: u32,
-        departing: u32,
-    ) -> InterchangeResult;
-    fn estelunya_quick_interchange_between(
-        table: *const u32,
-        table_words: usize,
-        index: *const u32,
-        index_words: usize,
-        stop: u32,
-        arriving: u32,
-        departing: u32,
-    ) -> InterchangeResult;
-    fn estelunya_quick_stop_name(
-        table: *const u32,
-        table_words: usize,
-        index: *const u32,
-        index_words: usize,
-        bahnhof: *const u8,
-        bahnhof_bytes: usize,
-        stop: u32,
-        language: u32,
-        kind: u32,
-    ) -> NameResult;
-    fn estelunya_quick_walk(
-        table: *const u32,
-        table_words: usize,
-        index: *const u32,
-        index_words: usize,
-        service: u32,
-        repeat: u32,
-        day: u32,
-        month: u32,
-        year: u32,
-        rows: *mut u32,
-        rows_words: usize,
-    ) -> WalkResult;
-}
+use estelunya_planner::raw::{
+    estelunya_quick_day, estelunya_quick_interchange, estelunya_quick_interchange_between, estelunya_quick_stop_name,
+    estelunya_quick_walk, DayResult, InterchangeResult, NameResult, WalkResult,
+};
 
 pub struct Exported;
 

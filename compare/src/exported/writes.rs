@@ -1,18 +1,7 @@
 //! `estelunya_write` of the linked archive.
 
 use compare::functions::Writes;
-// it has the archive
-use estelunya_planner as _;
-
-#[repr(C)]
-struct WriteResult {
-    number: u32,
-    bytes: usize,
-}
-
-extern "C" {
-    fn estelunya_write(table: *const u32, table_words: usize, text: *mut u8, text_bytes: usize) -> WriteResult;
-}
+use estelunya_planner::raw::{estelunya_write, WriteResult};
 
 pub struct Exported;
 
