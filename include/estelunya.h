@@ -95,7 +95,7 @@ typedef struct EstelunyaDayCountResult {
  * service its head, then all its calls, *G, *A VE and other *A. Below, .._WORDS is how many words a record has, and .._AT is where a word stands in it,
  * counted from 0. Bytes share a word with the first byte highest.
  *
- * These numbers, and the limits below, stand again in planner/src/layout.rs, and those that the loader names in crates/timetable/src/lib.rt: tools/drift.sh
+ * These numbers, and the limits below, stand again in planner/sys/src/layout.rs, and those that the loader names in crates/timetable/src/lib.rt: tools/drift.sh
  * holds them together, name by name.
  */
 

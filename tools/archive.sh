@@ -16,8 +16,11 @@ if [ -z "${ARCHIVE:-}" ]; then
     export ARCHIVE
 fi
 
-# The planner's crate takes the archive in, so that a program only names the crate.
-planner_library() { library estelunya_planner planner/src/lib.rs -L "$ARCHIVE" -l static=estelunya; }
+# The crate estelunya-sys takes the archive in, so that a program only names the planner's crate.
+planner_library() {
+    library estelunya_sys planner/sys/src/lib.rs -L "$ARCHIVE" -l static=estelunya
+    library estelunya_planner planner/src/lib.rs -L "$out" --extern estelunya_sys
+}
 
 # linked NAME SOURCE [WORD ..]: a program over the planner's crate and the comparison
 linked() { program "$@" --extern compare --extern estelunya_planner; }

@@ -1,11 +1,11 @@
 #!/bin/sh
 # drift.sh [SOURCE]: fails, and says where, if what is said of the boundary in several places drifts apart.
 #
-# Declarations: the Rattle source (SOURCE), include/estelunya.h and planner/src/raw.rs have the same answers with the same fields, and the same functions
+# Declarations: the Rattle source (SOURCE), include/estelunya.h and planner/sys/src/raw.rs have the same answers with the same fields, and the same functions
 # with the same parameters, each in the same order: by text; and by the compilers, a C side and a Rust side, both written from the Rattle source
 # (drift/sides.awk) and linked with the archive, agree on layouts, prototypes and answers.
 #
-# The table's layout: each .._WORDS, .._AT, limit (MOST_..), kind and flag of the header has the same value in planner/src/layout.rs, which compare/ takes too.
+# The table's layout: each .._WORDS, .._AT, limit (MOST_..), kind and flag of the header has the same value in planner/sys/src/layout.rs, which compare/ takes too.
 # The loader (crates/timetable) has each of its sizes, limits and kinds with that value, and the header each of the loader's sizes, places and kinds (of
 # its limits only those that a caller meets); what the ordinary loader names in the same way is the header's. The version is one in all.
 #
@@ -14,7 +14,7 @@ set -eu
 cd "$(dirname "$0")/.."
 rattle=${1:-crates/estelunya/src/lib.rt}
 header=include/estelunya.h
-raw=planner/src/raw.rs
+raw=planner/sys/src/raw.rs
 . tools/archive.sh
 said=$out/drift
 mkdir -p "$said"
@@ -78,10 +78,10 @@ held() {
         END { exit bad }' "$said/$2" "$said/$1" >&2 || exit 1
 }
 
-mkdir -p "$said/include" "$said/planner/src" "$said/crates" "$said/docs"
+mkdir -p "$said/include" "$said/planner/sys/src" "$said/crates" "$said/docs"
 timetable=crates/timetable
 boundary=crates/estelunya
-planner=planner/src/layout.rs
+planner=planner/sys/src/layout.rs
 ordinary=docs/ordinary-loader
 constants_c "$header" >"$said/$header"
 constants_rust "$planner" "$raw" >"$said/$planner"

@@ -17,11 +17,13 @@ as_cargo_user() {
     done
     for crate in planner desk; do
         set -- --manifest-path "$crate/Cargo.toml"
-        cargo fmt "$@" --check
-        set -- "$@" --quiet --target-dir "$out/cargo"
-        ESTELUNYA_LIB=$ARCHIVE cargo clippy "$@" --all-targets -- -D warnings
-        ESTELUNYA_LIB=$ARCHIVE RUSTDOCFLAGS='-D warnings' cargo doc "$@" --no-deps
-        ESTELUNYA_LIB=$ARCHIVE cargo test "$@"
+        cargo fmt "$@" --all --check
+        set -- "$@" --quiet --workspace --target-dir
+        ESTELUNYA_LIB=$ARCHIVE cargo clippy "$@" "$out/cargo" --all-targets -- -D warnings
+        ESTELUNYA_LIB=$ARCHIVE cargo test "$@" "$out/cargo"
+        # The documentation, and a look at the code, need no archive.
+        ESTELUNYA_LIB=$out/none RUSTDOCFLAGS='-D warnings' cargo doc "$@" "$out/cargo-none" --no-deps 2>/dev/null
+        ESTELUNYA_LIB=$out/none cargo check "$@" "$out/cargo-none" 2>/dev/null
     done
 }
 
@@ -38,7 +40,7 @@ linked trial_week planner/examples/trial_week.rs
 linked quay_screen planner/examples/quay_screen.rs
 tests='boards connections dates days handles helper index keys largest names refusals room rows runs table'
 for test in $tests; do linked "$test" "planner/tests/$test.rs" --test; done
-program own_tests planner/src/lib.rs --test -L "$ARCHIVE" -l static=estelunya
+program own_tests planner/src/lib.rs --test --extern estelunya_sys
 linked desk desk/src/main.rs
 linked desk_tests desk/src/main.rs --test
 # shellcheck disable=SC2016 # the marks of a block
@@ -48,7 +50,7 @@ linked standard compare/src/bin/standard.rs
 
 # An emulator cannot run the crate's documentation. It reads the sample delivery from the crate's directory, as with cargo.
 if [ -z "$emulator" ]; then
-    (cd planner && rustdoc --edition 2021 --test src/lib.rs --crate-name estelunya_planner -L "../$out" --extern estelunya_planner)
+    (cd planner && rustdoc --edition 2021 --test src/lib.rs --crate-name estelunya_planner -L "../$out" --extern estelunya_planner --extern estelunya_sys)
     as_cargo_user
 fi
 for test in $tests; do run "$out/$test" --quiet; done

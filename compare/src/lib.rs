@@ -10,7 +10,7 @@ pub mod functions;
 pub mod generate;
 pub mod ground;
 /// The planner's; `tools/drift.sh` holds it against the header and the loader.
-#[path = "../../planner/src/layout.rs"]
+#[path = "../../planner/sys/src/layout.rs"]
 pub mod layout;
 pub mod reader;
 pub mod requests;

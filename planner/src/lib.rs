@@ -54,15 +54,9 @@
 //! himself, or keeps numbers, asks [by bare number](by_number).
 //!
 //! Crate and archive have to be of one version of the boundary between them ([`raw::VERSION`], not the version in `Cargo.toml`). They are compared once, before the first call of the archive; if they differ, that call and every later one panics, and says so.
-//!
-//! With cargo, `build.rs` links the archive: the one in the directory that the environment variable `ESTELUNYA_LIB` names, else the one
-//! that `rt staticlib estelunya` has written to `target/staticlib`, or, if there is none, the one in `lib/`, where `tools/install.sh` puts it. Without cargo, rustc takes it in by `-L DIRECTORY -l static=estelunya`; `tools/archive.sh` gives
-//! these flags.
+//! The crate [`estelunya_sys`] links the archive, and says from where; this documentation, and `cargo check`, need none.
 
 #![warn(missing_docs)]
-
-#[cfg(not(target_pointer_width = "64"))]
-compile_error!("libestelunya.a is made for targets of 64 bits");
 
 pub mod a_day_in_the_host;
 pub mod by_number;
@@ -70,13 +64,13 @@ mod connection;
 mod date;
 mod handles;
 mod keys;
-pub mod layout;
-pub mod raw;
 mod refusal;
 mod row;
 mod runs;
 mod timetable;
 mod version;
+
+pub use estelunya_sys::{layout, raw};
 
 pub use by_number::load::Files;
 pub use by_number::names::{Language, NameType};

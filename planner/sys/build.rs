@@ -1,11 +1,12 @@
-//! Links the proved archive `libestelunya.a`: from the directory that `ESTELUNYA_LIB` names, else from `../target/staticlib`, where
-//! `rt staticlib estelunya` writes it, or, if there is none, from `../lib`, where `tools/install.sh` puts it and a run of the gate leaves it.
+//! Links the proved archive `libestelunya.a`: from the directory that `ESTELUNYA_LIB` names, else from `../../target/staticlib`, where
+//! `rt staticlib estelunya` writes it, or, if there is none, from `../../lib`, where `tools/install.sh` puts it and a run of the gate leaves it.
 //! A relative directory counts from where cargo was started, else from this crate.
+//!
+//! Without an archive that fits it warns and names none: what links nothing (`cargo check`, `cargo doc`) goes on, and where a program is linked rustc says that the library is missing.
 
 use std::env;
 use std::fs;
 use std::path::{Path, PathBuf};
-use std::process::exit;
 
 const ARCHIVE: &str = "libestelunya.a";
 
@@ -17,19 +18,23 @@ fn main() {
     let directory = directory();
     let archive = directory.join(ARCHIVE);
     println!("cargo:rerun-if-changed={}", archive.display());
-    match fs::read(&archive) {
-        Ok(bytes) => fits_target(&archive, &bytes),
-        Err(error) => {
-            eprintln!(
-                "error: there is no archive to link with ({}: {}): run tools/install.sh, which proves it and puts it into lib/, or name its directory in ESTELUNYA_LIB.",
-                archive.display(),
-                error
-            );
-            exit(1);
-        }
-    }
-    println!("cargo:rustc-link-search=native={}", directory.display());
     println!("cargo:rustc-link-lib=static=estelunya");
+    match unfit(&archive) {
+        None => println!("cargo:rustc-link-search=native={}", directory.display()),
+        Some(why) => println!("cargo:warning={}", why),
+    }
+}
+
+/// Why the archive cannot be linked.
+fn unfit(archive: &Path) -> Option<String> {
+    match fs::read(archive) {
+        Ok(bytes) => other_machine(archive, &bytes),
+        Err(error) => Some(format!(
+            "there is no archive to link with ({}: {}): run tools/install.sh, which proves it and puts it into lib/, or name its directory in ESTELUNYA_LIB",
+            archive.display(),
+            error
+        )),
+    }
 }
 
 /// By its full path, since programs that use this crate are linked elsewhere.
@@ -46,7 +51,7 @@ fn directory() -> PathBuf {
 }
 
 fn beside_crate(manifest: &Path) -> PathBuf {
-    let [fresh, kept] = ["../target/staticlib", "../lib"].map(|place| manifest.join(place));
+    let [fresh, kept] = ["../../target/staticlib", "../../lib"].map(|place| manifest.join(place));
     // Either may come or go, and the choice with it.
     for directory in [&fresh, &kept] {
         println!("cargo:rerun-if-changed={}", directory.join(ARCHIVE).display());
@@ -58,22 +63,22 @@ fn beside_crate(manifest: &Path) -> PathBuf {
     }
 }
 
-/// Ends with an error where the archive is for another machine, before a linker says so in its own words.
-fn fits_target(archive: &Path, bytes: &[u8]) {
+/// That the archive is for another machine, before a linker says so in its own words.
+fn other_machine(archive: &Path, bytes: &[u8]) -> Option<String> {
     let variable = |name: &str| env::var(name).unwrap_or_default();
     let (machine, system) = (variable("CARGO_CFG_TARGET_ARCH"), variable("CARGO_CFG_TARGET_OS"));
     let made_for = machine_of(bytes).unwrap_or("a machine that is not known here");
-    if (made_for, "linux") != (&machine, &system) {
-        eprintln!(
-            "error: {} is made for {} Linux, and this build is for {} {}.\n`rt staticlib estelunya` writes it for x86-64 Linux: \
-             build with --target x86_64-unknown-linux-gnu, or name the directory of a fitting archive in ESTELUNYA_LIB.",
+    let fits = (made_for, "linux") == (&*machine, &*system);
+    (!fits).then(|| {
+        format!(
+            "{} is made for {} Linux, and this build is for {} {}: `rt staticlib estelunya` writes it for x86-64 Linux; \
+             build with --target x86_64-unknown-linux-gnu, or name the directory of a fitting archive in ESTELUNYA_LIB",
             archive.display(),
             made_for,
             machine,
             system
-        );
-        exit(1);
-    }
+        )
+    })
 }
 
 /// The machine of the archive's first object, from the head of its ELF file.

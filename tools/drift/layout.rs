@@ -1,4 +1,4 @@
-//! The Rust side of the drift test: what `planner/src/raw.rs` declares against what a C compiler made of `include/estelunya.h`. What it says of each
+//! The Rust side of the drift test: what `planner/sys/src/raw.rs` declares against what a C compiler made of `include/estelunya.h`. What it says of each
 //! function and answer is written by `sides.awk` from the Rattle source; only the calls with something given stand here.
 
 use std::ffi::CStr;

@@ -3,7 +3,7 @@
 #   struct NAME { field: type, .. }
 #   fn name(parameter: type, ..) -> NAME or type
 #
-# With side=c a C file over include/estelunya.h, with side=rust a part of layout.rs over planner/src/raw.rs. Both have the places of all fields of each
+# With side=c a C file over include/estelunya.h, with side=rust a part of layout.rs over planner/sys/src/raw.rs. Both have the places of all fields of each
 # answer, and each function as a value of its declared type; the C side hands each call on, and the Rust side makes it both ways, with nothing given.
 
 BEGIN {
