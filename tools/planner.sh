@@ -38,7 +38,7 @@ trap 'kill "$cases" 2>/dev/null || true' EXIT
 
 linked trial_week planner/examples/trial_week.rs
 linked quay_screen planner/examples/quay_screen.rs
-tests='boards connections dates days handles helper index keys largest names refusals room rows runs table'
+tests='boards connections dates days handles helper index keys largest names reading refusals room rows runs table'
 for test in $tests; do linked "$test" "planner/tests/$test.rs" --test; done
 program own_tests planner/src/lib.rs --test --extern estelunya_sys
 linked desk desk/src/main.rs

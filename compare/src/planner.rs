@@ -5,7 +5,7 @@ use compare::boundary::{size_word, Boundary};
 use compare::reader::Combination;
 use estelunya_planner::by_number::{load, load_with, room, BitField, Date, Loaded, Table, Walk};
 use estelunya_planner::layout::{BIT_WORDS, FIRST_SERVICE_AT, HEADER_WORDS, PERIOD_DAYS_AT, USED_AT};
-use estelunya_planner::{File, Files, Language, LoadRefusal, NameType, Scope, Refusal, Timetable};
+use estelunya_planner::{Class, File, Files, Language, LoadError, LoadRefusal, NameType, Refusal, Scope, Timetable};
 
 pub struct Planner;
 
@@ -55,7 +55,7 @@ impl Boundary for Planner {
     }
 
     fn stop_name(&self, table: &[u32], bahnhof: &[u8], stop: u32, [language, kind]: [u32; 2]) -> [u32; 3] {
-        match Table::new(table).stop(stop, bahnhof).name(Language(language), NameType(kind)) {
+        match Table::new(table).stop(stop, bahnhof).name(language, kind) {
             // The layer gives the part itself; where it starts is told by the pointers.
             Ok(name) => [0, size_word(name.as_ptr() as usize - bahnhof.as_ptr() as usize), size_word(name.len())],
             Err(refusal) => [refusal.number(), 0, 0],
@@ -63,11 +63,11 @@ impl Boundary for Planner {
     }
 
     fn walk(&self, table: &[u32], service: u32, repeat: u32, date: [u32; 3], rows: &mut [u32]) -> [u32; 3] {
-        let run = Table::new(table).runs(service).and_then(|runs| runs.run(repeat));
+        let late = Table::new(table).kind(service).and_then(|kind| kind.late(repeat));
         let walked = Table::new(table).walk(service, repeat, dated(date), rows);
         match walked {
-            Ok(_) => assert_eq!(run.map(|run| run.number), Some(repeat), "the run that was walked"),
-            Err(Refusal::NoSuchRepeat) => assert_eq!(run, None, "the run that is refused"),
+            Ok(_) => assert!(late.is_some(), "the run that was walked"),
+            Err(Refusal::NoSuchRepeat) => assert_eq!(late, None, "the run that is refused"),
             Err(_) => {}
         }
         match walked {
@@ -136,7 +136,8 @@ fn lent(made: Result<BitField<'_>, Refusal>, result: &mut [u32]) -> [u32; 1] {
 /// The same delivery as a timetable: it has the same words or the same refusal, and its handles say what the numbers say.
 fn owned(files: &Files<'_>, table: &[u32], answer: [u32; 5]) {
     match Timetable::load(files) {
-        Err(refusal) => assert_eq!(numbers(Err(refusal)), answer, "the timetable's refusal"),
+        Err(LoadError::Refused(refusal)) => assert_eq!(numbers(Err(refusal)), answer, "the timetable's refusal"),
+        Err(error) => panic!("{}", error),
         Ok(timetable) => {
             let words = timetable.by_number().words();
             assert_eq!(words.len(), answer[3] as usize, "the timetable's words");
@@ -156,11 +157,10 @@ fn handled(timetable: Scope<'_>) {
         let ends = ends.chain(service.operating_days().map(|part| (part.from, part.to)));
         let ends = ends.chain(service.attributes().map(|part| (part.from, part.to)));
         ends.for_each(|(from, to)| assert!(from <= to && to < calls, "a range of {:?}", service));
-        for date in [period.first, period.last] {
-            let days = service.operating_days().any(|part| part.from < part.to && part.field.runs_on(date) == Ok(true));
-            let mut runs =
-                service.runs(date).unwrap_or_else(|refusal| panic!("{:?} on {}: {}", service, date, refusal));
-            assert_eq!(days, runs.len() > 0, "{:?} on {}", service, date);
+        for day in [period.first, period.last].into_iter().filter_map(|date| timetable.day(date)) {
+            let days = service.operating_days().any(|part| part.from < part.to && part.field.has(day));
+            let mut runs = service.runs(day);
+            assert_eq!(days, runs.len() > 0, "{:?} on {}", service, day);
             for run in [runs.next(), runs.next_back()].into_iter().flatten() {
                 let calls: Vec<_> = run.calls().collect();
                 for pair in calls.windows(2) {
@@ -169,33 +169,36 @@ fn handled(timetable: Scope<'_>) {
                     assert_eq!(pair[1].interchange_to(&pair[1]).is_some(), pair[1].departure().is_some());
                 }
                 for call in calls {
-                    let known = service.route().any(|stated| stated.stop() == call.stop());
+                    let known = service.route().nth(call.place()).map(|stated| stated.stop()) == Some(call.stop());
                     assert!(known && !call.stop().name_field().is_empty(), "a call of {:?}", run);
+                    assert!(
+                        !call.stop().name(Language::English, NameType::ANY).is_empty(),
+                        "a name of {:?}",
+                        call.stop()
+                    );
+                    assert!(call.departing_attributes().count() <= call.attributes().count());
                 }
             }
         }
     }
     for field in timetable.bit_fields() {
-        assert_eq!(field.dates().count() + (!field).dates().count(), period.day_count() as usize);
-        assert_eq!(field.dates().count(), field.day_count() as usize);
-        assert_eq!(field.runs_on(period.last), Ok(field.dates().any(|date| date == period.last)));
+        assert_eq!(field.days().count() + (!field).days().count(), period.day_count() as usize);
+        assert_eq!(field.days().count(), field.day_count() as usize);
+        let last = timetable.days().next_back();
+        assert_eq!(last.map(|day| field.has(day)), Some(field.days().next_back() == last));
     }
     for category in timetable.categories() {
         assert_eq!(timetable.category_by_code(category.code()), Some(category), "a code that is listed once");
         for stop in timetable.stops().take(3) {
             let between = stop.interchange_between(category, category);
-            assert_eq!(
-                Ok(between),
-                stop.interchange(category.class(), category.class()),
-                "{:?} at {:?}",
-                category,
-                stop
-            );
+            let classes = stop.interchange(category.class(), category.class());
+            assert_eq!(between, classes, "{:?} at {:?}", category, stop);
         }
     }
     for record in timetable.interchanges() {
         if let Some(stop) = record.stop {
-            assert_eq!([stop.interchange(0, 2), stop.interchange(3, 0)], record.times.map(Ok));
+            let of = |arriving, departing| Some(stop.interchange(Class::new(arriving)?, Class::new(departing)?));
+            assert_eq!([of(0, 2), of(3, 0)], record.times.map(Some));
         }
     }
 }

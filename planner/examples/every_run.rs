@@ -20,12 +20,13 @@ fn main() -> Result<(), Box<dyn Error>> {
     println!("{:?}: loaded in {:.3} s", timetable, loaded - start);
     let (mut runs, mut calls, mut minutes) = (0u64, 0u64, 0u64);
     timetable.scope(|timetable| {
+        let day = timetable.day(date).ok_or("outside the period")?;
         for service in timetable.services() {
-            for run in service.runs(date)? {
+            for run in service.runs(day) {
                 runs += 1;
                 for call in run.calls() {
                     calls += 1;
-                    minutes += u64::from(call.departure().unwrap_or(0));
+                    minutes += u64::from(call.departure().unwrap_or_default().count());
                 }
             }
         }

@@ -8,14 +8,18 @@ use std::env;
 use std::error::Error;
 use std::path::{Path, PathBuf};
 
-use estelunya_planner::{Call, Date, Language, Month, NameType, Refusal, Service, Timetable};
+use estelunya_planner::{Call, Coding, Date, Day, Language, Minutes, Month, NameType, Service, Timetable};
 
 fn main() -> Result<(), Box<dyn Error>> {
     let timetable = Timetable::read(directory())?;
     println!("accepted: {:?}", timetable);
     for day in [5, 6] {
         let date = Date::new(day, Month::December, 2025).ok_or("no such date")?;
-        timetable.scope(|timetable| timetable.services().take(1).try_for_each(|service| show(service, date)))?;
+        timetable.scope(|timetable| {
+            let day = timetable.day(date).ok_or("outside the period")?;
+            timetable.services().take(1).for_each(|service| show(service, day));
+            Ok::<(), Box<dyn Error>>(())
+        })?;
     }
     Ok(())
 }
@@ -28,27 +32,23 @@ fn directory() -> PathBuf {
     }
 }
 
-fn show(service: Service<'_>, date: Date) -> Result<(), Refusal> {
-    let runs = service.runs(date)?;
-    println!("service {:05} on {}: {} runs", service.number(), date, runs.len());
+fn show<'t>(service: Service<'t>, day: Day<'t>) {
+    let runs = service.runs(day);
+    println!("service {:05} on {}: {} runs", service.number(), day, runs.len());
     for run in runs {
         run.calls().for_each(|call| println!("  {}", call_text(&call)));
     }
-    Ok(())
 }
 
 fn call_text(call: &Call<'_>) -> String {
-    let name = text(call.stop().name(Language::ENGLISH, NameType::ANY).unwrap_or(b"?"));
-    let category = call.category().map_or(String::new(), |bytes| text(&bytes));
-    let (times, service) = ([call.arrival(), call.departure()].map(clock), text(&call.administration()));
+    let name = call.stop().name_text(Language::English, NameType::ANY, Coding::Utf8);
+    let category = call.departing_category().map_or(String::new(), |category| category.to_string());
+    let administration = call.administration();
+    let (times, service) = ([call.arrival(), call.departure()].map(clock), Coding::Utf8.text(&administration));
     let stop = call.stop().number();
     format!("{} {} {:3} {:05} {} {} {}", times[0], times[1], category, call.number(), service, stop, name)
 }
 
-fn clock(time: Option<u32>) -> String {
-    time.map_or("  -  ".to_string(), |minutes| format!("{:02}:{:02}", minutes / 60, minutes % 60))
-}
-
-fn text(bytes: &[u8]) -> String {
-    String::from_utf8_lossy(bytes).into_owned()
+fn clock(time: Option<Minutes>) -> String {
+    time.map_or("  -  ".to_string(), |time| time.to_string())
 }

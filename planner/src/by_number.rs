@@ -6,7 +6,7 @@
 //!
 //! ```
 //! use estelunya_planner::by_number::{category_word, load, room, Date, Table, Walk};
-//! use estelunya_planner::{Files, Language, NameType, MOST_ROW_WORDS};
+//! use estelunya_planner::{Files, MOST_ROW_WORDS};
 //! use std::fs::read;
 //!
 //! # fn main() -> Result<(), Box<dyn std::error::Error>> {
@@ -25,13 +25,13 @@
 //!
 //! let table = Table::new(&words);
 //! assert_eq!((table.services(), table.service_number(0)), (1, Some(42)));
-//! assert_eq!(table.runs(0).map(|runs| runs.last()), Some(0));
+//! assert_eq!(table.kind(0).map(|kind| kind.last_repeat()), Some(0));
 //! let mut lent = vec![0; MOST_ROW_WORDS];
 //! match table.walk(0, 0, Date { day: 5, month: 12, year: 2025 }, &mut lent)? {
 //!     Walk::Rows(rows) => {
 //!         let stops: Vec<u32> = rows.iter().map(|row| row.stop()).collect();
 //!         assert_eq!(stops, [1_000_011, 1_000_022, 1_000_033, 1_000_022]);
-//!         let name = table.stop(stops[0], &bahnhof).name(Language::GERMAN, NameType::ANY)?;
+//!         let name = table.stop(stops[0], &bahnhof).name(b'd'.into(), 0)?;
 //!         assert_eq!(name, b"Quay A");
 //!     }
 //!     Walk::NotRunning => panic!("it runs on Fridays"),
@@ -88,11 +88,10 @@ mod contents;
 mod days;
 pub(crate) mod index;
 pub(crate) mod load;
-pub(crate) mod names;
+mod names;
 mod write;
 
 pub use crate::row::category_word;
-pub use crate::runs::Run;
 pub use ask::{Date, Table, Walk};
 pub use board::{Board, Departure};
 pub use connection::{BadPart, Part};

@@ -3,7 +3,7 @@
 use std::sync::atomic::{AtomicU64, Ordering};
 
 use crate::date::Date;
-use crate::handles::{BitField, Run, Scope, Service, ServiceCategory, Stop};
+use crate::handles::{BitField, Category, Run, Scope, Service, Stop};
 
 /// The number of a load: no two loads of a program have the same.
 #[derive(Clone, Copy, Debug, PartialEq, Eq, PartialOrd, Ord, Hash)]
@@ -143,7 +143,7 @@ impl<'t> BitField<'t> {
     }
 }
 
-impl<'t> ServiceCategory<'t> {
+impl<'t> Category<'t> {
     /// What a host may keep of it: see [`Key`]. Its code is the same in every delivery that lists it.
     #[must_use]
     pub fn key(self) -> CategoryKey {
@@ -190,9 +190,9 @@ impl<'t> Key<'t> for BitFieldKey {
 }
 
 impl<'t> Key<'t> for CategoryKey {
-    type Handle = ServiceCategory<'t>;
+    type Handle = Category<'t>;
 
-    fn find(self, scope: Scope<'t>) -> Option<ServiceCategory<'t>> {
+    fn find(self, scope: Scope<'t>) -> Option<Category<'t>> {
         Some(self.code).filter(|_| self.load == scope.load()).and_then(|code| scope.category_by_code(code))
     }
 }
@@ -201,6 +201,6 @@ impl<'t> Key<'t> for RunKey {
     type Handle = Run<'t>;
 
     fn find(self, scope: Scope<'t>) -> Option<Run<'t>> {
-        scope.get(self.service)?.runs(self.date).ok()?.nth(self.repeat as usize)
+        scope.get(self.service)?.runs(scope.day(self.date)?).nth(self.repeat as usize)
     }
 }

@@ -7,7 +7,7 @@
 //! The sample delivery, read from this crate's directory, loaded and walked:
 //!
 //! ```
-//! use estelunya_planner::{Date, Language, Month, NameType, Timetable};
+//! use estelunya_planner::{Date, Language, Minutes, Month, NameType, Timetable};
 //!
 //! # fn main() -> Result<(), Box<dyn std::error::Error>> {
 //! let timetable = Timetable::read("../crates/ferry/data")?;
@@ -17,37 +17,43 @@
 //! timetable.scope(|timetable| {
 //!     let ferry = timetable.services().next().expect("a service");
 //!     assert_eq!((ferry.number(), ferry.administration()), (42, *b"FERRY_"));
-//!     for run in ferry.runs(friday)? {
+//!     // a day of the period: what is asked of it is never refused
+//!     let [friday, saturday] = [friday, saturday].map(|date| timetable.day(date).expect("in the period"));
+//!     for run in ferry.runs(friday) {
 //!         let quays: Vec<u32> = run.calls().map(|call| call.stop().number()).collect();
 //!         assert_eq!(quays, [1_000_011, 1_000_022, 1_000_033, 1_000_022]);
 //!         let first = run.calls().next().expect("two calls or more");
-//!         assert_eq!(first.stop().name(Language::GERMAN, NameType::ANY)?, b"Quay A");
-//!         assert_eq!(first.departure(), Some(8 * 60));
+//!         assert_eq!(first.stop().name(Language::German, NameType::ANY), b"Quay A");
+//!         assert_eq!(first.departure(), Some(Minutes::new(8, 0)));
 //!         // from this boat to itself, where it calls a second time: boats are of class 4
 //!         let [_, second, _, last] = [0, 1, 2, 3].map(|at| run.calls().nth(at).expect("four calls"));
-//!         assert_eq!((second.departing_category().map(|boat| boat.class()), last.interchange_to(&second)), (Some(4), Some(3)));
+//!         assert_eq!((second.departing_category().map(|boat| boat.class().number()), last.interchange_to(&second)), (Some(4), Some(3)));
 //!     }
-//!     assert_eq!(ferry.runs(saturday)?.len(), 0);
+//!     assert_eq!(ferry.runs(saturday).len(), 0);
 //!
 //!     // operating days as sets
 //!     let weekdays = ferry.operating_days().next().expect("a range").field;
-//!     assert_eq!((weekdays.runs_on(friday)?, weekdays.runs_on(saturday)?), (true, false));
+//!     assert_eq!((weekdays.has(friday), weekdays.has(saturday)), (true, false));
 //!     assert_eq!((weekdays.day_count(), (timetable.each_day() - weekdays).day_count()), (5, 2));
-//!     assert_eq!((!weekdays).dates().next(), Some(saturday));
-//!     Ok(())
-//! })
+//!     assert_eq!((!weekdays).days().next(), Some(saturday));
+//! });
+//! # Ok(())
 //! # }
 //! ```
 //!
 //! What is wrong is refused, with its number, place and text, and yields no timetable:
 //!
 //! ```
-//! use estelunya_planner::{Files, Offence, Timetable};
+//! use estelunya_planner::{Files, LoadError, Offence, Timetable};
 //!
 //! let files = Files { eckdaten: b"01.12.2025\n", bitfeld: b"", bahnhof: b"", umsteigb: b"", fplan: b"", zugart: b"" };
-//! let refusal = Timetable::load(&files).unwrap_err();
-//! assert_eq!((refusal.offence, refusal.line), (Offence::LineMissing, 2));
-//! assert!(refusal.to_string().starts_with("refused 2 file 1 line 2 column 0: ECKDATEN: "));
+//! match Timetable::load(&files) {
+//!     Err(LoadError::Refused(refusal)) => {
+//!         assert_eq!((refusal.offence, refusal.line), (Offence::LineMissing, 2));
+//!         assert!(refusal.to_string().starts_with("refused 2 file 1 line 2 column 0: ECKDATEN: "));
+//!     }
+//!     other => panic!("{:?}", other),
+//! }
 //! ```
 //!
 //! How a host lives with it from night to night says [a day in the host](a_day_in_the_host); `examples/trial_week.rs` is a whole program. Who lends the words
@@ -64,26 +70,32 @@ mod connection;
 mod date;
 mod handles;
 mod keys;
+mod kind;
+mod memory;
+mod minutes;
+mod names;
+mod read;
 mod refusal;
 mod row;
-mod runs;
 mod timetable;
 mod version;
 
 pub use estelunya_sys::{layout, raw};
 
 pub use by_number::load::Files;
-pub use by_number::names::{Language, NameType};
-pub use by_number::BadPart;
-pub use connection::{Connection, Part};
+pub use connection::{BadConnection, BadPart, Connection, Part};
 pub use date::{Date, Month, NoSuchDate};
 pub use handles::{
-    Attribute, BitField, Call, Category, Departure, Interchange, Listed, OperatingDays, RouteCall, Run, Scope, Service,
-    ServiceCategory, Stop,
+    Attribute, BitField, Call, Category, CategoryRange, Class, Day, Departure, Departures, Interchange, Listed,
+    OperatingDays, RouteCall, Run, Scope, Service, Stop,
 };
 pub use keys::{BitFieldKey, CategoryKey, Key, RunKey, ServiceKey, StopKey};
+pub use kind::Kind;
 pub use layout::{MOST_ROW_WORDS, ROW_WORDS};
+pub use memory::NoMemory;
+pub use minutes::{Minutes, Moment, NoSuchMoment, NoSuchTime};
+pub use names::{Coding, Language, NameType};
+pub use read::ReadError;
 pub use refusal::{File, LoadRefusal, Offence, Refusal};
 pub use row::{Row, RowIter, Rows};
-pub use runs::Runs;
-pub use timetable::{Period, ReadError, Timetable};
+pub use timetable::{LoadError, Period, Timetable};

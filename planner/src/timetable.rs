@@ -1,16 +1,18 @@
 //! A loaded delivery that owns all that its questions need.
 
 use std::error::Error;
-use std::path::{Path, PathBuf};
-use std::{fmt, fs, io};
+use std::{fmt, io};
 
 use crate::by_number::load::Files;
-use crate::by_number::{load, room, room_for, Indexed, Lengths, Table};
+use crate::by_number::{helper_words, load_with, room, room_for, Indexed, Lengths, Table};
 use crate::date::Date;
 use crate::handles::Scope;
 use crate::keys::Load;
-use crate::layout::FIRST_DAY_AT;
-use crate::refusal::{File, LoadRefusal, Offence};
+use crate::kind::Kind;
+use crate::layout::{CALLS_AT, CALL_ARRIVAL_AT, CALL_DEPARTURE_AT, CALL_WORDS, FIRST_DAY_AT, SERVICE_WORDS};
+use crate::memory::{room_for_bytes, zeroed, NoMemory};
+use crate::minutes::Minutes;
+use crate::refusal::{LoadRefusal, Offence};
 
 /// The table of one accepted delivery, with its index, and with the bytes of its BAHNHOF, in which the names of its stops stand: made by one load, and never parted. It is never changed,
 /// and is made to stand in an [`Arc`](std::sync::Arc) all day: [`a day in the host`](crate::a_day_in_the_host).
@@ -18,7 +20,7 @@ use crate::refusal::{File, LoadRefusal, Offence};
 /// Every question is asked by the index, at the cost of its answer, whatever the size of the delivery: there is nothing to keep in front of it.
 ///
 /// What it holds is asked through handles ([`Service`](crate::Service), [`Stop`](crate::Stop), [`BitField`](crate::BitField),
-/// [`ServiceCategory`](crate::ServiceCategory), [`Run`](crate::Run)), which [`Timetable::scope`] gives.
+/// [`Category`](crate::Category), [`Run`](crate::Run)), which [`Timetable::scope`] gives.
 pub struct Timetable {
     words: Box<[u32]>,
     /// Made of these words, and of no others.
@@ -26,6 +28,8 @@ pub struct Timetable {
     bahnhof: Box<[u8]>,
     /// The number of its load, which its keys have.
     load: Load,
+    /// No run has a later time.
+    latest: Minutes,
 }
 
 impl Timetable {
@@ -36,16 +40,17 @@ impl Timetable {
     ///
     /// # Errors
     ///
-    /// The first offence of the delivery, in document 01's order: number, file, line and column. Neither [`Offence::TableTooShort`]
-    /// nor [`Offence::HelperTooShort`].
+    /// The first offence of the delivery, in document 01's order: number, file, line and column; neither [`Offence::TableTooShort`]
+    /// nor [`Offence::HelperTooShort`]. Or that there is no memory: then nothing is left behind, and the host goes on.
     ///
     /// # Panics
     ///
     /// If the archive and this crate are not of one version ([`raw::VERSION`](crate::raw::VERSION)): they are compared once, before the first call of the archive. And if the
     /// archive answers what this crate does not know, which would mean the same. So it is for every question.
-    pub fn load(files: &Files<'_>) -> Result<Timetable, LoadRefusal> {
-        let mut words = vec![0; room(files)];
-        let loaded = match load(files, &mut words) {
+    pub fn load(files: &Files<'_>) -> Result<Timetable, LoadError> {
+        let mut helper = zeroed(helper_words(files)?)?;
+        let mut words = zeroed(room(files))?;
+        let loaded = match load_with(files, &mut words, &mut helper) {
             Err(LoadRefusal { offence: Offence::TableTooShort, needed, .. }) => panic!(
                 "the archive says that {} words are enough, and then needs {}: it is of another version than this crate",
                 words.len(),
@@ -53,9 +58,12 @@ impl Timetable {
             ),
             answer => answer?,
         };
+        drop(helper);
         words.truncate(loaded.words as usize);
-        let index = index_of(Table::new(&words));
-        Ok(Timetable { words: words.into(), index, bahnhof: files.bahnhof.into(), load: Load::next() })
+        let (index, latest) = (index_of(Table::new(&words))?, latest_time(Table::new(&words)));
+        let mut bahnhof = room_for_bytes(files.bahnhof.len())?;
+        bahnhof.extend_from_slice(files.bahnhof);
+        Ok(Timetable { words: words.into(), index, bahnhof: bahnhof.into(), load: Load::next(), latest })
     }
 
     /// How many words [`Timetable::load`] lends to the table of files with these lengths, as [`room_for`] says: known before a file is read. Helper words
@@ -70,27 +78,6 @@ impl Timetable {
         room_for(lengths)
     }
 
-    /// Reads the six files of a delivery in a directory, each under its name in capitals, and loads them.
-    ///
-    /// # Errors
-    ///
-    /// The first file that cannot be read, or the refusal as of [`Timetable::load`].
-    pub fn read(directory: impl AsRef<Path>) -> Result<Timetable, ReadError> {
-        let read = |file: File| {
-            let path = directory.as_ref().join(file.name());
-            fs::read(&path).map_err(|error| ReadError::Unread { file, path, error })
-        };
-        let files = Files {
-            eckdaten: &read(File::Eckdaten)?,
-            bitfeld: &read(File::Bitfeld)?,
-            bahnhof: &read(File::Bahnhof)?,
-            umsteigb: &read(File::Umsteigb)?,
-            fplan: &read(File::Fplan)?,
-            zugart: &read(File::Zugart)?,
-        };
-        Timetable::load(&files).map_err(ReadError::Refused)
-    }
-
     /// Gives its handles to a closure, as [`std::thread::scope`] gives threads. What the closure gives back is given back; no handle can be in it, since
     /// each belongs to this scope alone, and no question takes one of another. What is to be kept is kept by [keys](crate::Key).
     ///
@@ -102,8 +89,8 @@ impl Timetable {
     /// let friday = Date::new(5, Month::December, 2025).unwrap();
     /// let numbers: Vec<u32> = timetable.scope(|timetable| timetable.services().map(|service| service.number()).collect());
     /// assert_eq!(numbers, [42]);
-    /// let runs = timetable.scope(|timetable| timetable.services().next().unwrap().runs(friday).map(|runs| runs.len()))?;
-    /// assert_eq!(runs, 1);
+    /// let runs = timetable.scope(|timetable| Some(timetable.services().next()?.runs(timetable.day(friday)?).len()));
+    /// assert_eq!(runs, Some(1));
     /// # Ok(())
     /// # }
     /// ```
@@ -243,6 +230,11 @@ impl Timetable {
         &self.bahnhof
     }
 
+    /// The latest time that a run can have, from the start of its date.
+    pub(crate) fn latest(&self) -> Minutes {
+        self.latest
+    }
+
     /// The number of its load.
     pub(crate) fn load_number(&self) -> Load {
         self.load
@@ -267,40 +259,36 @@ impl fmt::Debug for Timetable {
     }
 }
 
-/// Why there is no timetable of a directory.
-#[derive(Debug)]
+/// Why there is no timetable of a delivery.
+#[derive(Clone, Copy, Debug, PartialEq, Eq)]
 #[non_exhaustive]
-pub enum ReadError {
-    /// A file could not be read.
-    Unread {
-        /// Which.
-        file: File,
-        /// Where it was looked for.
-        path: PathBuf,
-        /// Why.
-        error: io::Error,
-    },
+pub enum LoadError {
     /// The delivery is refused.
     Refused(LoadRefusal),
+    /// There is no memory for it.
+    NoMemory(NoMemory),
 }
 
-impl fmt::Display for ReadError {
+impl fmt::Display for LoadError {
     fn fmt(&self, f: &mut fmt::Formatter<'_>) -> fmt::Result {
         match self {
-            ReadError::Unread { file, path, error } => {
-                write!(f, "unread file {}: {}: {}", file.number(), path.display(), error)
-            }
-            ReadError::Refused(refusal) => refusal.fmt(f),
+            LoadError::Refused(refusal) => refusal.fmt(f),
+            LoadError::NoMemory(none) => none.fmt(f),
         }
     }
 }
 
-impl Error for ReadError {
-    fn source(&self) -> Option<&(dyn Error + 'static)> {
-        match self {
-            ReadError::Unread { error, .. } => Some(error),
-            ReadError::Refused(_) => None,
-        }
+impl Error for LoadError {}
+
+impl From<LoadRefusal> for LoadError {
+    fn from(refusal: LoadRefusal) -> LoadError {
+        LoadError::Refused(refusal)
+    }
+}
+
+impl From<NoMemory> for LoadError {
+    fn from(none: NoMemory) -> LoadError {
+        LoadError::NoMemory(none)
     }
 }
 
@@ -327,7 +315,7 @@ impl Period {
         self.last.day_number() - self.first.day_number() + 1
     }
 
-    /// Whether a date is in it. A question on any other is refused with [`Refusal::OutsidePeriod`](crate::Refusal::OutsidePeriod).
+    /// Whether a date is in it: of no other is there a [`Day`](crate::Day).
     #[must_use]
     pub fn contains(self, date: Date) -> bool {
         self.first <= date && date <= self.last
@@ -339,13 +327,23 @@ impl Period {
     }
 }
 
+/// The latest time of all runs: a service's times do not go back (15), so that its last call has its latest, and its last run is the latest.
+fn latest_time(table: Table<'_>) -> Minutes {
+    let of_service = |words: &[u32]| {
+        let last = words[CALLS_AT] as usize * CALL_WORDS + SERVICE_WORDS - CALL_WORDS;
+        let late = Kind::of_head(words).and_then(|kind| kind.late(kind.last_repeat()))?;
+        Some(words.get(last + CALL_ARRIVAL_AT)?.max(words.get(last + CALL_DEPARTURE_AT)?) + late)
+    };
+    table.service_records().filter_map(of_service).max().unwrap_or(0).into()
+}
+
 /// The index of a table that was loaded: never longer than the table, so that it is made at once.
-fn index_of(table: Table<'_>) -> Box<[u32]> {
-    let mut index = vec![0; table.words().len()];
+fn index_of(table: Table<'_>) -> Result<Box<[u32]>, NoMemory> {
+    let mut index = zeroed(table.words().len())?;
     match table.make_index(&mut index) {
         Ok(used) => index.truncate(used),
         // Neither 21 nor 29 can be.
         Err(refusal) => panic!("the archive made no index of a table that it had loaded: {}", refusal),
     }
-    index.into()
+    Ok(index.into())
 }

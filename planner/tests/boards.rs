@@ -1,7 +1,7 @@
 //! Departure boards: what walking every run lists, in order, each once.
 
 use estelunya_planner::by_number::{Date as Numbers, Departure as Bare, Table};
-use estelunya_planner::{Date, Files, Refusal, Timetable};
+use estelunya_planner::{Date, Files, Minutes, Moment, Refusal, Timetable};
 
 /// A *Z with repeats that passes midnight and calls at B twice, of which the last leg rests on the second day; a *T; one that forbids boarding at B.
 const FPLAN: &str = "\
@@ -43,12 +43,12 @@ fn two_days() -> Timetable {
 /// Time, service's number, run and place of each departure, as a walk of every run lists them.
 fn walked(timetable: &Timetable, stop: u32, date: Date, first: u32, last: u32) -> Vec<(u32, usize, u32, usize)> {
     let mut listed: Vec<_> = timetable.scope(|timetable| {
-        let services = timetable.services().enumerate();
-        let runs = services.flat_map(|(at, service)| service.runs(date).unwrap().map(move |run| (at, run)));
+        let (day, services) = (timetable.day(date).unwrap(), timetable.services().enumerate());
+        let runs = services.flat_map(|(at, service)| service.runs(day).map(move |run| (at, run)));
         runs.flat_map(|(at, run)| {
             run.calls()
                 .filter(|call| call.stop().number() == stop && call.may_board())
-                .map(move |call| (call.departure().unwrap(), at, run.repeat(), call.place()))
+                .map(move |call| (call.departure().unwrap().count(), at, run.repeat(), call.place()))
                 .collect::<Vec<_>>()
         })
         .filter(|row| first <= row.0 && row.0 <= last)
@@ -62,13 +62,13 @@ fn boarded(timetable: &Timetable, stop: u32, date: Date, first: u32, last: u32) 
     timetable.scope(|timetable| {
         let stop = timetable.stop_by_number(stop).unwrap();
         let services: Vec<_> = timetable.services().collect();
-        let board = stop.departures(date, first..=last).unwrap();
+        let board = stop.board(timetable.day(date).unwrap(), first.into()..=last.into());
         board
             .map(|leaves| {
                 let (call, run) = (leaves.call(), leaves.run());
                 assert_eq!((call.departure(), call.stop(), call.run()), (Some(leaves.time()), stop, run));
                 let at = services.iter().position(|service| *service == leaves.service()).unwrap();
-                (leaves.time(), at, run.repeat(), call.place())
+                (leaves.time().count(), at, run.repeat(), call.place())
             })
             .collect()
     })
@@ -99,14 +99,47 @@ fn as_walked() {
     assert!(rows > 100, "{} rows", rows);
 }
 
+/// From a moment on: what walking every run of every day lists, by calendar and clock, whatever the moment.
+#[test]
+fn from_a_moment() {
+    let timetable = two_days();
+    let (first, last) = (timetable.period().first, timetable.period().last);
+    let mut given = 0;
+    for stop in [1_000_011, 1_000_022, 1_000_033, 1_000_044] {
+        let mut all: Vec<(Moment, Date, usize, u32, usize)> = Vec::new();
+        for date in timetable.period().dates() {
+            let rows = walked(&timetable, stop, date, 0, u32::MAX);
+            all.extend(rows.iter().map(|row| (Moment::new(date, row.0.into()), date, row.1, row.2, row.3)));
+        }
+        all.sort_unstable();
+        let moments = (0..2 * 1_440 + 200).step_by(11).map(|time| Moment::new(first, time.into()));
+        // long before and after the period too
+        let far = ["01.01.1900", "30.12.2025", "03.01.2026", "31.12.2199"]
+            .map(|date| Moment::new(date.parse().unwrap(), Minutes::new(23, 50)));
+        for from in moments.chain(far).chain([Moment::new(last, u32::MAX.into())]) {
+            let expected: Vec<_> = all.iter().filter(|row| row.0 >= from).copied().collect();
+            let listed: Vec<_> = timetable.scope(|timetable| {
+                let services: Vec<_> = timetable.services().collect();
+                let departures = timetable.stop_by_number(stop).unwrap().departures(from);
+                let at = |leaves| services.iter().position(|service| *service == leaves).unwrap();
+                departures
+                    .map(|leaves| {
+                        let run = leaves.run();
+                        (leaves.moment(), run.date(), at(leaves.service()), run.repeat(), leaves.place())
+                    })
+                    .collect()
+            });
+            given += listed.len();
+            assert_eq!(listed, expected, "{} from {}", stop, from);
+        }
+    }
+    assert!(given > 5_000, "{} departures", given);
+}
+
 #[test]
 fn refused() {
     let timetable = two_days();
-    let outside = "02.01.2026".parse().unwrap();
-    timetable.scope(|timetable| {
-        let stop = timetable.stops().next().unwrap();
-        assert_eq!(stop.departures(outside, 0..=9).err(), Some(Refusal::OutsidePeriod));
-    });
+    assert!(timetable.scope(|timetable| timetable.day("02.01.2026".parse().unwrap()).is_none()));
     let (indexed, date) = (timetable.indexed(), Numbers { day: 31, month: 12, year: 2025 });
     let no_date = Numbers { day: 32, ..date };
     assert_eq!(indexed.board(1, no_date, 0..=9), Err(Refusal::NoSuchDate));

@@ -1,7 +1,7 @@
 //! Proposed connections, by handles and by bare number, plain and by the index.
 
-use estelunya_planner::by_number::{self, BadPart};
-use estelunya_planner::{Files, Part, Refusal, Run, Scope, Timetable};
+use estelunya_planner::by_number;
+use estelunya_planner::{BadConnection, Files, Part, Refusal, Run, Scope, Timetable};
 
 /// Out at 08:00, back at 09:00, and a boat of another category on from B at 08:13, late at night from B to C; alighting at B of the first is allowed, boarding there is not.
 const FPLAN: &str = "\
@@ -41,21 +41,24 @@ fn bad(part: usize, refusal: Refusal) -> Result<(), (usize, Refusal)> {
     Err((part, refusal))
 }
 
-fn told(answer: Result<(), BadPart>) -> Result<(), (usize, Refusal)> {
+fn told(answer: Result<(), by_number::BadPart>) -> Result<(), (usize, Refusal)> {
     answer.map_err(|bad| (bad.part, bad.refusal))
 }
 
 fn check<'t>(timetable: Scope<'t>, parts: &[Part<'t>]) -> Result<(), (usize, Refusal)> {
-    told(timetable.connection(parts.to_vec()).check())
+    timetable.connection(parts.to_vec()).check().map_err(|bad| match bad {
+        BadConnection::PartCount => (0, bad.refusal()),
+        BadConnection::Part { part, .. } => (part, bad.refusal()),
+    })
 }
 
 #[test]
 fn by_handles() {
     let timetable = two_days();
-    let [first, second] = ["31.12.2025", "01.01.2026"].map(|date| date.parse().unwrap());
     timetable.scope(|timetable| {
+        let [first, second] = ["31.12.2025", "01.01.2026"].map(|date| timetable.day(date.parse().unwrap()).unwrap());
         let services: Vec<_> = timetable.services().collect();
-        let run = |service: usize, date, at| services[service].runs(date).unwrap().nth(at).unwrap();
+        let run = |service: usize, day, at| services[service].runs(day).nth(at).unwrap();
         let part = |run, board, alight| Part { run, board, alight };
         let out = run(0, first, 0);
         assert_eq!(check(timetable, &[part(out, 0, 2)]), Ok(()));
@@ -113,9 +116,9 @@ fn by_number() {
 #[test]
 fn runs() {
     let timetable = two_days();
-    let date = "31.12.2025".parse().unwrap();
     timetable.scope(|timetable| {
-        let runs: Vec<Run<'_>> = timetable.services().flat_map(|service| service.runs(date).unwrap()).collect();
+        let day = timetable.days().next().unwrap();
+        let runs: Vec<Run<'_>> = timetable.services().flat_map(|service| service.runs(day)).collect();
         assert_eq!(runs.len(), 4);
         for run in runs {
             let calls: Vec<_> = run.calls().collect();

@@ -1,13 +1,13 @@
 //! A timetable through its handles: they say what the numbers say, and everything that the table holds.
 
 use std::collections::HashSet;
-use std::path::Path;
 use std::sync::Arc;
 use std::thread;
 
 use estelunya_planner::by_number::Walk;
 use estelunya_planner::{
-    Date, File, Files, Language, Month, NameType, Offence, ReadError, Refusal, Runs, Timetable, MOST_ROW_WORDS,
+    Attribute, Call, Class, Coding, Date, Day, Files, Kind, Language, LoadError, Minutes, NameType, Offence, Scope,
+    Timetable, MOST_ROW_WORDS,
 };
 
 /// A *Z with repeats, of which the second leg does not run on the second day; a *T; both with other attributes.
@@ -30,13 +30,17 @@ const FPLAN: &str = "\
 ";
 
 /// Two days, 31.12.2025 and 01.01.2026; bit field 3 has the first.
-fn two_days() -> Result<Timetable, estelunya_planner::LoadRefusal> {
+fn two_days() -> Result<Timetable, LoadError> {
+    loaded("9999999  2  3\n1000022  4 15")
+}
+
+fn loaded(umsteigb: &str) -> Result<Timetable, LoadError> {
     let bitfeld = format!("000003 EC{:0<94}\n", "");
     Timetable::load(&Files {
         eckdaten: b"31.12.2025\n01.01.2026\nTwo days",
         bitfeld: bitfeld.as_bytes(),
         bahnhof: b"1000022     B$<d>$Bee$<e>\n1000011     A\n1000033     C",
-        umsteigb: b"9999999  2  3\n1000022  4 15",
+        umsteigb: umsteigb.as_bytes(),
         fplan: FPLAN.as_bytes(),
         zugart: b"% ships and trains\nBAT  4 A 0 BAT      0 B\nSCH 13 A 0 SCH      0\nIC   2 B 0 IC       1\n",
     })
@@ -54,6 +58,10 @@ fn second() -> Date {
     date("01.01.2026")
 }
 
+fn both(timetable: Scope<'_>) -> [Day<'_>; 2] {
+    [first(), second()].map(|date| timetable.day(date).unwrap())
+}
+
 #[test]
 fn shared_between_threads() {
     fn shared<T: Send + Sync + 'static>(_: &T) {}
@@ -64,7 +72,8 @@ fn shared_between_threads() {
     assert_eq!(counted.join().unwrap(), 2);
     timetable.scope(|timetable| {
         let service = timetable.services().next().unwrap();
-        let walked = thread::scope(|scope| scope.spawn(|| service.runs(first()).unwrap().len()).join());
+        let day = timetable.days().next().unwrap();
+        let walked = thread::scope(|scope| scope.spawn(|| service.runs(day).len()).join());
         assert_eq!(walked.unwrap(), 3);
     });
 }
@@ -80,8 +89,8 @@ fn heads() {
         let said: Vec<_> =
             timetable.services().map(|service| (service.number(), service.administration(), service.kind())).collect();
         let expected = [
-            (7, *b"FERRY_", Runs::Repeated { repeats: 2, offset: 30 }),
-            (42, *b"FERRY_", Runs::Frequent { running_time: 240, density: 450 }),
+            (7, *b"FERRY_", Kind::Repeated { repeats: 2, offset: 30 }),
+            (42, *b"FERRY_", Kind::Frequent { running_time: 240, density: 450 }),
         ];
         assert_eq!(said, expected);
         let lines: Vec<u32> = timetable.services().rev().map(|service| service.opening_line()).collect();
@@ -104,8 +113,9 @@ fn ranges() {
         assert_eq!(attributes, [(*b"FR", 1, 0, 2), (*b"K2", 2, 1, 2)]);
         let route: Vec<_> =
             service.route().map(|call| (call.stop().number(), call.arrival(), call.departure())).collect();
+        let time = |hours, minutes| Some(Minutes::new(hours, minutes));
         let expected =
-            [(1_000_011, None, Some(1_435)), (1_000_022, Some(1_450), Some(1_452)), (1_000_033, Some(1_470), None)];
+            [(1_000_011, None, time(23, 55)), (1_000_022, time(24, 10), time(24, 12)), (1_000_033, time(24, 30), None)];
         assert_eq!(route, expected);
         let between = service.route().nth(1).unwrap();
         assert_eq!((between.no_alighting(), between.no_boarding(), between.number()), (true, true, 8));
@@ -120,18 +130,21 @@ fn ranges() {
 fn runs() {
     let timetable = two_days().unwrap();
     timetable.scope(|timetable| {
-        let counts =
-            |date| -> Vec<usize> { timetable.services().map(|service| service.runs(date).unwrap().len()).collect() };
-        assert_eq!((counts(first()), counts(second())), (vec![3, 33], vec![3, 0]));
+        let counts = |day| -> Vec<usize> { timetable.services().map(|service| service.runs(day).len()).collect() };
+        let [one, two] = both(timetable);
+        assert_eq!((counts(one), counts(two)), (vec![3, 33], vec![3, 0]));
         let service = timetable.services().next().unwrap();
-        assert_eq!(service.runs(date("02.01.2026")).err(), Some(Refusal::OutsidePeriod));
-        let last = service.runs(first()).unwrap().last().unwrap();
-        assert_eq!((last.repeat(), last.late(), last.date(), last.service()), (2, 60, first(), service));
-        assert_eq!(last.calls().last().unwrap().arrival(), Some(1_470 + 60));
+        let last = service.runs(one).last().unwrap();
+        assert_eq!(
+            (last.repeat(), last.late(), last.day(), last.date(), last.service()),
+            (2, 60, one, first(), service)
+        );
+        assert_eq!(last.calls().last().unwrap().arrival(), Some(Minutes::new(25, 30)));
         // on the second day the second leg rests
-        let short = service.runs(second()).unwrap().next().unwrap();
+        let short = service.runs(two).next().unwrap();
         assert_eq!(short.calls().map(|call| call.stop().number()).collect::<Vec<_>>(), [1_000_011, 1_000_022]);
-        assert_eq!(short.calls().map(|call| call.category()).collect::<Vec<_>>(), [Some(*b"BAT"), None]);
+        let legs: Vec<_> = short.calls().map(|call| call.departing_category().map(|leg| leg.to_string())).collect();
+        assert_eq!(legs, [Some("BAT".to_string()), None]);
     });
 }
 
@@ -142,13 +155,14 @@ fn as_by_number() {
     let (table, mut lent) = (timetable.by_number(), vec![0; MOST_ROW_WORDS]);
     for date in timetable.period().dates() {
         let walked: Vec<Vec<u32>> = timetable.scope(|timetable| {
-            let runs = timetable.services().flat_map(|service| service.runs(date).unwrap());
+            let day = timetable.day(date).unwrap();
+            let runs = timetable.services().flat_map(|service| service.runs(day));
             runs.map(|run| run.calls().flat_map(|call| call.row().words().to_vec()).collect()).collect()
         });
         let mut expected = Vec::new();
         for service in 0..table.services() {
-            for run in table.runs(service).unwrap().iter() {
-                match table.walk(service, run.number, date.into(), &mut lent).unwrap() {
+            for repeat in 0..=table.kind(service).unwrap().last_repeat() {
+                match table.walk(service, repeat, date.into(), &mut lent).unwrap() {
                     Walk::Rows(rows) => expected.push(rows.words().to_vec()),
                     Walk::NotRunning => {}
                 }
@@ -162,14 +176,13 @@ fn as_by_number() {
 fn stops() {
     let timetable = two_days().unwrap();
     timetable.scope(|timetable| {
-        let names: Vec<_> =
-            timetable.stops().map(|stop| stop.name(Language::ENGLISH, NameType::ANY).unwrap()).collect();
+        let names: Vec<_> = timetable.stops().map(|stop| stop.name(Language::English, NameType::ANY)).collect();
         assert_eq!(names, [&b"Bee"[..], b"A", b"C"]);
         let stop = timetable.stop_by_number(1_000_022).unwrap();
         assert_eq!((stop, stop.name_field()), (timetable.stops().next().unwrap(), &b"B$<d>$Bee$<e>"[..]));
-        assert_eq!(stop.name(Language(1), NameType::ANY), Err(Refusal::NoSuchLanguageOrType));
-        assert_eq!((stop.interchange(2, 2), stop.interchange(2, 3)), (Ok(4), Ok(15)));
-        assert_eq!(stop.interchange(0, 14), Err(Refusal::ClassOver13));
+        assert_eq!(stop.name_text(Language::Any, NameType::ANY, Coding::IbmPc), "B");
+        let [high, low] = [2, 3].map(|number| Class::new(number).unwrap());
+        assert_eq!((stop.interchange(high, high), stop.interchange(high, low)), (4, 15));
         assert_eq!(timetable.stop_by_number(9_999_999), None);
         let records: Vec<_> = timetable.interchanges().map(|record| (record.stop, record.times)).collect();
         assert_eq!(records, [(None, [2, 3]), (Some(stop), [4, 15])]);
@@ -181,17 +194,18 @@ fn stops() {
 fn categories() {
     let timetable = two_days().unwrap();
     timetable.scope(|timetable| {
-        let listed: Vec<_> = timetable.categories().map(|category| (category.code(), category.class())).collect();
+        let listed: Vec<_> =
+            timetable.categories().map(|category| (category.code(), category.class().number())).collect();
         assert_eq!(listed, [(*b"BAT", 4), (*b"SCH", 13), (*b"IC ", 2)]);
         let of = |code: &[u8; 3]| timetable.category_by_code(*code);
         let (boat, train) = (of(b"BAT").unwrap(), of(b"IC ").unwrap());
         assert_eq!((of(b"bat"), of(b"IC\0")), (None, None));
-        assert_eq!(format!("{:?}", boat), "ServiceCategory(\"BAT\", class 4)");
+        assert_eq!(format!("{:?}", boat), "Category(\"BAT\", class 4)");
         let stop = timetable.stop_by_number(1_000_022).unwrap();
         let minutes = [(train, train), (train, boat), (boat, train)].map(|(a, b)| stop.interchange_between(a, b));
         assert_eq!(minutes, [4, 15, 15]);
         let [night, day] =
-            [0, 1].map(|at| timetable.services().nth(at).unwrap().runs(first()).unwrap().next().unwrap());
+            [0, 1].map(|at| timetable.services().nth(at).unwrap().runs(both(timetable)[0]).next().unwrap());
         let calls: Vec<_> = night.calls().collect();
         let legs: Vec<_> = calls
             .iter()
@@ -206,6 +220,49 @@ fn categories() {
     });
 }
 
+/// Attributes at a call, by the run's day and by the leg that leaves.
+#[test]
+fn attributes() {
+    let timetable = two_days().unwrap();
+    timetable.scope(|timetable| {
+        let service = timetable.services().next().unwrap();
+        // all at each call, and those of the leg that leaves
+        let codes = |day: Day<'_>| -> Vec<[String; 2]> {
+            let run = service.runs(timetable.day(day.date()).unwrap()).next().unwrap();
+            let text = |part: Attribute<'_>| Coding::Utf8.text(&part.code).into_owned();
+            let told = |call: Call<'_>| {
+                [call.attributes().map(text).collect(), call.departing_attributes().map(text).collect()]
+            };
+            run.calls().map(told).collect()
+        };
+        let [one, two] = both(timetable);
+        assert_eq!(codes(one), [["FR", "FR"], ["FRK2", "FRK2"], ["FRK2", ""]]);
+        // on the second day FR does not hold, and the run ends where K2 begins
+        assert_eq!(codes(two), [["", ""], ["K2", ""]]);
+    });
+}
+
+/// Two operators: the longer of their two times, by the class of the leg that arrives and of the one that leaves.
+#[test]
+fn across() {
+    let (ours, other) = (two_days().unwrap(), loaded("9999999  2  3\n1000022  9 20").unwrap());
+    ours.scope(|ours| {
+        other.scope(|other| {
+            let night = ours.services().next().unwrap().runs(both(ours)[0]).next().unwrap();
+            let day = other.services().nth(1).unwrap().runs(both(other)[0]).next().unwrap();
+            let (calls, board): (Vec<_>, Vec<_>) = (night.calls().collect(), day.calls().collect());
+            assert_eq!(calls[1].interchange_to(&calls[1]), Some(15));
+            assert_eq!(
+                (calls[1].interchange_across(&board[0]), board[1].interchange_across(&calls[0])),
+                (Some(20), Some(3))
+            );
+            // another stop, no leg that arrives, no leg that leaves
+            assert_eq!((calls[2].interchange_across(&board[0]), calls[0].interchange_across(&board[0])), (None, None));
+            assert_eq!(calls[1].interchange_across(&board[1]), None);
+        });
+    });
+}
+
 #[test]
 fn days() {
     let timetable = two_days().unwrap();
@@ -213,12 +270,14 @@ fn days() {
         let field = timetable.bit_fields().next().unwrap();
         let daily = timetable.each_day();
         assert_eq!((timetable.bit_fields().len(), field.key().is_some(), field.day_count()), (1, true, 1));
-        assert_eq!((field.runs_on(first()), field.runs_on(second())), (Ok(true), Ok(false)));
-        assert_eq!(((!field).runs_on(first()), (!field).runs_on(second())), (Ok(false), Ok(true)));
-        assert_eq!(((!field).key(), (!field).dates().collect::<Vec<_>>()), (None, vec![second()]));
+        let [one, two] = both(timetable);
+        assert_eq!([one, two].map(|day| (field.has(day), (!field).has(day))), [(true, false), (false, true)]);
+        assert_eq!(((!field).key(), (!field).days().collect::<Vec<_>>()), (None, vec![two]));
         assert_eq!((field | !field, field & !field, daily - field), (daily, daily - daily, !field));
-        assert_eq!((field | daily).runs_on(date("30.12.2025")), Err(Refusal::OutsidePeriod));
-        assert_eq!(field.runs_on(Date::new(1, Month::March, 1900).unwrap()), Err(Refusal::OutsidePeriod));
+        assert_eq!(timetable.days().collect::<Vec<_>>(), [one, two]);
+        assert_eq!((one.day_before(), one.day_after(), two.day_after()), (None, Some(two), None));
+        let outside = ["30.12.2025", "02.01.2026", "01.03.1900"].map(|text| timetable.day(date(text)));
+        assert_eq!(outside, [None, None, None]);
     });
 }
 
@@ -231,7 +290,7 @@ fn printed() {
     timetable.scope(|timetable| {
         let service = timetable.services().next().unwrap();
         assert_eq!(format!("{:?}", service), "Service { index: 0, number: 7, .. }");
-        let run = service.runs(first()).unwrap().next().unwrap();
+        let run = service.runs(both(timetable)[0]).next().unwrap();
         assert_eq!(format!("{:?}", run), "Run { service: 0, date: 31.12.2025, repeat: 0, .. }");
         assert_eq!(format!("{:?}", timetable.each_day()), "BitField { number: Some(0), days: 2, .. }");
         assert_eq!(format!("{:?}", run.calls().next().unwrap().stop()), "Stop(1000011)");
@@ -257,12 +316,8 @@ fn empty_but_accepted() {
 #[test]
 fn refused() {
     let none = Files { eckdaten: b"", bitfeld: b"", bahnhof: b"", umsteigb: b"", fplan: b"", zugart: b"" };
-    let refusal = Timetable::load(&none).unwrap_err();
-    assert_eq!(refusal.offence, Offence::LineMissing);
-    match Timetable::read(Path::new("no such directory")) {
-        Err(error @ ReadError::Unread { file: File::Eckdaten, .. }) => {
-            assert!(error.to_string().starts_with("unread file 1: no such directory/ECKDATEN: "), "{}", error);
-        }
+    match Timetable::load(&none) {
+        Err(LoadError::Refused(refusal)) => assert_eq!(refusal.offence, Offence::LineMissing),
         other => panic!("{:?}", other),
     }
 }

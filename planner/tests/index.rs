@@ -3,7 +3,7 @@
 mod trial_week;
 
 use estelunya_planner::by_number::{category_word, load, room, Date, Table, Walk};
-use estelunya_planner::{Language, NameType, Refusal, MOST_ROW_WORDS};
+use estelunya_planner::{Refusal, MOST_ROW_WORDS};
 use trial_week::TRIAL_WEEK;
 
 fn words() -> Vec<u32> {
@@ -72,7 +72,7 @@ fn quick_as_plain() {
         for code in [*b"BAT", *b"CAT"].map(category_word) {
             assert_eq!(indexed.interchange_between(number, code, code), table.interchange_between(number, code, code));
         }
-        for (language, kind) in [(Language::GERMAN, NameType::ANY), (Language(1), NameType(3))] {
+        for (language, kind) in [(b'd'.into(), 0), (1, 3)] {
             let plain = table.stop(number, TRIAL_WEEK.bahnhof).name(language, kind);
             assert_eq!(indexed.stop_name(number, TRIAL_WEEK.bahnhof, language, kind), plain);
         }

@@ -17,7 +17,7 @@ fn yesterday() {
     let [yesterday, today] = [(), ()].map(|()| Timetable::load(&TRIAL_WEEK).unwrap());
     let (service, stop, field, daily, category, run) = yesterday.scope(|timetable| {
         let service = timetable.services().next().unwrap();
-        let run = service.runs(friday()).unwrap().next().unwrap();
+        let run = service.runs(timetable.day(friday()).unwrap()).next().unwrap();
         let field = service.operating_days().next().unwrap().field;
         assert_eq!((!field).key(), None);
         let (stop, category) = (timetable.stops().last().unwrap(), timetable.categories().next().unwrap());

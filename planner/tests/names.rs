@@ -4,9 +4,12 @@ use std::thread::Builder;
 
 use estelunya_planner::by_number::{load, Table};
 use estelunya_planner::layout::{HEADER_WORDS, STOP_WORDS};
-use estelunya_planner::{File, Files, Language, LoadRefusal, NameType, Offence, Refusal};
+use estelunya_planner::{File, Files, LoadRefusal, Offence, Refusal};
 
-const ANY: NameType = NameType::ANY;
+/// Any language, or any type.
+const ANY: u32 = 0;
+const GERMAN: u32 = b'd' as u32;
+const DUTCH: u32 = b'n' as u32;
 
 fn loaded(bahnhof: &[u8]) -> Result<Vec<u32>, LoadRefusal> {
     let files = Files {
@@ -38,8 +41,8 @@ fn stop_with(field: &str) -> Result<(Vec<u8>, Vec<u32>), Refused> {
 /// The name of that stop that a letter and a type ask for, 0 for any.
 fn name_in(field: &str, letter: char, kind: u32) -> String {
     let (bahnhof, words) = stop_with(field).unwrap();
-    let language = Language(if letter == '0' { 0 } else { letter as u32 });
-    let name = Table::new(&words).stop(1_000_011, &bahnhof).name(language, NameType(kind)).unwrap();
+    let language = if letter == '0' { ANY } else { letter as u32 };
+    let name = Table::new(&words).stop(1_000_011, &bahnhof).name(language, kind).unwrap();
     String::from_utf8(name.to_vec()).unwrap()
 }
 
@@ -116,7 +119,7 @@ fn order() {
 fn refused() {
     let (bahnhof, words) = stop_with("Genf$<d>$Geneva$<e>").unwrap();
     let asked = |words: &[u32], bytes: &[u8], stop, language, kind| {
-        Table::new(words).stop(stop, bytes).name(Language(language), NameType(kind)).map(<[u8]>::to_vec)
+        Table::new(words).stop(stop, bytes).name(language, kind).map(<[u8]>::to_vec)
     };
     let d = u32::from(b'd');
     assert_eq!(asked(&words, &bahnhof, 1_000_011, u32::from(b'e'), 9), Ok(b"Geneva".to_vec()));
@@ -151,12 +154,12 @@ fn claiming(place: u32, length: u32) -> Vec<u32> {
 fn far_places() {
     for (place, length) in [(u32::MAX, 1), (1, u32::MAX), (u32::MAX, u32::MAX), (4, 0), (3, 1), (0, 4)] {
         let words = claiming(place, length);
-        assert_eq!(Table::new(&words).stop(1_000_011, b"A$B").name(Language::ANY, ANY), Err(Refusal::NameOutside));
+        assert_eq!(Table::new(&words).stop(1_000_011, b"A$B").name(ANY, ANY), Err(Refusal::NameOutside));
     }
     let words = claiming(3, 0);
-    assert_eq!(Table::new(&words).stop(1_000_011, b"A$B").name(Language::ANY, ANY), Err(Refusal::NameList));
+    assert_eq!(Table::new(&words).stop(1_000_011, b"A$B").name(ANY, ANY), Err(Refusal::NameList));
     let words = claiming(2, 1);
-    assert_eq!(Table::new(&words).stop(1_000_011, b"A$B").name(Language::ANY, ANY), Ok(&b"B"[..]));
+    assert_eq!(Table::new(&words).stop(1_000_011, b"A$B").name(ANY, ANY), Ok(&b"B"[..]));
 }
 
 const STACK_BYTES: usize = 64 * 1024;
@@ -170,16 +173,16 @@ fn deep_lists_in_64_kib() {
             let deep = format!("{}A", part.repeat(4_000_000)).into_bytes();
             for length in [deep.len(), 1_000_000, 51] {
                 let words = claiming(0, length as u32);
-                let name = Table::new(&words).stop(1_000_011, &deep).name(Language::GERMAN, ANY);
+                let name = Table::new(&words).stop(1_000_011, &deep).name(GERMAN, ANY);
                 assert_eq!(name, Err(Refusal::NameList), "{} {}", part, length);
             }
         }
         let deepest = "A$<d>".repeat(10).into_bytes();
         let words = claiming(0, 50);
-        assert_eq!(Table::new(&words).stop(1_000_011, &deepest).name(Language::GERMAN, ANY), Ok(&b"A"[..]));
+        assert_eq!(Table::new(&words).stop(1_000_011, &deepest).name(GERMAN, ANY), Ok(&b"A"[..]));
         let names = format!("{}Z", "A$".repeat(24)).into_bytes();
         let words = claiming(0, 49);
-        assert_eq!(Table::new(&words).stop(1_000_011, &names).name(Language::DUTCH, NameType(9)), Ok(&b"A"[..]));
+        assert_eq!(Table::new(&words).stop(1_000_011, &names).name(DUTCH, 9), Ok(&b"A"[..]));
     };
     Builder::new().stack_size(STACK_BYTES).spawn(asked).unwrap().join().unwrap();
 }

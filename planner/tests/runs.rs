@@ -1,7 +1,7 @@
 //! Runs of both kinds of services in one table: which there are, how late each is, and that a walk says the same.
 
-use estelunya_planner::by_number::{load, Date, Run, Table, Walk};
-use estelunya_planner::{Files, Refusal, Runs, ROW_WORDS};
+use estelunya_planner::by_number::{load, Date, Table, Walk};
+use estelunya_planner::{Files, Kind, Refusal, ROW_WORDS};
 
 const DAY: Date = Date { day: 31, month: 12, year: 2025 };
 
@@ -40,24 +40,24 @@ fn words() -> Vec<u32> {
 fn kinds() {
     let words = words();
     let table = Table::new(&words);
-    let runs: Vec<Option<Runs>> = (0..5).map(|index| table.runs(index)).collect();
+    let kinds: Vec<Option<Kind>> = (0..5).map(|index| table.kind(index)).collect();
     let expected = [
-        Some(Runs::Frequent { running_time: 240, density: 450 }),
-        Some(Runs::Repeated { repeats: 23, offset: 10 }),
-        Some(Runs::Frequent { running_time: 0, density: 9_999 }),
-        Some(Runs::Repeated { repeats: 0, offset: 0 }),
+        Some(Kind::Frequent { running_time: 240, density: 450 }),
+        Some(Kind::Repeated { repeats: 23, offset: 10 }),
+        Some(Kind::Frequent { running_time: 0, density: 9_999 }),
+        Some(Kind::Repeated { repeats: 0, offset: 0 }),
         None,
     ];
-    assert_eq!(runs, expected);
+    assert_eq!(kinds, expected);
 }
 
 /// 5.3.3's example has runs 0 to 32; run 1 is 8 minutes late, run 3 is 23 and not 24, run 32 is 240.
 #[test]
 fn lateness() {
     let words = words();
-    let runs = Table::new(&words).runs(0).unwrap();
-    assert_eq!((runs.last(), runs.iter().count(), runs.run(33)), (32, 33, None));
-    let late: Vec<u32> = [0, 1, 2, 3, 32].iter().filter_map(|number| runs.run(*number)).map(|run| run.late).collect();
+    let kind = Table::new(&words).kind(0).unwrap();
+    assert_eq!((kind.last_repeat(), kind.late(33)), (32, None));
+    let late: Vec<u32> = [0, 1, 2, 3, 32].iter().filter_map(|repeat| kind.late(*repeat)).collect();
     assert_eq!(late, [0, 8, 15, 23, 240]);
 }
 
@@ -68,9 +68,10 @@ fn walked() {
     let table = Table::new(&words);
     let mut lent = [0; 2 * ROW_WORDS];
     for service in 0..4 {
-        let runs = table.runs(service).unwrap();
-        for Run { number, late } in runs.iter() {
-            match table.walk(service, number, DAY, &mut lent) {
+        let kind = table.kind(service).unwrap();
+        for repeat in 0..=kind.last_repeat() {
+            let late = kind.late(repeat).unwrap();
+            match table.walk(service, repeat, DAY, &mut lent) {
                 Ok(Walk::Rows(rows)) => {
                     let times: Vec<(Option<u32>, Option<u32>)> =
                         rows.iter().map(|row| (row.arrival(), row.departure())).collect();
@@ -79,7 +80,7 @@ fn walked() {
                 other => panic!("{:?}", other),
             }
         }
-        for over in [runs.last() + 1, u32::MAX] {
+        for over in [kind.last_repeat() + 1, u32::MAX] {
             assert_eq!(table.walk(service, over, DAY, &mut lent), Err(Refusal::NoSuchRepeat));
         }
     }

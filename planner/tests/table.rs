@@ -134,8 +134,9 @@ fn all_read(words: &[u32]) {
     let (services, stops) = (table.services(), table.stops());
     for index in [0, 1, 2, services, stops, u32::MAX] {
         table.service_number(index);
-        if let Some(runs) = table.runs(index) {
-            assert_eq!(runs.run(runs.last()).map(|run| run.number), Some(runs.last()));
+        if let Some(kind) = table.kind(index) {
+            let last = kind.last_repeat();
+            assert_eq!((kind.late(last).is_some(), kind.late(last + 1)), (true, None));
         }
         let stop = table.stop_number(index).unwrap_or(index);
         table.stop_name(stop, BAHNHOF);

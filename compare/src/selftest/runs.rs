@@ -11,9 +11,9 @@ use crate::reader::runs::Runs;
 use crate::reader::{is_table, load, walk, Loaded, Walked};
 
 /// The planner's runs, which need no archive.
-#[path = "../../../planner/src/runs.rs"]
+#[path = "../../../planner/src/kind.rs"]
 #[allow(dead_code, rustdoc::broken_intra_doc_links)]
-mod planner_runs;
+mod planner_kind;
 
 const ALL: (&str, &str) = ("", "");
 
@@ -198,18 +198,17 @@ fn as_the_planner_has_them() {
                 head[KIND_AT] = kind;
                 head[REPEATS_AT] = repeats;
                 head[OFFSET_AT] = offset;
-                let (ours, theirs) = (Runs::of_words(kind, [repeats, offset]), planner_runs::Runs::of_head(&head));
+                let (ours, theirs) = (Runs::of_words(kind, [repeats, offset]), planner_kind::Kind::of_head(&head));
                 assert_eq!(ours.is_some(), theirs.is_some(), "{:?}", head);
                 if let (Some(ours), Some(theirs)) = (ours, theirs) {
-                    let last = theirs.last();
+                    let last = theirs.last_repeat();
                     for run in [0, 1, 2, 3, last / 2, last.saturating_sub(1), last, last + 1, 1 << 31, u32::MAX] {
-                        assert_eq!(ours.late(run), theirs.run(run).map(|run| run.late), "{:?} {}", theirs, run);
+                        assert_eq!(ours.late(run), theirs.late(run), "{:?} {}", theirs, run);
                     }
                 }
             }
         }
     }
-    let all = planner_runs::Runs::Frequent { running_time: 240, density: 450 };
-    let late: Vec<u32> = all.iter().map(|run| run.late).collect();
-    assert_eq!((late.len(), late[1], late[32]), (33, 8, 240));
+    let all = planner_kind::Kind::Frequent { running_time: 240, density: 450 };
+    assert_eq!([0, 1, 32, 33].map(|repeat| all.late(repeat)), [Some(0), Some(8), Some(240), None]);
 }

@@ -103,8 +103,8 @@ impl<'a> Table<'a> {
         answered(answer.number, 0, answer.minutes)
     }
 
-    /// Walks a run that starts on a date: service by its index from 0 in FPLAN's order, repeat 0 for the run itself, else the
-    /// number of one of its [`runs`](Table::runs).
+    /// Walks a run that starts on a date: service by its index from 0 in FPLAN's order, repeat 0 for the run itself, else up to
+    /// the last that its [`kind`](Table::kind) has.
     ///
     /// # Errors
     ///

@@ -5,13 +5,13 @@
 
 use super::ask::Table;
 use crate::handles::Listed;
+use crate::kind::Kind;
 use crate::layout::{
     BIT_FIELDS_AT, BIT_FIELD_BITS_AT, BIT_FIELD_NUMBER_AT, BIT_FIELD_WORDS, CLASSES_AT, CLASS_AT, CLASS_CODE_AT,
     CLASS_WORDS, FIRST_SERVICE_AT, HEADER_WORDS, INTERCHANGES_AT, INTERCHANGE_WORDS, NUMBER_AT, PERIOD_DAYS_AT,
     SERVICES_AT, SERVICE_WORDS, SIZE_AT, STOPS_AT, STOP_NAME_AT, STOP_NAME_LENGTH_AT, STOP_NUMBER_AT, STOP_WORDS,
     USED_AT,
 };
-use crate::runs::Runs;
 
 impl<'a> Table<'a> {
     /// How many days the period has; 0 where there are fewer words than a header has.
@@ -35,10 +35,10 @@ impl<'a> Table<'a> {
         self.service_numbers().nth(index as usize)
     }
 
-    /// The runs of the service with this index, which say of what kind it is; `None` if there is no such service, or its words say what no
+    /// The kind of the service with this index, which says its runs; `None` if there is no such service, or its words say what no
     /// table says. It passes over the services before it.
-    pub fn runs(self, index: u32) -> Option<Runs> {
-        self.service_heads().nth(index as usize).and_then(Runs::of_head)
+    pub fn kind(self, index: u32) -> Option<Kind> {
+        self.service_heads().nth(index as usize).and_then(Kind::of_head)
     }
 
     /// How many stops there are; 0 where there are fewer words than a header has.
@@ -112,7 +112,12 @@ impl<'a> Table<'a> {
 
     /// The head of each service, in FPLAN's order.
     pub(crate) fn service_heads(self) -> impl Iterator<Item = &'a [u32]> {
-        heads(self.from(u64::from(self.header(FIRST_SERVICE_AT)))).take(self.services() as usize)
+        self.service_records().map(|words| &words[..SERVICE_WORDS])
+    }
+
+    /// The words of each service, in FPLAN's order; at least its head.
+    pub(crate) fn service_records(self) -> impl Iterator<Item = &'a [u32]> {
+        records(self.from(u64::from(self.header(FIRST_SERVICE_AT)))).take(self.services() as usize)
     }
 
     /// Number, place and length of the name of each stop.
@@ -131,12 +136,13 @@ impl<'a> Table<'a> {
     }
 }
 
-/// The first words of each service; its word count says where the next one is.
-fn heads(mut services: &[u32]) -> impl Iterator<Item = &[u32]> {
+/// The words of each service, whose first says where the next one is; as far as there are words, and no fewer than a head.
+fn records(mut services: &[u32]) -> impl Iterator<Item = &[u32]> {
     std::iter::from_fn(move || {
         let head = services.get(..SERVICE_WORDS)?;
-        let count = (head[SIZE_AT] as usize).max(SERVICE_WORDS);
-        services = services.get(count..).unwrap_or(&[]);
-        Some(head)
+        let count = (head[SIZE_AT] as usize).max(SERVICE_WORDS).min(services.len());
+        let (service, after) = services.split_at(count);
+        services = after;
+        Some(service)
     })
 }

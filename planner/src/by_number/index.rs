@@ -3,7 +3,6 @@
 use std::fmt;
 
 use super::ask::{answered, Date, Table, Walk};
-use super::names::{Language, NameType};
 use crate::layout::{
     BIT_FIELDS_AT, BIT_FIELD_BITS_AT, BIT_FIELD_WORDS, CLASSES_AT, CLASS_AT, CLASS_WORDS, HEADER_WORDS,
     INTERCHANGES_AT, INTERCHANGE_WORDS, SERVICES_AT, SIZE_AT, STOPS_AT, STOP_NAME_AT, STOP_NAME_LENGTH_AT, STOP_WORDS,
@@ -148,20 +147,13 @@ impl<'a> Indexed<'a> {
     /// # Errors
     ///
     /// 21, 43, 27, 39, 40 or 41.
-    pub fn stop_name(
-        self,
-        stop: u32,
-        bahnhof: &'a [u8],
-        language: Language,
-        kind: NameType,
-    ) -> Result<&'a [u8], Refusal> {
+    pub fn stop_name(self, stop: u32, bahnhof: &'a [u8], language: u32, kind: u32) -> Result<&'a [u8], Refusal> {
         compared();
         let ((words, used), (index, size)) = self.parts();
         let (bytes, length) = (bahnhof.as_ptr(), bahnhof.len());
         // SAFETY: each pointer and length is that of a slice.
-        let answer = unsafe {
-            raw::estelunya_quick_stop_name(words, used, index, size, bytes, length, stop, language.0, kind.0)
-        };
+        let answer =
+            unsafe { raw::estelunya_quick_stop_name(words, used, index, size, bytes, length, stop, language, kind) };
         answered(answer.number, 0, ())?;
         Ok(&bahnhof[answer.start..][..answer.length])
     }
