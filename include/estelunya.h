@@ -28,7 +28,7 @@ extern "C" {
  * once, before any other call, with estelunya_version() of the archive that it was linked with; where they differ it has to be built again, and words that
  * were kept have to be loaded again.
  */
-#define ESTELUNYA_VERSION 2
+#define ESTELUNYA_VERSION 2u
 
 typedef struct EstelunyaLoadResult {
     uint32_t number; /* 0: accepted; else the refusal, 1 to 20, 37, 38, 39 or 51 */
@@ -95,8 +95,7 @@ typedef struct EstelunyaDayCountResult {
  * service its head, then all its calls, *G, *A VE and other *A. Below, .._WORDS is how many words a record has, and .._AT is where a word stands in it,
  * counted from 0. Bytes share a word with the first byte highest.
  *
- * These numbers, and the limits below, stand again in planner/sys/src/layout.rs, and those that the loader names in crates/timetable/src/lib.rt: tools/drift.sh
- * holds them together, name by name.
+ * The numbers that the loader names are those of its source, and planner/sys/src/layout.rs has all of them: tools/boundary.sh writes them.
  */
 
 /* Header */
@@ -105,11 +104,11 @@ typedef struct EstelunyaDayCountResult {
 #define ESTELUNYA_FIRST_DAY_AT 1     /* first day of the period; 01.01.1900 is 0 */
 #define ESTELUNYA_PERIOD_DAYS_AT 2   /* days of the period */
 #define ESTELUNYA_BIT_FIELDS_AT 3    /* how many bit fields there are */
-#define ESTELUNYA_STOPS_AT 4         /* stops */
-#define ESTELUNYA_INTERCHANGES_AT 5  /* interchange records */
-#define ESTELUNYA_SERVICES_AT 6      /* services */
+#define ESTELUNYA_STOPS_AT 4         /* how many stops */
+#define ESTELUNYA_INTERCHANGES_AT 5  /* how many interchange records */
+#define ESTELUNYA_SERVICES_AT 6      /* how many services */
 #define ESTELUNYA_FIRST_SERVICE_AT 7 /* place of the first service: the words of the header and of all records before it */
-#define ESTELUNYA_CLASSES_AT 8       /* categories, each with its class */
+#define ESTELUNYA_CLASSES_AT 8       /* how many categories, each with its class */
 
 /* Bit field */
 #define ESTELUNYA_BIT_FIELD_WORDS 13
@@ -128,7 +127,7 @@ typedef struct EstelunyaDayCountResult {
 #define ESTELUNYA_INTERCHANGE_STOP_AT 0        /* number of the stop; EVERY_STOP in the first record */
 #define ESTELUNYA_INTERCHANGE_FIRST_TIME_AT 1  /* time for two classes that are both 0, 1 or 2 */
 #define ESTELUNYA_INTERCHANGE_SECOND_TIME_AT 2 /* time for all other classes */
-#define ESTELUNYA_EVERY_STOP 9999999u          /* every stop without its own */
+#define ESTELUNYA_EVERY_STOP 9999999u          /* number of every stop without its own */
 
 /* Category, from a line of ZUGART */
 #define ESTELUNYA_CLASS_WORDS 2
@@ -139,22 +138,22 @@ typedef struct EstelunyaDayCountResult {
 #define ESTELUNYA_SERVICE_WORDS 12
 #define ESTELUNYA_SIZE_AT 0           /* words of this service, with its head */
 #define ESTELUNYA_NUMBER_AT 1         /* its number */
-#define ESTELUNYA_ADMINISTRATION_AT 2 /* two words of three bytes */
+#define ESTELUNYA_ADMINISTRATION_AT 2 /* its administration, two words of three bytes */
 #define ESTELUNYA_REPEATS_AT 4        /* repeats; of a *T service its running time in minutes */
-#define ESTELUNYA_OFFSET_AT 5         /* in minutes; of a *T service its density in seconds, 1 or more */
+#define ESTELUNYA_OFFSET_AT 5         /* offset in minutes; of a *T service its density in seconds, 1 or more */
 #define ESTELUNYA_CALLS_AT 6          /* how many calls it has */
-#define ESTELUNYA_CATEGORIES_AT 7     /* *G */
-#define ESTELUNYA_DAYS_AT 8           /* *A VE */
-#define ESTELUNYA_EXTRAS_AT 9         /* other *A */
+#define ESTELUNYA_CATEGORIES_AT 7     /* how many *G */
+#define ESTELUNYA_DAYS_AT 8           /* how many *A VE */
+#define ESTELUNYA_EXTRAS_AT 9         /* how many other *A */
 #define ESTELUNYA_OPENING_LINE_AT 10  /* line of its *Z or *T in FPLAN */
 #define ESTELUNYA_KIND_AT 11          /* its kind */
 
 /*
- * The kinds of a service. Opened by *Z: runs 0 to `repeats`, run j late by j times the offset. Opened by *T: runs j = 0, 1, 2.. while j times the density is at
+ * Kind of a service. Opened by *Z: runs 0 to `repeats`, run j late by j times the offset. Opened by *T: runs j = 0, 1, 2.. while j times the density is at
  * most sixty times the running time, run j late by j times the density over sixty, rounded up, in minutes.
  */
-#define ESTELUNYA_KIND_Z 0u
-#define ESTELUNYA_KIND_T 1u
+#define ESTELUNYA_KIND_Z 0u /* opened by *Z, with repeats and an offset */
+#define ESTELUNYA_KIND_T 1u /* opened by *T, with a running time and a density */
 
 /*
  * Call. The place of its stop is counted in records from 0, so that the stop's record begins at word
@@ -165,46 +164,46 @@ typedef struct EstelunyaDayCountResult {
  */
 #define ESTELUNYA_CALL_WORDS 7
 #define ESTELUNYA_CALL_PLACE_AT 0          /* place of the stop among the stops */
-#define ESTELUNYA_CALL_ARRIVAL_AT 1        /* in minutes; 0 if there is none */
-#define ESTELUNYA_CALL_DEPARTURE_AT 2      /* in the same way */
-#define ESTELUNYA_CALL_FLAGS_AT 3          /* see the flags below */
+#define ESTELUNYA_CALL_ARRIVAL_AT 1        /* arrival in minutes; 0 if there is none */
+#define ESTELUNYA_CALL_DEPARTURE_AT 2      /* departure in the same way */
+#define ESTELUNYA_CALL_FLAGS_AT 3          /* its flags */
 #define ESTELUNYA_CALL_NUMBER_AT 4         /* the service's number that holds from this call on */
 #define ESTELUNYA_CALL_ADMINISTRATION_AT 5 /* the administration in the same way, two words of three bytes */
 
-/* *G. From and to are indexes of calls, from 0, here and below. */
+/* *G. Indexes of calls count from 0, here and below. */
 #define ESTELUNYA_CATEGORY_WORDS 3
 #define ESTELUNYA_CATEGORY_CODE_AT 0 /* category in three bytes, which is one of ZUGART's */
-#define ESTELUNYA_CATEGORY_FROM_AT 1
-#define ESTELUNYA_CATEGORY_TO_AT 2
+#define ESTELUNYA_CATEGORY_FROM_AT 1 /* index of the first call */
+#define ESTELUNYA_CATEGORY_TO_AT 2   /* index of the last call */
 
 /* *A VE */
 #define ESTELUNYA_DAYS_WORDS 3
 #define ESTELUNYA_DAYS_FIELD_AT 0 /* number of the bit field, 0 for daily */
-#define ESTELUNYA_DAYS_FROM_AT 1
-#define ESTELUNYA_DAYS_TO_AT 2
+#define ESTELUNYA_DAYS_FROM_AT 1  /* index of the first call */
+#define ESTELUNYA_DAYS_TO_AT 2    /* index of the last call */
 
 /* Other *A */
 #define ESTELUNYA_EXTRA_WORDS 4
 #define ESTELUNYA_EXTRA_CODE_AT 0  /* code in two bytes */
 #define ESTELUNYA_EXTRA_FIELD_AT 1 /* number of the bit field, 0 for daily */
-#define ESTELUNYA_EXTRA_FROM_AT 2
-#define ESTELUNYA_EXTRA_TO_AT 3
+#define ESTELUNYA_EXTRA_FROM_AT 2  /* index of the first call */
+#define ESTELUNYA_EXTRA_TO_AT 3    /* index of the last call */
 
 /* Row of a walk */
 #define ESTELUNYA_ROW_WORDS 10
 #define ESTELUNYA_ROW_STOP_AT 0           /* number of the stop */
-#define ESTELUNYA_ROW_ARRIVAL_AT 1        /* in minutes from the start of the date, so that it may pass 1,440; 0 in the first row */
-#define ESTELUNYA_ROW_DEPARTURE_AT 2      /* in the same way; 0 in the last row */
-#define ESTELUNYA_ROW_FLAGS_AT 3          /* ARRIVAL and NO_ALIGHTING are not set in the first row, DEPARTURE and NO_BOARDING not in the last */
+#define ESTELUNYA_ROW_ARRIVAL_AT 1        /* arrival in minutes from the start of the date, so that it may pass 1,440; 0 in the first row */
+#define ESTELUNYA_ROW_DEPARTURE_AT 2      /* departure in the same way; 0 in the last row */
+#define ESTELUNYA_ROW_FLAGS_AT 3          /* its flags: ARRIVAL and NO_ALIGHTING are not set in the first row, DEPARTURE and NO_BOARDING not in the last */
 #define ESTELUNYA_ROW_NUMBER_AT 4         /* the service's number that holds from this call on; in every row */
 #define ESTELUNYA_ROW_ADMINISTRATION_AT 5 /* the administration in the same way, two words of three bytes */
-#define ESTELUNYA_ROW_CATEGORY_AT 7       /* of the leg that leaves: columns 4-6 of its *G line; 0 in the last row */
+#define ESTELUNYA_ROW_CATEGORY_AT 7       /* category of the leg that leaves: columns 4-6 of its *G line; 0 in the last row */
 #define ESTELUNYA_ROW_FIRST_TIME_AT 8     /* the stop's interchange time for two classes that are both 0, 1 or 2 */
 #define ESTELUNYA_ROW_SECOND_TIME_AT 9    /* the stop's interchange time for all other classes */
 
 /* Row of a board: a departure */
 #define ESTELUNYA_BOARD_ROW_WORDS 4
-#define ESTELUNYA_BOARD_TIME_AT 0    /* in minutes from the start of the date, with the run's lateness, so that it may pass 1,440 */
+#define ESTELUNYA_BOARD_TIME_AT 0    /* its time, in minutes from the start of the date, with the run's lateness, so that it may pass 1,440 */
 #define ESTELUNYA_BOARD_SERVICE_AT 1 /* index of the service, from 0 */
 #define ESTELUNYA_BOARD_REPEAT_AT 2  /* number of its run, as a walk takes it */
 #define ESTELUNYA_BOARD_PLACE_AT 3   /* place of the call in the service's route, from 0 */
@@ -213,9 +212,9 @@ typedef struct EstelunyaDayCountResult {
 #define ESTELUNYA_PART_WORDS 7
 #define ESTELUNYA_PART_SERVICE_AT 0   /* index of the service, from 0 */
 #define ESTELUNYA_PART_REPEAT_AT 1    /* number of its run, as a walk takes it */
-#define ESTELUNYA_PART_DAY_AT 2       /* the date on which the run starts */
-#define ESTELUNYA_PART_MONTH_AT 3
-#define ESTELUNYA_PART_YEAR_AT 4
+#define ESTELUNYA_PART_DAY_AT 2       /* day of the date on which the run starts */
+#define ESTELUNYA_PART_MONTH_AT 3     /* its month */
+#define ESTELUNYA_PART_YEAR_AT 4      /* its year in full */
 #define ESTELUNYA_PART_BOARDING_AT 5  /* the call where one boards, counted from 0 along the route */
 #define ESTELUNYA_PART_ALIGHTING_AT 6 /* the call where one alights, in the same way */
 
@@ -233,27 +232,27 @@ typedef struct EstelunyaDayCountResult {
  * 2^32) * n / 2^32.
  */
 
-/* Helper words of a load: these, and so many for each line of BITFELD, BAHNHOF and UMSTEIGB. */
-#define ESTELUNYA_HELPER_HEAD_WORDS 64
-#define ESTELUNYA_HELPER_LINE_WORDS 4
+/* Helper words of a load */
+#define ESTELUNYA_HELPER_HEAD_WORDS 64 /* of every load */
+#define ESTELUNYA_HELPER_LINE_WORDS 4  /* besides, for each line of BITFELD, BAHNHOF and UMSTEIGB */
 
-/* Limits of the rules: each is the most that is taken. */
+/* The most that the rules take */
 #define ESTELUNYA_MOST_FILE_BYTES 16777216 /* bytes of a file; one more is refusal 1 */
-#define ESTELUNYA_MOST_PERIOD_DAYS 380     /* days of a period */
-#define ESTELUNYA_MOST_CLASS 13            /* class of a category */
+#define ESTELUNYA_MOST_PERIOD_DAYS 380u    /* days of a period */
+#define ESTELUNYA_MOST_CLASS 13u           /* class of a category */
 #define ESTELUNYA_MOST_CALLS 200           /* calls of a service */
 #define ESTELUNYA_MOST_PARTS 10            /* parts of a connection */
 
 /* Words that are enough for the rows of every walk. */
 #define ESTELUNYA_MOST_ROW_WORDS (ESTELUNYA_MOST_CALLS * ESTELUNYA_ROW_WORDS)
 
-/* The flags of a call and of a row. */
+/* Flag of a call and of a row */
 #define ESTELUNYA_ARRIVAL 1u      /* has an arrival */
 #define ESTELUNYA_DEPARTURE 2u    /* has a departure */
 #define ESTELUNYA_NO_ALIGHTING 4u /* alighting is forbidden */
 #define ESTELUNYA_NO_BOARDING 8u  /* boarding is forbidden */
 
-/* The version of the archive: ESTELUNYA_VERSION, if this header was written for it. */
+/* The version of the archive, to be compared with ESTELUNYA_VERSION, for which its declarations here were written. */
 uint32_t estelunya_version(void);
 
 /*
@@ -349,7 +348,7 @@ EstelunyaNameResult estelunya_stop_name(
 
 /*
  * Walks a run that starts on a date: `service` is the index of the service from 0, in the order of FPLAN; `repeat` is 0 for the run itself, up to the
- * service's last run (see the kinds of a service above); a higher one is refused with 25.
+ * service's last run (see the kinds of a service); a higher one is refused with 25.
  *
  * Listed: `rows` begins with the rows, as many as the answer says, ESTELUNYA_ROW_WORDS each, one for each call of the stretch that is operated on that
  * date; the words after them hold what they held. Not running, or refused: all words of `rows` hold what they held.

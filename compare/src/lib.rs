@@ -9,7 +9,7 @@ pub mod files;
 pub mod functions;
 pub mod generate;
 pub mod ground;
-/// The planner's; `tools/drift.sh` holds it against the header and the loader.
+/// The planner's; `tools/boundary.sh` writes it from the header and the loader.
 #[path = "../../planner/sys/src/layout.rs"]
 pub mod layout;
 pub mod reader;

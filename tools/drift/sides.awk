@@ -1,4 +1,4 @@
-# The two sides of the drift test, from declarations as drift.sh writes them, a line each:
+# The two sides of the drift test, from declarations as boundary/declarations.sh writes them, a line each:
 #
 #   struct NAME { field: type, .. }
 #   fn name(parameter: type, ..) -> NAME or type

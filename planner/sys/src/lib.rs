@@ -11,4 +11,6 @@
 compile_error!("libestelunya.a is made for targets of 64 bits");
 
 pub mod layout;
+// As tools/boundary.sh writes it.
+#[rustfmt::skip]
 pub mod raw;
