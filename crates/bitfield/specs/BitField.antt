@@ -7,7 +7,8 @@ use mathlib.Core.Bool.{Bool, true, false, cond, not}
 use lib.ListN.{getD, take, drop}
 use lib.Dec.{eqb, ltb}
 use Rattle.base.specs.Lists.{every, some-of, below}
-use Rattle.columns.specs.Columns.{columns, hexValue}
+use Rattle.columns.specs.Columns.{hexValue}
+use Rattle.columns.specs.LineFields.{fieldIn, bitFieldBits}
 
 -- "A bit field is twelve words held together as one value"
 abbrev pub bitWords : ℕ
@@ -31,9 +32,9 @@ unfoldable pub hexWords : ℕ → List ℕ → List ℕ
 hexWords zero p = []
 hexWords (suc n) p = hexFrom 0 (take 8 p) ∷ hexWords n (drop 8 p)
 
--- the twelve words of the 96 hex digits in columns 8 to 103
+-- "8-103 hex digits 0-9 A-F": the twelve words of the 96 digits
 unfoldable pub bitsIn : List ℕ → List ℕ
-bitsIn line = hexWords bitWords (columns 8 103 line)
+bitsIn line = hexWords bitWords (fieldIn bitFieldBits line)
 
 -- bit k: bit 0 the highest of the first word
 unfoldable pub bit : List ℕ → ℕ → Bool

@@ -1,4 +1,5 @@
 // Bit fields: 384 bits, held as twelve words by value; bit 0 is the highest of the first word, bit d + 2 is day d.
+use columns::line_fields::bit_field;
 ghost use mathlib.Core.Path.{_≡_};
 ghost use mathlib.Core.Bool.{not, true, false, _&&_, _||_};
 ghost use Prim.Native.Nat.{ℕ, _+_, _*_, _≤_, _<_};
@@ -15,11 +16,11 @@ pub const BIT_COUNT: u32 = 384;
 // The most days that a frame can hold: all bits but the frame's own four.
 pub const MOST_FRAMED: u32 = BIT_COUNT - 4;
 
-// The bit field whose 96 hex digits stand in columns 8 to 103 of a line.
+// The bit field of a line of BITFELD, by its 96 hex digits.
 pub fn bits_in(line: &[u8]) -> [u32; BIT_WORDS]
     ensures { λ r. ⌜ r ≡ bitsIn (now (line .entry)) ⌝ }
 {
-    if line.len() < 103 {
+    if line.len() < bit_field::BITS_END {
         return bits_by_words(line);
     }
     let digits = digit_values(line);
@@ -236,6 +237,9 @@ fn digit_of(b: u8) -> u8
 // What is taken from "A" to "F" for their values 10 to 15.
 const TEN_BEFORE_A: u8 = b'A' - 10;
 
+// The last column of the first word.
+const FIRST_WORD_END: usize = bit_field::BITS + 7;
+
 // The bit field of a line that may be short, word by word.
 fn bits_by_words(line: &[u8]) -> [u32; BIT_WORDS]
     ensures { λ r. ⌜ r ≡ bitsIn (now (line .entry)) ⌝ }
@@ -243,7 +247,7 @@ fn bits_by_words(line: &[u8]) -> [u32; BIT_WORDS]
     let mut r = [0u32; BIT_WORDS];
     let mut i: usize = 0;
     while i < BIT_WORDS {
-        r[i] = hex_word(columns::part(line, 8 * i + 8, 8 * i + 15));
+        r[i] = hex_word(columns::part(line, 8 * i + bit_field::BITS, 8 * i + FIRST_WORD_END));
         i += 1;
     }
     r

@@ -4,7 +4,8 @@ use Prim.Native.Nat.{ℕ, zero, suc, _+_, _-_, _%_}
 use mathlib.Core.List.{List}
 use mathlib.Core.Bool.{Bool, true, false, cond, not, _&&_, _||_}
 use lib.Dec.{eqb, ltb, leb}
-use Rattle.columns.specs.Columns.{columns, number}
+use Rattle.columns.specs.Columns.{number}
+use Rattle.columns.specs.LineFields.{fieldIn, dateDay, dateMonth, dateYear}
 use Rattle.calendar.specs.declared.Date.{Date}
 use Rattle.calendar.specs.declared.Date.the-variants.{Day, NoSuchDate}
 use Rattle.calendar.specs.declared.Period.{Period}
@@ -42,9 +43,9 @@ dayOf d m y = cond (exists d m y) (Day (yearsBefore (y - 1900) + monthsBefore y 
 abbrev pub lastDay : ℕ
 lastDay = 109572
 
--- DD.MM.YYYY in columns 1 to 10
+-- "1-10 DD.MM.YYYY"
 unfoldable pub dateIn : List ℕ → Date
-dateIn line = dayOf (number (columns 1 2 line)) (number (columns 4 5 line)) (number (columns 7 10 line))
+dateIn line = dayOf (number (fieldIn dateDay line)) (number (fieldIn dateMonth line)) (number (fieldIn dateYear line))
 
 -- "A period of n days has 1 to 380."
 abbrev pub mostPeriodDays : ℕ

@@ -1,4 +1,5 @@
 // Gregorian dates from 01.01.1900, day 0, to 31.12.2199, and periods of 1 to 380 days.
+use columns::line_fields::date;
 ghost use mathlib.Core.Path.{_≡_};
 ghost use Prim.Native.Nat.{_≤_, _-_};
 ghost use Rattle.calendar.specs.Calendar.{isLeap, monthDays, yearsBefore, monthsBefore, dayOf, dateIn, periodOf};
@@ -51,9 +52,9 @@ pub fn date_in(line: &[u8]) -> Date
     ensures { λ r. ⌜ r ≡ dateIn (now (line .entry)) ⌝ }
 {
     day_of(
-        columns::number_in(line, 1, 2),
-        columns::number_in(line, 4, 5),
-        columns::number_in(line, 7, 10),
+        columns::number_in(line, date::DAY, date::DAY_END),
+        columns::number_in(line, date::MONTH, date::MONTH_END),
+        columns::number_in(line, date::YEAR, date::YEAR_END),
     )
 }
 

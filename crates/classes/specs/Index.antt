@@ -7,6 +7,7 @@ use mathlib.Core.List.{List, _++_}
 use mathlib.Core.Bool.{Bool, true, false, cond, not, _&&_}
 use lib.ListN.{length, getD, drop, set}
 use lib.Dec.{eqb, ltb}
+use Rattle.columns.specs.LineFields.{classCode}
 use Rattle.lines.specs.Lines.{linesOf, linesFrom, skipped}
 use Rattle.timetable.specs.Layout.{mostFileBytes, helperHead}
 use Rattle.timetable.specs.Files.{held-in, classOf, hasClass}
@@ -17,7 +18,7 @@ use Rattle.classes.specs.Passes.{before, sound}
 
 -- of a line that is skipped or has its form: whether it holds a category of this code
 abbrev pub holdsCode : ℕ → List ℕ → Bool
-holdsCode code text = eqb (threeBytes 1 text) code && not (skipped text)
+holdsCode code text = eqb (threeBytes (classCode .from) text) code && not (skipped text)
 
 -- ---- a code's slots, of so many words: the first of them, and the place behind the last
 
@@ -32,7 +33,7 @@ endSlot words code = cond (ltb (firstSlot words code + 512) words) (firstSlot wo
 -- slot word w, which is not 0: the three bytes at the place before it are a code of the file
 pub record Entry (f : List ℕ) (w : ℕ) : Type 0 where
   pub room : w + 2 ≤ length f
-  pub listed : hasClass (threeBytes 1 (drop (w - 1) f)) (held-in classOf (linesOf f)) ≡ true
+  pub listed : hasClass (threeBytes (classCode .from) (drop (w - 1) f)) (held-in classOf (linesOf f)) ≡ true
 
 -- a code stands in one of its slots
 pub record Slot (f : List ℕ) (code : ℕ) (m : List ℕ) : Type 0 where
@@ -40,7 +41,7 @@ pub record Slot (f : List ℕ) (code : ℕ) (m : List ℕ) : Type 0 where
   pub low : firstSlot (length m) code ≤ slot
   pub high : slot < endSlot (length m) code
   pub taken : (i : ℕ) → firstSlot (length m) code ≤ i → i ≤ slot → getD m i 0 ≡ 0 → ⊥
-  pub is : threeBytes 1 (drop (getD m slot 0 - 1) f) ≡ code
+  pub is : threeBytes (classCode .from) (drop (getD m slot 0 - 1) f) ≡ code
 
 -- the lines of file f before a place are in the index
 pub record Entered (f : List ℕ) (at : ℕ) (m : List ℕ) : Type 0 where
@@ -84,7 +85,7 @@ pub record EnteredOn (code at : ℕ) (r : Bool) (m m′ : List ℕ) : Type 0 whe
 
 pub record PutOn (text : List ℕ) (at : ℕ) (r : Bool) (m m′ : List ℕ) : Type 0 where
   pub skip : skipped text ≡ true → (r ≡ true) × (m′ ≡ m)
-  pub put : skipped text ≡ false → EnteredOn (threeBytes 1 text) at r m m′
+  pub put : skipped text ≡ false → EnteredOn (threeBytes (classCode .from) text) at r m m′
 
 -- words lent for the index: enough of them
 pub record IndexRoom (m : List ℕ) : Type 0 where

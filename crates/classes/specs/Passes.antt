@@ -10,6 +10,7 @@ use lib.Dec.{eqb, ltb, leb}
 use lib.Bits.{bitOr}
 use Rattle.base.specs.Lists.{every}
 use Rattle.columns.specs.Columns.{column, isBlank}
+use Rattle.columns.specs.LineFields.{classCode, classTariff}
 use Rattle.lines.specs.Lines.{Line, linesOf, skipped}
 use Rattle.timetable.specs.Offences.{given, first}
 use Rattle.timetable.specs.Files.{held-in, hasTariff, tariffOf}
@@ -83,7 +84,7 @@ noCode = 16777216
 pub record LineCode (text : List ℕ) (r : ℕ) : Type 0 where
   pub most : r ≤ noCode
   pub skip : skipped text ≡ true → r ≡ noCode
-  pub held : skipped text ≡ false → r ≡ threeBytes 1 text
+  pub held : skipped text ≡ false → r ≡ threeBytes (classCode .from) text
   pub small : skipped text ≡ false → r < noCode
 
 unfoldable pub small : List ℕ → Bool
@@ -103,7 +104,7 @@ once t earlier (c ∷ cs) = not (t c && hasNumber c earlier) && once t (earlier 
 
 -- a line that holds a record whose code is among those
 unfoldable pub codeOn : Line → ℕ
-codeOn l = threeBytes 1 (l .text)
+codeOn l = threeBytes (classCode .from) (l .text)
 
 pub record Repeats (ns : List ℕ) (l : Line) : Type 0 where
   pub held : numberOn Classes (l .text) ≡ Number (codeOn l)
@@ -180,7 +181,7 @@ groupOf [] = 0
 groupOf (has ∷ more) = cond has 2 1
 
 unfoldable pub groupOn : List ℕ → ℕ
-groupOn text = cond (skipped text) 0 (cond (isBlank (column 8 text)) 1 2)
+groupOn text = cond (skipped text) 0 (cond (isBlank (column (classTariff .from) text)) 1 2)
 
 abbrev pub otherGroup : ℕ → ℕ → Bool
 otherGroup group own = cond (eqb group 0) false (cond (eqb own 0) false (not (eqb group own)))

@@ -1,6 +1,7 @@
 // ZUGART: the own checks of its lines, and look-ups of a category by its code. Its lines may be as many as codes are, and no words are lent for them. So a
 // repeated code is found by passes over the file, one for each first byte that codes have, with a bit for each two bytes behind it; and the index for
 // look-ups takes what UMSTEIGB's check has left, for as many lines as it has room for.
+use columns::line_fields::class;
 use sections::Numbered;
 use sections::Section;
 use timetable::Checked;
@@ -9,6 +10,7 @@ ghost use mathlib.Core.Path.{_≡_};
 ghost use mathlib.Core.Bool.{true, not};
 ghost use Prim.Native.Nat.{_+_, _-_, _≤_, _<_};
 ghost use lib.ListN.{length, drop, replicate};
+ghost use Rattle.columns.specs.LineFields.{classCode};
 ghost use Rattle.lines.specs.Lines.{linesAt, linesOf};
 ghost use Rattle.timetable.specs.Layout.{mostFileBytes, helperHead};
 ghost use Rattle.timetable.specs.Offences.{checkedBy};
@@ -287,12 +289,12 @@ fn line_code(text: &[u8]) -> u32
 
 const NO_CODE: u32 = 16777216;
 
-// A category's code: columns 1 to 3 as one number.
+// A category's code as one number.
 fn code_on(text: &[u8]) -> u32
-    ensures { λ r. ⌜ r ≡ threeBytes 1 (now (text .entry)) ⌝ }
+    ensures { λ r. ⌜ r ≡ threeBytes (classCode .from) (now (text .entry)) ⌝ }
     ensures { λ r. ⌜ r < noCode ⌝ }
 {
-    timetable::two_bytes(text, 1) * 256 + columns::column_at(text, 3) as u32
+    timetable::two_bytes(text, class::CODE) * 256 + columns::column_at(text, class::CODE_END) as u32
 }
 
 // ---- 37: a tariff group is missing or alone
@@ -326,7 +328,7 @@ fn group_on(text: &[u8]) -> u32
     if lines::skips(text) {
         return 0;
     }
-    if columns::column_at(text, 8) == b' ' {
+    if columns::column_at(text, class::TARIFF) == b' ' {
         1
     } else {
         2
@@ -484,7 +486,7 @@ fn has_slot(zugart: &[u8], index: &[u32], code: u32) -> bool
 // The code that a slot's word stands for.
 fn code_at(zugart: &[u8], w: u32) -> u32
     requires { ⌜ (0 < w) × (w ≤ length (now zugart)) ⌝ }
-    ensures { λ r. ⌜ r ≡ threeBytes 1 (drop (w - 1) (now (zugart .entry))) ⌝ }
+    ensures { λ r. ⌜ r ≡ threeBytes (classCode .from) (drop (w - 1) (now (zugart .entry))) ⌝ }
 {
     let at = (w - 1) as usize;
     code_on(&zugart[at..zugart.len()])

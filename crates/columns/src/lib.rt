@@ -8,6 +8,8 @@ ghost use lib.Dec.{leb};
 ghost use Rattle.base.specs.Lists.{every};
 ghost use Rattle.columns.specs.Columns.{padTo, columns, column, isDigit, isHex, digitValue, hexValue, isOf, count, number, countTo};
 
+pub mod line_fields;
+
 // What every byte of a field may have to be.
 pub enum Class {
     Digit,

@@ -7,6 +7,7 @@ use lib.ListN.{length, getD, drop}
 use lib.Dec.{leb, eqb}
 use Rattle.base.specs.Lists.{every}
 use Rattle.columns.specs.Columns as C
+use Rattle.columns.specs.LineFields.{Field, dateDay, dateMonth, dateYear, fieldIn}
 use Rattle.fields.specs.Fields as F
 use Rattle.fields.specs.declared.Time.{Time}
 use Rattle.fields.specs.declared.Time.the-variants.{Absent, Stated, NoTime}
@@ -55,7 +56,7 @@ count m line p = C.countTo m p
 -- DD.MM.YYYY ("." is byte 46)
 abbrev pub date : Rule
 date line p =
-    C.digits (C.columns 1 2 p) && eqb (C.column 3 p) 46 && C.digits (C.columns 4 5 p) && eqb (C.column 6 p) 46 && C.digits (C.columns 7 10 p)
+    C.digits (fieldIn dateDay p) && eqb (C.column 3 p) 46 && C.digits (fieldIn dateMonth p) && eqb (C.column 6 p) 46 && C.digits (fieldIn dateYear p)
 
 abbrev pub isTime : Time → Bool
 isTime Absent = true
@@ -122,6 +123,11 @@ columns a b r = record { from = a; to = b; rule = r }
 
 abbrev pub column : ℕ → Rule → Row
 column a r = columns a a r
+
+infix 70 _is_
+-- a field, and what is asked of it
+abbrev pub _is_ : Field → Rule → Row
+f is r = columns (f .from) (f .to) r
 
 -- "1 file over 16,777,216 bytes"
 abbrev pub mostFileBytes : ℕ

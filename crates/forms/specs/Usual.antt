@@ -4,15 +4,16 @@ use Prim.Native.Nat.{ℕ}
 use mathlib.Core.List.{List}
 use mathlib.Core.Bool.{Bool, not, _&&_}
 use Rattle.base.specs.Lists.{every}
-use Rattle.columns.specs.Columns.{columns, column, isBlank, isHex, blank, digits, countTo}
+use Rattle.columns.specs.Columns.{column, isBlank, isHex, blank, digits, countTo}
+use Rattle.columns.specs.LineFields.{fieldIn, bitFieldNumber, bitFieldBits, stopNumber, stopNames, interchangeStop, interchangeFirst, interchangeSecond}
 
 unfoldable pub bitFieldFits : List ℕ → Bool
-bitFieldFits l = digits (columns 1 6 l) && (isBlank (column 7 l) && every isHex (columns 8 103 l))
+bitFieldFits l = digits (fieldIn bitFieldNumber l) && (isBlank (column 7 l) && every isHex (fieldIn bitFieldBits l))
 
 unfoldable pub stopFits : List ℕ → Bool
-stopFits l = digits (columns 1 7 l) && (isBlank (column 8 l) && (isBlank (column 12 l) && not (blank (columns 13 62 l))))
+stopFits l = digits (fieldIn stopNumber l) && (isBlank (column 8 l) && (isBlank (column 12 l) && not (blank (fieldIn stopNames l))))
 
 unfoldable pub interchangeFits : List ℕ → Bool
 interchangeFits l =
-    digits (columns 1 7 l) && (isBlank (column 8 l) && (countTo 60 (columns 9 10 l) && (isBlank (column 11 l)
-    && (countTo 99 (columns 12 13 l) && isBlank (column 14 l)))))
+    digits (fieldIn interchangeStop l) && (isBlank (column 8 l) && (countTo 60 (fieldIn interchangeFirst l) && (isBlank (column 11 l)
+    && (countTo 99 (fieldIn interchangeSecond l) && isBlank (column 14 l)))))

@@ -1,6 +1,17 @@
 // The kinds of lines and their forms. A form is data: a table of rows (columns from, to, and what is asked of them) in the paper's
 // order, read by one loop. Columns that no row names are blank.
 use columns::Class;
+use columns::line_fields::attribute;
+use columns::line_fields::bit_field;
+use columns::line_fields::call;
+use columns::line_fields::category;
+use columns::line_fields::class;
+use columns::line_fields::date;
+use columns::line_fields::frequency;
+use columns::line_fields::interchange;
+use columns::line_fields::opening;
+use columns::line_fields::plan;
+use columns::line_fields::stop;
 use fields::Detail;
 use fields::RangeEnd;
 use fields::Time;
@@ -109,88 +120,109 @@ const FLAG_OR_BLANK: u64 = 17;
 // with the byte
 const BYTE: u64 = 18;
 
-const DATE_LINE: [u64; 2] = [1 * FROM + 10 * TO + DATE, 11 * FROM + END + FREE];
+const DATE_LINE: [u64; 2] = [
+    date::WHOLE as u64 * FROM + date::WHOLE_END as u64 * TO + DATE,
+    date::REST as u64 * FROM + END + FREE,
+];
 
-const BIT_FIELD: [u64; 2] = [1 * FROM + 6 * TO + DIGITS, 8 * FROM + 103 * TO + HEX_DIGITS];
+const BIT_FIELD: [u64; 2] = [
+    bit_field::NUMBER as u64 * FROM + bit_field::NUMBER_END as u64 * TO + DIGITS,
+    bit_field::BITS as u64 * FROM + bit_field::BITS_END as u64 * TO + HEX_DIGITS,
+];
 
 const STOP: [u64; 4] = [
-    1 * FROM + 7 * TO + DIGITS,
-    9 * FROM + 11 * TO + FREE,
-    13 * FROM + 62 * TO + NOT_ALL_BLANK,
-    63 * FROM + END + FREE,
+    stop::NUMBER as u64 * FROM + stop::NUMBER_END as u64 * TO + DIGITS,
+    stop::AUTHORITY as u64 * FROM + stop::AUTHORITY_END as u64 * TO + FREE,
+    stop::NAMES as u64 * FROM + stop::NAMES_END as u64 * TO + NOT_ALL_BLANK,
+    stop::REST as u64 * FROM + END + FREE,
 ];
 
 const INTERCHANGE: [u64; 4] = [
-    1 * FROM + 7 * TO + DIGITS,
-    9 * FROM + 10 * TO + COUNT + 60 * WITH,
-    12 * FROM + 13 * TO + COUNT + 99 * WITH,
-    15 * FROM + END + FREE,
+    interchange::STOP as u64 * FROM + interchange::STOP_END as u64 * TO + DIGITS,
+    interchange::FIRST as u64 * FROM + interchange::FIRST_END as u64 * TO + COUNT + 60 * WITH,
+    interchange::SECOND as u64 * FROM + interchange::SECOND_END as u64 * TO + COUNT + 99 * WITH,
+    interchange::REST as u64 * FROM + END + FREE,
 ];
 
 const CATEGORY_CLASS: [u64; 8] = [
-    1 * FROM + 3 * TO + FIRST_NOT_BLANK,
-    5 * FROM + 6 * TO + COUNT + 13 * WITH,
-    8 * FROM + 8 * TO + LETTER_OR_BLANK + b'H' as u64 * WITH,
-    10 * FROM + 10 * TO + COUNT + 7 * WITH,
-    12 * FROM + 19 * TO + FREE,
-    21 * FROM + 21 * TO + COUNT + 2 * WITH,
-    23 * FROM + 23 * TO + FLAG_OR_BLANK,
-    25 * FROM + END + FREE,
+    class::CODE as u64 * FROM + class::CODE_END as u64 * TO + FIRST_NOT_BLANK,
+    class::NUMBER as u64 * FROM + class::NUMBER_END as u64 * TO + COUNT + 13 * WITH,
+    class::TARIFF as u64 * FROM + class::TARIFF as u64 * TO + LETTER_OR_BLANK + b'H' as u64 * WITH,
+    class::CONTROL as u64 * FROM + class::CONTROL as u64 * TO + COUNT + 7 * WITH,
+    class::TEXT as u64 * FROM + class::TEXT_END as u64 * TO + FREE,
+    class::SUPPLEMENT as u64 * FROM + class::SUPPLEMENT as u64 * TO + COUNT + 2 * WITH,
+    class::FLAG as u64 * FROM + class::FLAG as u64 * TO + FLAG_OR_BLANK,
+    class::REST as u64 * FROM + END + FREE,
 ];
 
 const SERVICE: [u64; 7] = [
-    1 * FROM + 3 * TO + FREE,
-    4 * FROM + 8 * TO + DIGITS,
-    10 * FROM + 15 * TO + NON_BLANK,
-    23 * FROM + 25 * TO + DIGITS_OR_BLANK,
-    27 * FROM + 29 * TO + OFFSET_OF + 23 * WITH,
-    59 * FROM + 59 * TO + BYTE + b'%' as u64 * WITH,
-    60 * FROM + END + FREE,
+    plan::KIND as u64 * FROM + plan::KIND_END as u64 * TO + FREE,
+    opening::NUMBER as u64 * FROM + opening::NUMBER_END as u64 * TO + DIGITS,
+    opening::ADMINISTRATION as u64 * FROM + opening::ADMINISTRATION_END as u64 * TO + NON_BLANK,
+    opening::REPEATS as u64 * FROM + opening::REPEATS_END as u64 * TO + DIGITS_OR_BLANK,
+    opening::OFFSET as u64 * FROM
+        + opening::OFFSET_END as u64 * TO
+        + OFFSET_OF
+        + opening::REPEATS as u64 * WITH,
+    plan::MARK as u64 * FROM + plan::MARK as u64 * TO + BYTE + b'%' as u64 * WITH,
+    plan::REST as u64 * FROM + END + FREE,
 ];
 
 const FREQUENCY: [u64; 7] = [
-    1 * FROM + 3 * TO + FREE,
-    4 * FROM + 8 * TO + DIGITS,
-    10 * FROM + 15 * TO + NON_BLANK,
-    17 * FROM + 20 * TO + DIGITS,
-    22 * FROM + 25 * TO + DIGITS_FROM_ONE,
-    59 * FROM + 59 * TO + BYTE + b'%' as u64 * WITH,
-    60 * FROM + END + FREE,
+    plan::KIND as u64 * FROM + plan::KIND_END as u64 * TO + FREE,
+    opening::NUMBER as u64 * FROM + opening::NUMBER_END as u64 * TO + DIGITS,
+    opening::ADMINISTRATION as u64 * FROM + opening::ADMINISTRATION_END as u64 * TO + NON_BLANK,
+    frequency::TIME as u64 * FROM + frequency::TIME_END as u64 * TO + DIGITS,
+    frequency::DENSITY as u64 * FROM + frequency::DENSITY_END as u64 * TO + DIGITS_FROM_ONE,
+    plan::MARK as u64 * FROM + plan::MARK as u64 * TO + BYTE + b'%' as u64 * WITH,
+    plan::REST as u64 * FROM + END + FREE,
 ];
 
 const CATEGORY: [u64; 8] = [
-    1 * FROM + 3 * TO + FREE,
-    4 * FROM + 6 * TO + FIRST_NOT_BLANK,
-    8 * FROM + 14 * TO + RANGE_END,
-    16 * FROM + 22 * TO + RANGE_END,
-    24 * FROM + 29 * TO + DETAIL_OF + 8 * WITH,
-    31 * FROM + 36 * TO + DETAIL_OF + 16 * WITH,
-    59 * FROM + 59 * TO + BYTE + b'%' as u64 * WITH,
-    60 * FROM + END + FREE,
+    plan::KIND as u64 * FROM + plan::KIND_END as u64 * TO + FREE,
+    category::NAME as u64 * FROM + category::NAME_END as u64 * TO + FIRST_NOT_BLANK,
+    category::FROM as u64 * FROM + category::FROM_END as u64 * TO + RANGE_END,
+    category::TO as u64 * FROM + category::TO_END as u64 * TO + RANGE_END,
+    category::FROM_DETAIL as u64 * FROM
+        + category::FROM_DETAIL_END as u64 * TO
+        + DETAIL_OF
+        + category::FROM as u64 * WITH,
+    category::TO_DETAIL as u64 * FROM
+        + category::TO_DETAIL_END as u64 * TO
+        + DETAIL_OF
+        + category::TO as u64 * WITH,
+    plan::MARK as u64 * FROM + plan::MARK as u64 * TO + BYTE + b'%' as u64 * WITH,
+    plan::REST as u64 * FROM + END + FREE,
 ];
 
 const ATTRIBUTE: [u64; 9] = [
-    1 * FROM + 3 * TO + FREE,
-    4 * FROM + 5 * TO + FIRST_NOT_BLANK,
-    7 * FROM + 13 * TO + RANGE_END,
-    15 * FROM + 21 * TO + RANGE_END,
-    23 * FROM + 28 * TO + DIGITS_OR_BLANK,
-    30 * FROM + 35 * TO + DETAIL_OF + 7 * WITH,
-    37 * FROM + 42 * TO + DETAIL_OF + 15 * WITH,
-    59 * FROM + 59 * TO + BYTE + b'%' as u64 * WITH,
-    60 * FROM + END + FREE,
+    plan::KIND as u64 * FROM + plan::KIND_END as u64 * TO + FREE,
+    attribute::CODE as u64 * FROM + attribute::CODE_END as u64 * TO + FIRST_NOT_BLANK,
+    attribute::FROM as u64 * FROM + attribute::FROM_END as u64 * TO + RANGE_END,
+    attribute::TO as u64 * FROM + attribute::TO_END as u64 * TO + RANGE_END,
+    attribute::BIT_FIELD as u64 * FROM + attribute::BIT_FIELD_END as u64 * TO + DIGITS_OR_BLANK,
+    attribute::FROM_DETAIL as u64 * FROM
+        + attribute::FROM_DETAIL_END as u64 * TO
+        + DETAIL_OF
+        + attribute::FROM as u64 * WITH,
+    attribute::TO_DETAIL as u64 * FROM
+        + attribute::TO_DETAIL_END as u64 * TO
+        + DETAIL_OF
+        + attribute::TO as u64 * WITH,
+    plan::MARK as u64 * FROM + plan::MARK as u64 * TO + BYTE + b'%' as u64 * WITH,
+    plan::REST as u64 * FROM + END + FREE,
 ];
 
 const CALL: [u64; 9] = [
-    1 * FROM + 7 * TO + DIGITS,
-    9 * FROM + 29 * TO + FREE,
-    30 * FROM + 35 * TO + TIME,
-    37 * FROM + 42 * TO + TIME,
-    44 * FROM + 48 * TO + DIGITS_OR_BLANK,
-    50 * FROM + 55 * TO + NON_BLANK_OR_BLANK,
-    57 * FROM + 57 * TO + BYTE_OR_BLANK + b'X' as u64 * WITH,
-    59 * FROM + 59 * TO + BYTE + b'%' as u64 * WITH,
-    60 * FROM + END + FREE,
+    call::STOP as u64 * FROM + call::STOP_END as u64 * TO + DIGITS,
+    call::STOP_NAME as u64 * FROM + call::STOP_NAME_END as u64 * TO + FREE,
+    call::ARRIVAL as u64 * FROM + call::ARRIVAL_END as u64 * TO + TIME,
+    call::DEPARTURE as u64 * FROM + call::DEPARTURE_END as u64 * TO + TIME,
+    call::NUMBER as u64 * FROM + call::NUMBER_END as u64 * TO + DIGITS_OR_BLANK,
+    call::ADMINISTRATION as u64 * FROM + call::ADMINISTRATION_END as u64 * TO + NON_BLANK_OR_BLANK,
+    call::BOARD as u64 * FROM + call::BOARD as u64 * TO + BYTE_OR_BLANK + b'X' as u64 * WITH,
+    plan::MARK as u64 * FROM + plan::MARK as u64 * TO + BYTE + b'%' as u64 * WITH,
+    plan::REST as u64 * FROM + END + FREE,
 ];
 
 // ---- the kind of a line, by its first bytes
@@ -276,7 +308,7 @@ fn usual_form(kind: LineKind, line: &[u8]) -> bool
 fn usual_bit_field(line: &[u8]) -> bool
     ensures { λ r. ⌜ (r ≡ true → formOf bitFieldColumns (now (line .entry)) ≡ Fits) ⌝ }
 {
-    if line.len() == 103 {
+    if line.len() == bit_field::BITS_END {
         return bit_field_fits(line);
     }
     false
@@ -285,9 +317,9 @@ fn usual_bit_field(line: &[u8]) -> bool
 fn bit_field_fits(line: &[u8]) -> bool
     ensures { λ r. ⌜ r ≡ bitFieldFits (now (line .entry)) ⌝ }
 {
-    if columns::every_in(line, 1, 6, Class::Digit) {
+    if columns::every_in(line, bit_field::NUMBER, bit_field::NUMBER_END, Class::Digit) {
         if blank_at(line, 7) {
-            return columns::all_in(line, 8, 103, Class::Hex);
+            return columns::all_in(line, bit_field::BITS, bit_field::BITS_END, Class::Hex);
         }
     }
     false
@@ -296,7 +328,7 @@ fn bit_field_fits(line: &[u8]) -> bool
 fn usual_stop(line: &[u8]) -> bool
     ensures { λ r. ⌜ (r ≡ true → formOf stopColumns (now (line .entry)) ≡ Fits) ⌝ }
 {
-    if line.len() < 13 {
+    if line.len() < stop::NAMES {
         return false;
     }
     if line.len() <= MOST_FILE_BYTES {
@@ -308,10 +340,10 @@ fn usual_stop(line: &[u8]) -> bool
 fn stop_fits(line: &[u8]) -> bool
     ensures { λ r. ⌜ r ≡ stopFits (now (line .entry)) ⌝ }
 {
-    if columns::every_in(line, 1, 7, Class::Digit) {
+    if columns::every_in(line, stop::NUMBER, stop::NUMBER_END, Class::Digit) {
         if blank_at(line, 8) {
             if blank_at(line, 12) {
-                return is_filled(line, 13, 62);
+                return is_filled(line, stop::NAMES, stop::NAMES_END);
             }
         }
     }
@@ -321,7 +353,7 @@ fn stop_fits(line: &[u8]) -> bool
 fn usual_interchange(line: &[u8]) -> bool
     ensures { λ r. ⌜ (r ≡ true → formOf interchangeColumns (now (line .entry)) ≡ Fits) ⌝ }
 {
-    if line.len() < 13 {
+    if line.len() < interchange::SECOND_END {
         return false;
     }
     if line.len() <= MOST_FILE_BYTES {
@@ -333,11 +365,11 @@ fn usual_interchange(line: &[u8]) -> bool
 fn interchange_fits(line: &[u8]) -> bool
     ensures { λ r. ⌜ r ≡ interchangeFits (now (line .entry)) ⌝ }
 {
-    if columns::every_in(line, 1, 7, Class::Digit) {
+    if columns::every_in(line, interchange::STOP, interchange::STOP_END, Class::Digit) {
         if blank_at(line, 8) {
-            if columns::count_in(line, 9, 10, 60) {
+            if columns::count_in(line, interchange::FIRST, interchange::FIRST_END, 60) {
                 if blank_at(line, 11) {
-                    if columns::count_in(line, 12, 13, 99) {
+                    if columns::count_in(line, interchange::SECOND, interchange::SECOND_END, 99) {
                         return blank_at(line, 14);
                     }
                 }
@@ -539,11 +571,11 @@ fn fits_date(line: &[u8], a: usize, b: usize) -> bool
 fn is_date(p: &[u8]) -> bool
     ensures { λ r. ⌜ r ≡ date (now (p .entry)) (now (p .entry)) ⌝ }
 {
-    if columns::every_in(p, 1, 2, Class::Digit) {
+    if columns::every_in(p, date::DAY, date::DAY_END, Class::Digit) {
         if columns::column_at(p, 3) == b'.' {
-            if columns::every_in(p, 4, 5, Class::Digit) {
+            if columns::every_in(p, date::MONTH, date::MONTH_END, Class::Digit) {
                 if columns::column_at(p, 6) == b'.' {
-                    return columns::every_in(p, 7, 10, Class::Digit);
+                    return columns::every_in(p, date::YEAR, date::YEAR_END, Class::Digit);
                 }
             }
         }

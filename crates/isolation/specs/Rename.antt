@@ -8,6 +8,7 @@ use Prim.Native.Nat.{ℕ, _+_, _-_, _<_}
 use lib.ListN.{length, take, drop}
 use lib.Dec.{eqb}
 use Rattle.columns.specs.Columns.{columns, digits, number}
+use Rattle.columns.specs.LineFields.{bitFieldNumber, attributeBitField}
 use Rattle.lines.specs.Lines.{noCR}
 use Rattle.forms.specs.Kinds.{kindOf}
 use Rattle.forms.specs.declared.Kind.{Kind}
@@ -44,11 +45,11 @@ isAttribute Other = false
 
 -- "2 BITFELD: 1-6 digits" (a skipped line has none there)
 abbrev pub fieldLine : (ℕ → ℕ) → List ℕ → List ℕ
-fieldLine σ text = renumbered σ 1 text
+fieldLine σ text = renumbered σ (bitFieldNumber .from) text
 
 -- "*A: .. 23-28 bit field digits or blank", "VE" or another code; all other lines of FPLAN stay
 unfoldable pub planLine : (ℕ → ℕ) → List ℕ → List ℕ
-planLine σ text = cond (isAttribute (kindOf text)) (renumbered σ 23 text) text
+planLine σ text = cond (isAttribute (kindOf text)) (renumbered σ (attributeBitField .from) text) text
 
 -- ---- a file, line by line; LF (byte 10) and a CR before it stay
 

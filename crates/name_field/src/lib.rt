@@ -1,6 +1,7 @@
 // The name field of a line of BAHNHOF: columns 13 to 62 without trailing blanks, and whether it is a name list (39).
+use columns::line_fields::stop;
 ghost use mathlib.Core.Path.{_≡_};
-ghost use Rattle.columns.specs.Columns.{columns};
+ghost use Rattle.columns.specs.LineFields.{fieldIn, stopNames};
 ghost use Rattle.names.specs.Names.{isNameList};
 ghost use Rattle.timetable.specs.Files.{nameLength, nameField};
 
@@ -8,17 +9,20 @@ ghost use Rattle.timetable.specs.Files.{nameLength, nameField};
 pub fn is_named(text: &[u8]) -> bool
     ensures { λ r. ⌜ r ≡ isNameList (nameField (now (text .entry))) ⌝ }
 {
-    let name = columns::part(text, 13, 62);
+    let name = columns::part(text, stop::NAMES, stop::NAMES_END);
     let size = name_length(text) as usize;
     names::is_name_list(&name[0..size])
 }
 
-// The length of the name in columns 13 to 62 without trailing blanks.
+// The columns of the name field.
+const MOST_NAME_BYTES: u32 = (stop::NAMES_END - (stop::NAMES - 1)) as u32;
+
+// The length of the name field without trailing blanks.
 pub fn name_length(text: &[u8]) -> u32
-    ensures { λ r. ⌜ r ≡ nameLength (columns 13 62 (now (text .entry))) ⌝ }
+    ensures { λ r. ⌜ r ≡ nameLength (fieldIn stopNames (now (text .entry))) ⌝ }
 {
-    let name = columns::part(text, 13, 62);
-    let mut k: u32 = 50;
+    let name = columns::part(text, stop::NAMES, stop::NAMES_END);
+    let mut k: u32 = MOST_NAME_BYTES;
     while 0 < k {
         if columns::byte_at(name, k as usize - 1) != b' ' {
             return k;

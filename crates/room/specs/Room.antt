@@ -5,6 +5,7 @@ use mathlib.Core.Bool.{cond}
 use Prim.Native.Nat.{ℕ, _+_, _*_, _/_, _≤_}
 use lib.ListN.{length}
 use lib.Dec.{ltb}
+use Rattle.columns.specs.LineFields.{bitFieldBits, stopNames, interchangeSecond, classSupplement, planMark}
 use Rattle.timetable.specs.Layout.{headerSize, bitFieldSize, stopSize, interchangeSize, classSize, mostFileBytes}
 use Rattle.timetable.specs.Delivery.{Files}
 use Rattle.timetable.specs.Load.{loaded}
@@ -15,23 +16,23 @@ use Rattle.timetable.specs.declared.Loaded.the-variants.{Accepted, Refused}
 
 -- BITFELD: "8-103 hex digits"
 abbrev pub bitFieldBytes : ℕ
-bitFieldBytes = 103
+bitFieldBytes = bitFieldBits .to
 
 -- BAHNHOF: "13-62 name not all blank"
 abbrev pub stopBytes : ℕ
-stopBytes = 13
+stopBytes = stopNames .from
 
 -- UMSTEIGB: "12-13 count"
 abbrev pub interchangeBytes : ℕ
-interchangeBytes = 13
+interchangeBytes = interchangeSecond .to
 
 -- ZUGART: "supplement 21 (0 to 2)"
 abbrev pub classBytes : ℕ
-classBytes = 21
+classBytes = classSupplement .to
 
 -- FPLAN: "column 59 is "%""
 abbrev pub planBytes : ℕ
-planBytes = 59
+planBytes = planMark .to
 
 -- a service takes 12 words, 7 for each call, 3 or 4 for each range; it has two calls, a *G and an *A VE at least: so not more than 8 for each line of these
 abbrev pub planLineSize : ℕ

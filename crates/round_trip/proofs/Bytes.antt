@@ -17,7 +17,7 @@ use Rattle.timetable.specs.declared.Opening.{Opening}
 use Rattle.timetable.specs.declared.Call.{Call}
 use Rattle.whole_runs.proofs.Lists.{all-append}
 use Rattle.line_text.specs.Text.{decimal, hashText, clockText, clockNumber, twoOf, threeOf}
-use Rattle.line_text.specs.Laid.{Field, field, laid, textOf}
+use Rattle.line_text.specs.Laid.{FieldText, fieldText, laid, textOf}
 use Rattle.line_text.proofs.Numbers.{every-blanks, every-decimal, length-decimal}
 use Rattle.line_text.proofs.Fields.{pad-whole, length-hash, length-clock, every-hash}
 use Rattle.line_text.proofs.Laid.{everyField, every-laid}
@@ -62,11 +62,11 @@ six-small : (h l : ℕ) → every small (sixOf h l) ≡ true
 unfolding every
 six-small h l = rw (byte-small (h / 65536), byte-small (h / 256), byte-small h, byte-small (l / 65536), byte-small (l / 256), byte-small l)
 
-more : (a b : ℕ) (p : List ℕ) (xs : List Field) → every small (padTo (b - (a - 1)) p) ≡ true → everyField small xs ≡ true → everyField small (field a b p ∷ xs) ≡ true
+more : (a b : ℕ) (p : List ℕ) (xs : List FieldText) → every small (padTo (b - (a - 1)) p) ≡ true → everyField small xs ≡ true → everyField small (fieldText a b p ∷ xs) ≡ true
 unfolding everyField
 more a b p xs e v = rw (e, v)
 
-end : everyField small (field 59 59 (37 ∷ []) ∷ []) ≡ true
+end : everyField small (fieldText 59 59 (37 ∷ []) ∷ []) ≡ true
 unfolding everyField every padTo
 end = refl
 

@@ -2,7 +2,8 @@
 use Prim.Native.Nat.{ℕ, _+_}
 use mathlib.Core.List.{List, [], _∷_}
 use Rattle.base.specs.Lists.{gathered}
-use Rattle.columns.specs.Columns.{columns, number}
+use Rattle.columns.specs.Columns.{number}
+use Rattle.columns.specs.LineFields.{fieldIn, stopNames, interchangeFirst, interchangeSecond, classNumber}
 use Rattle.lines.specs.Lines.{Line}
 use Rattle.bitfield.specs.BitField.{bitsIn}
 use Rattle.timetable.specs.Files.{nameLength}
@@ -13,9 +14,9 @@ use Rattle.sections.specs.declared.Section.the-variants.{BitFields, Stops, Inte
 -- the words of the record of number k on a line that starts at a place
 abbrev pub recordWords : Section → ℕ → List ℕ → ℕ → List ℕ
 recordWords BitFields start text k = k ∷ bitsIn text
-recordWords Stops start text k = k ∷ (start + 12) ∷ nameLength (columns 13 62 text) ∷ []
-recordWords Interchanges start text k = k ∷ number (columns 9 10 text) ∷ number (columns 12 13 text) ∷ []
-recordWords Classes start text k = k ∷ number (columns 5 6 text) ∷ []
+recordWords Stops start text k = k ∷ (start + 12) ∷ nameLength (fieldIn stopNames text) ∷ []
+recordWords Interchanges start text k = k ∷ number (fieldIn interchangeFirst text) ∷ number (fieldIn interchangeSecond text) ∷ []
+recordWords Classes start text k = k ∷ number (fieldIn classNumber text) ∷ []
 
 -- those that the line gives
 unfoldable pub wordsOn : Section → ℕ → List ℕ → List ℕ

@@ -1,4 +1,6 @@
 // The words that BITFELD, BAHNHOF, UMSTEIGB and ZUGART give to the table.
+use columns::line_fields::class;
+use columns::line_fields::interchange;
 use sections::Numbered;
 use sections::Section;
 use timetable::BIT_FIELD_WORDS;
@@ -10,7 +12,8 @@ ghost use mathlib.Core.Path.{_≡_};
 ghost use mathlib.Core.List.{[], _∷_};
 ghost use Prim.Native.Nat.{_+_, _≤_};
 ghost use lib.ListN.{length};
-ghost use Rattle.columns.specs.Columns.{columns, number as numberIn};
+ghost use Rattle.columns.specs.Columns.{number as numberIn};
+ghost use Rattle.columns.specs.LineFields.{fieldIn, stopNames, interchangeFirst, interchangeSecond, classNumber};
 ghost use Rattle.lines.specs.Lines.{linesOf};
 ghost use Rattle.words.specs.Words.{write};
 ghost use Rattle.timetable.specs.Layout.{mostFileBytes, bitFieldSize, stopSize, interchangeSize, classSize};
@@ -67,7 +70,7 @@ fn put_bit_field(t: &mut [u32], q: usize, number: u32, bits: [u32; BIT_WORDS]) -
 fn put_stop(t: &mut [u32], q: usize, number: u32, start: usize, text: &[u8]) -> usize
     requires { ⌜ start ≤ mostFileBytes ⌝ }
     requires { ⌜ q + stopSize ≤ length (now t) ⌝ }
-    ensures { λ r. ⌜ (r ≡ q + stopSize) × (now (t .exit) ≡ write (now (t .entry)) q (number ∷ (start + 12) ∷ nameLength (columns 13 62 (now (text .entry))) ∷ [])) ⌝ }
+    ensures { λ r. ⌜ (r ≡ q + stopSize) × (now (t .exit) ≡ write (now (t .entry)) q (number ∷ (start + 12) ∷ nameLength (fieldIn stopNames (now (text .entry))) ∷ [])) ⌝ }
 {
     words::put3(
         t,
@@ -81,23 +84,23 @@ fn put_stop(t: &mut [u32], q: usize, number: u32, start: usize, text: &[u8]) -> 
 
 fn put_interchange(t: &mut [u32], q: usize, number: u32, text: &[u8]) -> usize
     requires { ⌜ q + interchangeSize ≤ length (now t) ⌝ }
-    ensures { λ r. ⌜ (r ≡ q + interchangeSize) × (now (t .exit) ≡ write (now (t .entry)) q (number ∷ numberIn (columns 9 10 (now (text .entry))) ∷ numberIn (columns 12 13 (now (text .entry))) ∷ [])) ⌝ }
+    ensures { λ r. ⌜ (r ≡ q + interchangeSize) × (now (t .exit) ≡ write (now (t .entry)) q (number ∷ numberIn (fieldIn interchangeFirst (now (text .entry))) ∷ numberIn (fieldIn interchangeSecond (now (text .entry))) ∷ [])) ⌝ }
 {
     words::put3(
         t,
         q,
         number,
-        columns::number_in(text, 9, 10),
-        columns::number_in(text, 12, 13),
+        columns::number_in(text, interchange::FIRST, interchange::FIRST_END),
+        columns::number_in(text, interchange::SECOND, interchange::SECOND_END),
     );
     q + INTERCHANGE_WORDS
 }
 
 fn put_class(t: &mut [u32], q: usize, code: u32, text: &[u8]) -> usize
     requires { ⌜ q + classSize ≤ length (now t) ⌝ }
-    ensures { λ r. ⌜ (r ≡ q + classSize) × (now (t .exit) ≡ write (now (t .entry)) q (code ∷ numberIn (columns 5 6 (now (text .entry))) ∷ [])) ⌝ }
+    ensures { λ r. ⌜ (r ≡ q + classSize) × (now (t .exit) ≡ write (now (t .entry)) q (code ∷ numberIn (fieldIn classNumber (now (text .entry))) ∷ [])) ⌝ }
 {
-    let class = columns::number_in(text, 5, 6);
+    let class = columns::number_in(text, class::NUMBER, class::NUMBER_END);
     t[q] = code;
     t[q + 1] = class;
     q + CLASS_WORDS

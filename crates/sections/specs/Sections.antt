@@ -6,7 +6,8 @@ use mathlib.Core.Option.{Option, none, some}
 use lib.ListN.{replicate}
 use lib.Dec.{eqb}
 use Rattle.base.specs.Lists.{some-of, find, gathered}
-use Rattle.columns.specs.Columns.{columns, number}
+use Rattle.columns.specs.Columns.{number}
+use Rattle.columns.specs.LineFields.{fieldIn, bitFieldNumber, stopNumber, interchangeStop, classCode}
 use Rattle.lines.specs.Lines.{Line, skipped}
 use Rattle.bitfield.specs.BitField.{bitWords, bitsIn}
 use Rattle.forms.specs.Form.{formOf}
@@ -36,10 +37,10 @@ lineKind Classes = CategoryClass
 
 -- its number, which starts in column 1; a category's is its code
 abbrev pub keyOn : Section → List ℕ → ℕ
-keyOn BitFields text = number (columns 1 6 text)
-keyOn Stops text = number (columns 1 7 text)
-keyOn Interchanges text = number (columns 1 7 text)
-keyOn Classes text = threeBytes 1 text
+keyOn BitFields text = number (fieldIn bitFieldNumber text)
+keyOn Stops text = number (fieldIn stopNumber text)
+keyOn Interchanges text = number (fieldIn interchangeStop text)
+keyOn Classes text = threeBytes (classCode .from) text
 
 abbrev pub numberedBy : Form → ℕ → Numbered
 numberedBy Fits n = Number n

@@ -1,6 +1,10 @@
 // BITFELD, BAHNHOF and UMSTEIGB: each line's own checks, and look-ups by number. The checks put each record into a map in lent words, four for each line, and
 // a look-up takes no longer in a long file than in a short one. ZUGART's lines are given no words of their own: what is here of them is what a line holds; the
 // crate `classes` checks them.
+use columns::line_fields::bit_field;
+use columns::line_fields::class;
+use columns::line_fields::interchange;
+use columns::line_fields::stop;
 use forms::Form;
 use forms::LineKind;
 use map::Found;
@@ -14,6 +18,7 @@ ghost use mathlib.Core.Bool.{true, cond, not, _||_};
 ghost use Prim.Native.Nat.{_+_, _%_, _≤_};
 ghost use lib.ListN.{length, take, drop};
 ghost use lib.Dec.{eqb};
+ghost use Rattle.columns.specs.LineFields.{classCode};
 ghost use Rattle.lines.specs.Lines.{linesOf};
 ghost use Rattle.bitfield.specs.BitField.{bitsIn};
 ghost use Rattle.timetable.specs.Layout.{mostFileBytes, mostPeriodDays};
@@ -185,18 +190,18 @@ fn key_on(section: Section, text: &[u8]) -> u32
     ensures { λ r. ⌜ r ≡ keyOn section (now (text .entry)) ⌝ }
 {
     match section {
-        Section::BitFields => columns::number_in(text, 1, 6),
-        Section::Stops => columns::number_in(text, 1, 7),
-        Section::Interchanges => columns::number_in(text, 1, 7),
+        Section::BitFields => columns::number_in(text, bit_field::NUMBER, bit_field::NUMBER_END),
+        Section::Stops => columns::number_in(text, stop::NUMBER, stop::NUMBER_END),
+        Section::Interchanges => columns::number_in(text, interchange::STOP, interchange::STOP_END),
         Section::Classes => code_on(text),
     }
 }
 
-// A category's code: columns 1 to 3 as one number.
+// A category's code as one number.
 fn code_on(text: &[u8]) -> u32
-    ensures { λ r. ⌜ r ≡ threeBytes 1 (now (text .entry)) ⌝ }
+    ensures { λ r. ⌜ r ≡ threeBytes (classCode .from) (now (text .entry)) ⌝ }
 {
-    timetable::three_bytes(text, 1)
+    timetable::three_bytes(text, class::CODE)
 }
 
 // ---- checks

@@ -7,7 +7,8 @@ use mathlib.Core.Option.{Option, none, some}
 use lib.ListN.{length, take}
 use lib.Dec.{ltb, leb, eqb}
 use Rattle.base.specs.Lists.{some-of}
-use Rattle.columns.specs.Columns.{columns, column, isBlank, blank, number}
+use Rattle.columns.specs.Columns.{column, isBlank, blank, number}
+use Rattle.columns.specs.LineFields.{fieldIn, bitFieldNumber, stopNumber, stopNames, interchangeStop, interchangeFirst, interchangeSecond, classCode, classNumber, classTariff}
 use Rattle.lines.specs.Lines.{Line, linesOf, skipped}
 use Rattle.calendar.specs.Calendar.{dateIn, periodOf}
 use Rattle.calendar.specs.declared.Date.{Date}
@@ -106,7 +107,7 @@ periodIn (s ∷ e ∷ ls) = record {
 abbrev pub bitFieldOf : Line → Held BitField
 bitFieldOf l =
     heldLine bitFieldColumns
-    (λ (l : Line). record { number = number (columns 1 6 (l .text)); words = bitsIn (l .text) })
+    (λ (l : Line). record { number = number (fieldIn bitFieldNumber (l .text)); words = bitsIn (l .text) })
     l
 
 -- the bit fields of BITFELD
@@ -137,13 +138,13 @@ nameLength (b ∷ p) = cond (blank (b ∷ p)) 0 (suc (nameLength p))
 
 -- the name field: columns 13-62 without trailing blanks
 abbrev pub nameField : List ℕ → List ℕ
-nameField text = take (nameLength (columns 13 62 text)) (columns 13 62 text)
+nameField text = take (nameLength (fieldIn stopNames text)) (fieldIn stopNames text)
 
 -- "number, byte offset of column 13 in BAHNHOF from 0, name length"
 abbrev pub stopOf : Line → Held StopRecord
 stopOf l =
     heldLine stopColumns
-    (λ (l : Line). record { number = number (columns 1 7 (l .text)); offset = l .start + 12; size = nameLength (columns 13 62 (l .text)) })
+    (λ (l : Line). record { number = number (fieldIn stopNumber (l .text)); offset = l .start + 12; size = nameLength (fieldIn stopNames (l .text)) })
     l
 
 -- the stops of BAHNHOF
@@ -174,7 +175,7 @@ stopsFirst ls = first stopLineOffence [] ls
 abbrev pub interchangeOf : Line → Held Interchange
 interchangeOf l =
     heldLine interchangeColumns
-    (λ (l : Line). record { number = number (columns 1 7 (l .text)); firstTime = number (columns 9 10 (l .text)); secondTime = number (columns 12 13 (l .text)) })
+    (λ (l : Line). record { number = number (fieldIn interchangeStop (l .text)); firstTime = number (fieldIn interchangeFirst (l .text)); secondTime = number (fieldIn interchangeSecond (l .text)) })
     l
 
 -- the records of UMSTEIGB
@@ -205,7 +206,7 @@ interchangesFirst stops ls =
 abbrev pub classOf : Line → Held CategoryClass
 classOf l =
     heldLine classColumns
-    (λ (l : Line). record { code = threeBytes 1 (l .text); class = number (columns 5 6 (l .text)) })
+    (λ (l : Line). record { code = threeBytes (classCode .from) (l .text); class = number (fieldIn classNumber (l .text)) })
     l
 
 -- the categories of ZUGART
@@ -217,7 +218,7 @@ hasClass code classes = some-of (λ (c : CategoryClass). eqb (c .code) code) cla
 
 -- "tariff group 8 (A to H or blank)": whether a line has one
 abbrev pub hasTariff : List ℕ → Bool
-hasTariff text = not (isBlank (column 8 text))
+hasTariff text = not (isBlank (column (classTariff .from) text))
 
 -- whether the lines of a file have one, in order, those that are skipped left out
 abbrev pub tariffOf : Line → Held Bool

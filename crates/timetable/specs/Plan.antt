@@ -1,10 +1,14 @@
--- FPLAN, line by line: what each kind of line says. The columns are those of forms/specs/Columns, said again where they are read. Assumes nothing.
+-- FPLAN, line by line: what each kind of line says. Assumes nothing.
 use Prim.Native.Nat.{ℕ, _+_, _*_}
 use mathlib.Core.List.{List, [], _∷_, map}
 use mathlib.Core.Bool.{Bool, true, false, cond, not}
 use lib.Dec.{eqb}
 use Rattle.base.specs.Lists.{gathered}
-use Rattle.columns.specs.Columns.{columns, column, blank, number}
+use Rattle.columns.specs.Columns.{column, blank, number}
+use Rattle.columns.specs.LineFields.{fieldIn, openingNumber, openingAdministration, openingRepeats, openingOffset, frequencyTime, frequencyDensity}
+use Rattle.columns.specs.LineFields.{categoryName, categoryFrom, categoryTo, categoryFromDetail, categoryToDetail}
+use Rattle.columns.specs.LineFields.{attributeCode, attributeFrom, attributeTo, attributeBitField, attributeFromDetail, attributeToDetail}
+use Rattle.columns.specs.LineFields.{callStop, callArrival, callDeparture, callNumber, callAdministration}
 use Rattle.lines.specs.Lines.{Line, skipped}
 use Rattle.fields.specs.Fields.{time, rangeEnd, detail}
 use Rattle.fields.specs.declared.Time.{Time}
@@ -35,11 +39,11 @@ threeBytes c text = twoBytes c text * 256 + column (c + 2) text
 -- "*Z: 4-8 digits, 10-15 six non-blank bytes, 23-25 repeats and 27-29 offset"; "Blank repeats mean 0 and 0."
 abbrev pub openingIn : List ℕ → Opening
 openingIn text = record {
-  number = number (columns 4 8 text);
-  high = threeBytes 10 text;
-  low = threeBytes 13 text;
-  repeats = number (columns 23 25 text);
-  offset = number (columns 27 29 text);
+  number = number (fieldIn openingNumber text);
+  high = threeBytes (openingAdministration .from) text;
+  low = threeBytes (openingAdministration .from + 3) text;
+  repeats = number (fieldIn openingRepeats text);
+  offset = number (fieldIn openingOffset text);
   kind = kindZ;
 }
 
@@ -47,11 +51,11 @@ openingIn text = record {
 -- the offset word the density"
 abbrev pub frequencyIn : List ℕ → Opening
 frequencyIn text = record {
-  number = number (columns 4 8 text);
-  high = threeBytes 10 text;
-  low = threeBytes 13 text;
-  repeats = number (columns 17 20 text);
-  offset = number (columns 22 25 text);
+  number = number (fieldIn openingNumber text);
+  high = threeBytes (openingAdministration .from) text;
+  low = threeBytes (openingAdministration .from + 3) text;
+  repeats = number (fieldIn frequencyTime text);
+  offset = number (fieldIn frequencyDensity text);
   kind = kindT;
 }
 
@@ -59,11 +63,11 @@ frequencyIn text = record {
 abbrev pub categoryIn : List ℕ → RangeLine
 categoryIn text = record {
   part = Category;
-  name = threeBytes 4 text;
+  name = threeBytes (categoryName .from) text;
   field = 0;
   ends = record {
-    from = record { place = rangeEnd (columns 8 14 text); detail = detail (columns 24 29 text) };
-    to = record { place = rangeEnd (columns 16 22 text); detail = detail (columns 31 36 text) };
+    from = record { place = rangeEnd (fieldIn categoryFrom text); detail = detail (fieldIn categoryFromDetail text) };
+    to = record { place = rangeEnd (fieldIn categoryTo text); detail = detail (fieldIn categoryToDetail text) };
   };
 }
 
@@ -77,12 +81,12 @@ attributePart code = cond (eqb code VE) Days Extra
 -- "*A: 4-5 code .., 7-13 from, 15-21 to, 23-28 bit field digits or blank, 30-35 and 37-42 details"; "A blank bit field means 000000, daily."
 abbrev pub attributeIn : List ℕ → RangeLine
 attributeIn text = record {
-  part = attributePart (twoBytes 4 text);
-  name = twoBytes 4 text;
-  field = number (columns 23 28 text);
+  part = attributePart (twoBytes (attributeCode .from) text);
+  name = twoBytes (attributeCode .from) text;
+  field = number (fieldIn attributeBitField text);
   ends = record {
-    from = record { place = rangeEnd (columns 7 13 text); detail = detail (columns 30 35 text) };
-    to = record { place = rangeEnd (columns 15 21 text); detail = detail (columns 37 42 text) };
+    from = record { place = rangeEnd (fieldIn attributeFrom text); detail = detail (fieldIn attributeFromDetail text) };
+    to = record { place = rangeEnd (fieldIn attributeTo text); detail = detail (fieldIn attributeToDetail text) };
   };
 }
 
@@ -102,15 +106,15 @@ flagsOf f NoTime = 0
 -- 50-55 of schedule lines are now kept", the number and the administration, each of which may be blank without the other
 abbrev pub callIn : List ℕ → CallLine
 callIn text = record {
-  stop = number (columns 1 7 text);
-  arrival = minutesOf (time (columns 30 35 text));
-  departure = minutesOf (time (columns 37 42 text));
-  flags = flagsOf 1 (time (columns 30 35 text)) + flagsOf 2 (time (columns 37 42 text));
-  numbered = not (blank (columns 44 48 text));
-  number = number (columns 44 48 text);
-  administered = not (blank (columns 50 55 text));
-  high = threeBytes 50 text;
-  low = threeBytes 53 text;
+  stop = number (fieldIn callStop text);
+  arrival = minutesOf (time (fieldIn callArrival text));
+  departure = minutesOf (time (fieldIn callDeparture text));
+  flags = flagsOf 1 (time (fieldIn callArrival text)) + flagsOf 2 (time (fieldIn callDeparture text));
+  numbered = not (blank (fieldIn callNumber text));
+  number = number (fieldIn callNumber text);
+  administered = not (blank (fieldIn callAdministration text));
+  high = threeBytes (callAdministration .from) text;
+  low = threeBytes (callAdministration .from + 3) text;
 }
 
 -- a line of a kind says what is read from it, if it has the form

@@ -7,7 +7,7 @@ use mathlib.Core.Bool.{true, false}
 use mathlib.Core.Option.{some}
 use Prim.Native.Nat.{ℕ, _+_, _≤_}
 use lib.ListN.{length, take, drop, getElem?}
-use Rattle.columns.specs.Columns.{columns, number}
+use Rattle.columns.specs.LineFields.{fieldIn, stopNames}
 use Rattle.lines.specs.Lines.{Line, linesOf}
 use Rattle.names.specs.Grammar.{IsName}
 use Rattle.names.specs.Names.{askable, wantedBy, nameFor}
@@ -28,13 +28,13 @@ pub record OwnName (bahnhof : List ℕ) (stop language type : ℕ) (a : NameAnsw
   pub index : ℕ
   pub line : Line
   pub there : getElem? (linesOf bahnhof) index ≡ some line
-  pub holds : stopOf line ≡ held (record { number = stop; offset = line .start + 12; size = nameLength (columns 13 62 (line .text)) })
+  pub holds : stopOf line ≡ held (record { number = stop; offset = line .start + 12; size = nameLength (fieldIn stopNames (line .text)) })
   -- the name asked for in its columns 13-62, without trailing blanks
   pub name : Name
   pub asked : nameFor (wantedBy language type) (nameField (line .text)) ≡ some name
   pub answer : a ≡ Part (line .start + 12 + name .place) (name .size)
   -- it stands in columns 13-62 of that line, and its bytes are the line's
-  pub in-columns : 12 + name .place + name .size ≤ 62
+  pub in-columns : 12 + name .place + name .size ≤ stopNames .to
   pub in-line : 12 + name .place + name .size ≤ length (line .text)
   pub bytes : take (name .size) (drop (line .start + 12 + name .place) bahnhof) ≡ take (name .size) (drop (12 + name .place) (line .text))
 
