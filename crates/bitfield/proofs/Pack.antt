@@ -10,7 +10,7 @@ use borrow.Author.Count.{below-more}
 use Rattle.base.proofs.Laws.{tests}
 use Rattle.columns.specs.Columns.{padTo, hexValue}
 use Rattle.bitfield.specs.BitField.{bitWords, hexFrom, bitsIn}
-use Rattle.bitfield.specs.Digits.{Digits, fourDigits}
+use Rattle.bitfield.specs.Inner.Digits.{Digits, fourDigits}
 use Rattle.bitfield.proofs.Fill.{Filled, filled-none, filled-next}
 use Rattle.bitfield.proofs.Hex.{hex-le, wordIn, word-in, words-done}
 

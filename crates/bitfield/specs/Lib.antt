@@ -1,2 +1,2 @@
 pub mod BitField
-pub mod Digits
+pub mod Inner

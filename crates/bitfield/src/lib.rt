@@ -6,7 +6,7 @@ ghost use Prim.Native.Nat.{ℕ, _+_, _*_, _≤_, _<_};
 ghost use lib.ListN.{length, take, drop, getD};
 ghost use Rattle.columns.specs.Columns.{padTo, hexValue};
 ghost use Rattle.bitfield.specs.BitField.{bitWords, bitCount, mostFramed, hexFrom, bitsIn, bit, runsOn, frameBit, nextBound, framed, someDay, noBit};
-ghost use Rattle.bitfield.specs.Digits.{Digits, fourDigits};
+ghost use Rattle.bitfield.specs.Inner.Digits.{Digits, fourDigits};
 
 // The words of a bit field, and its bits (specs/BitField).
 pub const BIT_WORDS: usize = 12;

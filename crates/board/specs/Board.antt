@@ -20,12 +20,12 @@ use Rattle.timetable.specs.declared.Opening.{Opening}
 use Rattle.timetable.specs.declared.Course.{Course}
 use Rattle.timetable.specs.declared.Course.the-variants.{Along, NotRunning, Refused}
 use Rattle.sort.specs.Rows.{lower, sortedRows}
-use Rattle.sort.specs.declared.Row.{Row}
+use Rattle.sort.specs.declared.BoardRow.{BoardRow}
 use Rattle.spans.specs.Spans.{runs#}
 
 -- a departure: time, service, repeat and place in the route
 abbrev pub Departure : Type 0
-Departure = Row
+Departure = BoardRow
 
 -- "flags: .. 8 no boarding"
 abbrev pub boardable : Call → Bool

@@ -10,7 +10,7 @@ use Rattle.timetable.specs.Load.{onto}
 use Rattle.timetable.specs.Table.{services#}
 use Rattle.timetable.specs.View.{View}
 use Rattle.timetable.specs.Questions.{asked, Dated, undated, dated, dateOf}
-use Rattle.sort.specs.Rows.{rowSize, rowWords}
+use Rattle.sort.specs.Rows.{rowSize, boardRowWords}
 use Rattle.board.specs.Board.{Departure, boardOf}
 use Rattle.board.specs.declared.BoardAnswer.{BoardAnswer}
 use Rattle.board.specs.declared.BoardAnswer.the-variants.{Listed, Refused}
@@ -40,4 +40,4 @@ boardedBy (board es) room = cond (ltb room (rowSize * length es)) (Refused 29 (r
 -- the list afterwards: "the list then stays"; later words stay
 abbrev pub boardInto : BoardFound → List ℕ → List ℕ
 boardInto (refused number) list = list
-boardInto (board es) list = cond (ltb (length list) (rowSize * length es)) list (onto (gathered rowWords es) list)
+boardInto (board es) list = cond (ltb (length list) (rowSize * length es)) list (onto (gathered boardRowWords es) list)

@@ -29,7 +29,7 @@ use Rattle.index.proofs.Agrees.{view-agrees, length-of}
 use Rattle.calls.specs.Calls.{Stand, standAt, standsFrom, callsOf, allCalls, callOf, stopOf, atStop, lastAt, entryBy, entryOf, callIndexOf}
 use Rattle.calls.proofs.Calls.{call-number, each-inside, all-few}
 use Rattle.calls.proofs.Words.{index-long}
-use Rattle.calls_at.specs.Listed.{listedTo, listedAt}
+use Rattle.calls_at.specs.Inner.Listed.{listedTo, listedAt}
 use Rattle.calls_at.proofs.Chain.{head-held, word-held, at-is}
 use Rattle.calls_at.proofs.Meaning.{Proper, call-proper}
 use Rattle.calls_at.proofs.Boards.{calls-by-service, listed-all}

@@ -29,9 +29,9 @@ use Rattle.index.specs.Index.{recordIn, viewIn}
 use Rattle.index.specs.declared.ServiceRecord.{ServiceRecord}
 use Rattle.index.specs.declared.ServiceRecord.the-variants.{From, Refused as RecordRefused}
 use Rattle.index.proofs.Records.{record-refused, record-service, record-sound, record-within}
-use Rattle.rows.specs.Rows.{shownBy}
+use Rattle.rows.specs.Inner.Rows.{shownBy}
 use Rattle.course.proofs.Laws.{on-shown}
-use Rattle.sort.specs.Rows.{rowWords}
+use Rattle.sort.specs.Rows.{boardRowWords}
 use Rattle.spans.specs.Spans.{runs#, spanOf}
 use Rattle.spans.specs.declared.Span.{Span}
 use Rattle.spans.proofs.Meaning.{has-below, end-runs}
@@ -243,14 +243,14 @@ module _ (o : Opening) (s : openingSound o ≡ true) (r : ℕ) (h : r < runs# o)
 pub time-fits : (d l : ℕ) → d ≤ latestTime → l ≤ mostDelay → d + l < 2 ^ 32
 time-fits d l a b = omega arith
 
-pub row-put : (t t′ : List ℕ) (to i p d r l m : ℕ) (o : Opening) → l ≡ lateness o r → m ≡ d + l → t′ ≡ write t to (m ∷ i ∷ r ∷ p ∷ []) → t′ ≡ write t to (rowWords (departureOf i o p d r))
+pub row-put : (t t′ : List ℕ) (to i p d r l m : ℕ) (o : Opening) → l ≡ lateness o r → m ≡ d + l → t′ ≡ write t to (m ∷ i ∷ r ∷ p ∷ []) → t′ ≡ write t to (boardRowWords (departureOf i o p d r))
 row-put t t′ to i p d r l m o e q g = g ∙ rw (q, e)
 
 pub ruleset row = (tests, size-none, run-there, time-fits, row-put)
 
 module _ (o : Opening) (i p d low high : ℕ) where
   abbrev rowsFrom : ℕ → List ℕ
-  rowsFrom r = gathered rowWords (map (departureOf i o p d) (upto (high - r) r))
+  rowsFrom r = gathered boardRowWords (map (departureOf i o p d) (upto (high - r) r))
 
   module _ (t t₀ g : List ℕ) (at to r : ℕ) (k : to + 4 * (high - r) ≡ at + 4 * (high - low)) (l : length t ≡ length t₀) (m : at + 4 * (high - low) ≤ length t₀) where
     pub rows-room : r < high → to + 4 ≤ length t
@@ -262,17 +262,17 @@ module _ (o : Opening) (i p d low high : ℕ) where
     pub rows-count : r < high → to + 4 + 4 * (high - (r + 1)) ≡ at + 4 * (high - low)
     rows-count h = omega (arith, k)
 
-    module _ (t′ : List ℕ) (w : t′ ≡ write t to (rowWords (departureOf i o p d r))) where
+    module _ (t′ : List ℕ) (w : t′ ≡ write t to (boardRowWords (departureOf i o p d r))) where
       pub rows-long : r < high → length t′ ≡ length t₀
-      rows-long h = ap length w ∙ length-write t to (rowWords (departureOf i o p d r)) (rows-room h) ∙ l
+      rows-long h = ap length w ∙ length-write t to (boardRowWords (departureOf i o p d r)) (rows-room h) ∙ l
 
-      pub rows-turn : r < high → write t to (gathered rowWords (map (departureOf i o p d) (upto (high - r) r))) ≡ g → write t′ (to + 4) (gathered rowWords (map (departureOf i o p d) (upto (high - (r + 1)) (r + 1)))) ≡ g
+      pub rows-turn : r < high → write t to (gathered boardRowWords (map (departureOf i o p d) (upto (high - r) r))) ≡ g → write t′ (to + 4) (gathered boardRowWords (map (departureOf i o p d) (upto (high - (r + 1)) (r + 1)))) ≡ g
       unfolding gathered
       rows-turn h v =
-          write-turn t t′ g to 4 (rowWords (departureOf i o p d r)) (gathered rowWords (map (departureOf i o p d) (upto (high - (r + 1)) (r + 1)))) w refl (rows-room h)
+          write-turn t t′ g to 4 (boardRowWords (departureOf i o p d r)) (gathered boardRowWords (map (departureOf i o p d) (upto (high - (r + 1)) (r + 1)))) w refl (rows-room h)
           (rw (upto-next high r h) at v)
 
-  pub rows-end : (t g : List ℕ) (to r : ℕ) → high ≤ r → write t to (gathered rowWords (map (departureOf i o p d) (upto (high - r) r))) ≡ g → t ≡ g
+  pub rows-end : (t g : List ℕ) (to r : ℕ) → high ≤ r → write t to (gathered boardRowWords (map (departureOf i o p d) (upto (high - r) r))) ≡ g → t ≡ g
   unfolding gathered
   rows-end t g to r h v = sym (write-none t to) ∙ (rw (upto-none high r h) at v)
 

@@ -21,7 +21,7 @@ ghost use Rattle.timetable.specs.Runs.{openingSound};
 ghost use Rattle.timetable.specs.Table.{stops#, services#, callAt, openingAt, serviceAt, withStops, recordSound};
 ghost use Rattle.words.specs.Words.{write};
 ghost use Rattle.index.specs.Index.{Ready, recordPlaceIn, viewIn};
-ghost use Rattle.sort.specs.Rows.{rowSize, rowWords};
+ghost use Rattle.sort.specs.Rows.{rowSize, boardRowWords};
 ghost use Rattle.spans.specs.Spans.{runs#};
 ghost use Rattle.board.specs.Board.{boardable, departureOf, runsFrom, callDepartures, leaves, placeDepartures};
 ghost use Rattle.board_runs.specs.Batch.{departuresAt, batchRows, Batched, leavesWithin, Hides};
@@ -256,7 +256,7 @@ pub fn put_batch(list: &mut [u32], at: usize, b: Batch) -> usize
     requires { ⌜ (b .high ≤ runs# (b .opening)) × (b .departure ≤ latestTime) ⌝ }
     requires { ⌜ at + rowSize * (b .high - b .low) ≤ length (now list) ⌝ }
     ensures end { λ r. ⌜ r ≡ at + rowSize * (b .high - b .low) ⌝ }
-    ensures words { λ _. ⌜ now (list .exit) ≡ write (now (list .entry)) at (gathered rowWords (batchRows b)) ⌝ }
+    ensures words { λ _. ⌜ now (list .exit) ≡ write (now (list .entry)) at (gathered boardRowWords (batchRows b)) ⌝ }
 {
     put_rows(
         list,
@@ -284,7 +284,7 @@ fn put_rows(
     requires { ⌜ (high ≤ runs# opening) × (departure ≤ latestTime) ⌝ }
     requires { ⌜ at + rowSize * (high - low) ≤ length (now list) ⌝ }
     ensures end { λ r. ⌜ r ≡ at + rowSize * (high - low) ⌝ }
-    ensures words { λ _. ⌜ now (list .exit) ≡ write (now (list .entry)) at (gathered rowWords (map (departureOf i opening p departure) (upto (high - low) low))) ⌝ }
+    ensures words { λ _. ⌜ now (list .exit) ≡ write (now (list .entry)) at (gathered boardRowWords (map (departureOf i opening p departure) (upto (high - low) low))) ⌝ }
 {
     let mut to = at;
     let mut r = low;
@@ -301,7 +301,7 @@ fn put_row(list: &mut [u32], to: usize, i: u32, opening: Opening, p: u32, depart
     requires { ⌜ openingSound opening ≡ true ⌝ }
     requires { ⌜ (r < runs# opening) × (departure ≤ latestTime) ⌝ }
     requires { ⌜ to + rowSize ≤ length (now list) ⌝ }
-    ensures { λ _. ⌜ now (list .exit) ≡ write (now (list .entry)) to (rowWords (departureOf i opening p departure r)) ⌝ }
+    ensures { λ _. ⌜ now (list .exit) ≡ write (now (list .entry)) to (boardRowWords (departureOf i opening p departure r)) ⌝ }
 {
     let time = departure + runs::lateness(opening, r);
     words::put4(list, to, time, i, r, p);

@@ -21,7 +21,7 @@ use Rattle.words.specs.Words.{write}
 use Rattle.words.proofs.Laws.{write-none, write-turn, write-front, length-write}
 use Rattle.index.specs.Index.{stopsFrom, stopSection, sectionEnd, Ready, viewIn}
 use Rattle.index.proofs.Sections.{sections-fit}
-use Rattle.sort.specs.Rows.{rowWords, sortedRows, inOrder}
+use Rattle.sort.specs.Rows.{boardRowWords, sortedRows, inOrder}
 use Rattle.sort.proofs.Sorted.{length-sorted}
 use Rattle.sort.proofs.Rows.{written-sorted}
 use Rattle.sort.specs.Rows.{notAfter}
@@ -64,8 +64,8 @@ module _ (b : Batch) (es : List Departure) (g : Batched b es) where
   pub batch-end : (r to : ℕ) → r ≡ to + 4 * (b .high - b .low) → r ≡ to + 4 * length es
   batch-end r to q = rw batch-long at q
 
-  pub batch-words : (t t′ : List ℕ) (to : ℕ) → t′ ≡ write t to (gathered rowWords (batchRows b)) → t′ ≡ write t to (gathered rowWords es)
-  batch-words t t′ to q = q ∙ ap (λ (r : List Departure). write t to (gathered rowWords r)) (g .rows)
+  pub batch-words : (t t′ : List ℕ) (to : ℕ) → t′ ≡ write t to (gathered boardRowWords (batchRows b)) → t′ ≡ write t to (gathered boardRowWords es)
+  batch-words t t′ to q = q ∙ ap (λ (r : List Departure). write t to (gathered boardRowWords r)) (g .rows)
 
 pub ruleset one = (tests, batch-is, batch-count, batch-sound, batch-there, batch-early, batch-room, batch-end, batch-words)
 
@@ -87,8 +87,8 @@ pub on-some : (e : ℕ) → (e ≡ 0 → ⊥) → 0 < e
 on-some zero z = absurd (z refl)
 on-some (suc e) z = omega arith
 
-words-long : (es : List Departure) → length (gathered rowWords es) ≡ 4 * length es
-words-long es = length-gathered rowWords 4 any (λ x h. refl) (all-any es)
+words-long : (es : List Departure) → length (gathered boardRowWords es) ≡ 4 * length es
+words-long es = length-gathered boardRowWords 4 any (λ x h. refl) (all-any es)
 
 module _ (w x y : List ℕ) (end n from stop k t u : ℕ) where
   abbrev left : Cursor → List Departure
@@ -119,17 +119,17 @@ module _ (w x y : List ℕ) (end n from stop k t u : ℕ) where
       fits : to + 4 * length (given (c .call)) ≤ length l
       fits = omega (arith, long, g .count, g .room, g .long)
 
-      pub put-turn : (l′ : List ℕ) (to′ : ℕ) → l′ ≡ write l to (gathered rowWords (callDepartures (viewIn w x) n y stop k t u (c .call))) → to′ ≡ to + 4 * length (callDepartures (viewIn w x) n y stop k t u (c .call)) → On y n c′
+      pub put-turn : (l′ : List ℕ) (to′ : ℕ) → l′ ≡ write l to (gathered boardRowWords (callDepartures (viewIn w x) n y stop k t u (c .call))) → to′ ≡ to + 4 * length (callDepartures (viewIn w x) n y stop k t u (c .call)) → On y n c′
           → Putting w x y end n from stop k t u l₀ c₀ l′ c′ to′
       put-turn l′ to′ d e o = record {
         on = o;
-        long = ap length d ∙ length-write l to (gathered rowWords (given (c .call))) (omega (arith, fits, words-long (given (c .call)))) ∙ g .long;
+        long = ap length d ∙ length-write l to (gathered boardRowWords (given (c .call))) (omega (arith, fits, words-long (given (c .call)))) ∙ g .long;
         count = omega (arith, long, e, g .count);
         room = g .room;
         words =
             rw e
-            (write-turn l l′ (write l₀ 0 (gathered rowWords (left c₀))) to (4 * length (given (c .call))) (gathered rowWords (given (c .call))) (gathered rowWords (left c′)) d (words-long (given (c .call))) fits
-            (ap (write l to) (sym (ap (gathered rowWords) split ∙ gathered-append rowWords (given (c .call)) (left c′))) ∙ g .words));
+            (write-turn l l′ (write l₀ 0 (gathered boardRowWords (left c₀))) to (4 * length (given (c .call))) (gathered boardRowWords (given (c .call))) (gathered boardRowWords (left c′)) d (words-long (given (c .call))) fits
+            (ap (write l to) (sym (ap (gathered boardRowWords) split ∙ gathered-append boardRowWords (given (c .call)) (left c′))) ∙ g .words));
       }
 
   -- before the cursor has moved: what a call gives is a part of what is left
@@ -164,9 +164,9 @@ module _ (w x y : List ℕ) (end n from stop k t u : ℕ) where
     pub put-long : length l ≡ length l₀
     put-long = g .long
 
-    pub put-end : c .call ≡ 0 → l ≡ write l₀ 0 (gathered rowWords (leftDepartures w x y end n from stop k t u c₀))
+    pub put-end : c .call ≡ 0 → l ≡ write l₀ 0 (gathered boardRowWords (leftDepartures w x y end n from stop k t u c₀))
     unfolding gathered
-    put-end z = sym (write-none l to) ∙ ap (λ (es : List Departure). write l to (gathered rowWords es)) (sym (left-none c z)) ∙ g .words
+    put-end z = sym (write-none l to) ∙ ap (λ (es : List Departure). write l to (gathered boardRowWords es)) (sym (left-none c z)) ∙ g .words
 
 pub ruleset counts = (tests, along-heads, along-ready, along-lent, on-within, on-some, left-less, left-count, left-fits, left-total)
 
@@ -252,8 +252,8 @@ module _ (w x y : List ℕ) (end s from n k t u : ℕ) (c : Cursor) (a : end ≡
   pub whole-room : (l : List ℕ) → 4 * length (departuresBy w x y n k t u) ≤ length l → 4 * length (leftDepartures w x y end s from n k t u c) ≤ length l
   whole-room l h = rw whole-is h
 
-  pub whole-words : (l l′ : List ℕ) → l′ ≡ write l 0 (gathered rowWords (leftDepartures w x y end s from n k t u c)) → l′ ≡ write l 0 (gathered rowWords (departuresBy w x y n k t u))
-  whole-words l l′ e = e ∙ ap (λ (es : List Departure). write l 0 (gathered rowWords es)) whole-is
+  pub whole-words : (l l′ : List ℕ) → l′ ≡ write l 0 (gathered boardRowWords (leftDepartures w x y end s from n k t u c)) → l′ ≡ write l 0 (gathered boardRowWords (departuresBy w x y n k t u))
+  whole-words l l′ e = e ∙ ap (λ (es : List Departure). write l 0 (gathered boardRowWords es)) whole-is
 
 pub ruleset wholes = (tests, lends-head, lends-word, lends-some, lends-lent, lends-along, whole-few, whole-count, whole-low, whole-room, whole-words)
 
@@ -281,15 +281,15 @@ module _ (w x y : List ℕ) (n k t u m : ℕ) (e : m ≡ length (departuresBy w 
       pub board-listed : Listed m ≡ boardedBy (board (boardBy w x y n k t u)) (length l)
       board-listed = rw (board-long, le-ltb (length l) (4 * m) h)
 
-      module _ (l′ : List ℕ) (p : l′ ≡ write l 0 (gathered rowWords (departuresBy w x y n k t u))) where
+      module _ (l′ : List ℕ) (p : l′ ≡ write l 0 (gathered boardRowWords (departuresBy w x y n k t u))) where
         pub board-sortable : 4 * m ≤ length l′
-        board-sortable = omega (arith, h, ap length p, length-write l 0 (gathered rowWords (departuresBy w x y n k t u)) (omega (arith, h, e, words-long (departuresBy w x y n k t u))))
+        board-sortable = omega (arith, h, ap length p, length-write l 0 (gathered boardRowWords (departuresBy w x y n k t u)) (omega (arith, h, e, words-long (departuresBy w x y n k t u))))
 
         pub board-sorted : (l″ : List ℕ) → l″ ≡ inOrder m l′ → l″ ≡ boardInto (board (boardBy w x y n k t u)) l
         unfolding boardBy onto
         board-sorted l″ q =
             written-sorted l l′ l″ (departuresBy w x y n k t u) m e p q
-            ∙ write-front l (gathered rowWords (sortedRows (departuresBy w x y n k t u)))
+            ∙ write-front l (gathered boardRowWords (sortedRows (departuresBy w x y n k t u)))
             ∙ sym (rw (length-sorted notAfter (departuresBy w x y n k t u), ← e, le-ltb (length l) (4 * m) h))
 
 pub ruleset lists = (tests, board-fits, board-short, board-stays, board-room, board-listed, board-sortable, board-sorted)

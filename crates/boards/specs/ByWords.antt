@@ -9,7 +9,7 @@ use Rattle.timetable.specs.Table.{usedWords, stops#}
 use Rattle.timetable.specs.View.{View}
 use Rattle.index.specs.Index.{stopsFrom, stopSection, sectionEnd, indexSize, Ready, viewIn}
 use Rattle.words.specs.Words.{write}
-use Rattle.sort.specs.Rows.{rowSize, rowWords, sortedRows}
+use Rattle.sort.specs.Rows.{rowSize, boardRowWords, sortedRows}
 use Rattle.board.specs.Board.{Departure}
 use Rattle.board_runs.specs.Batch.{departuresAt}
 use Rattle.stop_calls.specs.StopCalls.{entryWord, callsBy, Lent, leftAt, On}
@@ -50,7 +50,7 @@ pub record Putting (w x y : List ℕ) (end n from stop k t u : ℕ) (l₀ : List
   pub long : length l ≡ length l₀
   pub count : to + rowSize * length (leftDepartures w x y end n from stop k t u c) ≡ rowSize * length (leftDepartures w x y end n from stop k t u c₀)
   pub room : rowSize * length (leftDepartures w x y end n from stop k t u c₀) ≤ length l₀
-  pub words : write l to (gathered rowWords (leftDepartures w x y end n from stop k t u c)) ≡ write l₀ 0 (gathered rowWords (leftDepartures w x y end n from stop k t u c₀))
+  pub words : write l to (gathered boardRowWords (leftDepartures w x y end n from stop k t u c)) ≡ write l₀ 0 (gathered boardRowWords (leftDepartures w x y end n from stop k t u c₀))
 
 -- `mostRuns` for each of 2^32 calls
 abbrev pub most : ℕ

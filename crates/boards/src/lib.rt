@@ -19,7 +19,7 @@ ghost use Rattle.timetable.specs.Layout.{mostPeriodDays};
 ghost use Rattle.table.specs.JustTable.{headerSound};
 ghost use Rattle.words.specs.Words.{write};
 ghost use Rattle.index.specs.Index.{stopsFrom, stopSection, sectionEnd, Ready, viewIn};
-ghost use Rattle.sort.specs.Rows.{rowSize, rowWords};
+ghost use Rattle.sort.specs.Rows.{rowSize, boardRowWords};
 ghost use Rattle.board.specs.Question.{board, boardedBy, boardInto};
 ghost use Rattle.board_runs.specs.Batch.{Batched};
 ghost use Rattle.stop_calls.specs.StopCalls.{entries#, On};
@@ -151,7 +151,7 @@ fn put_board(
 )
     requires { ⌜ Lends (now w) (now x) (now y) × (k < mostPeriodDays) ⌝ }
     requires { ⌜ rowSize * length (departuresBy (now w) (now x) (now y) n k first last) ≤ length (now list) ⌝ }
-    ensures { λ _. ⌜ now (list .exit) ≡ write (now (list .entry)) 0 (gathered rowWords (departuresBy (now (w .entry)) (now (x .entry)) (now (y .entry)) n k first last)) ⌝ }
+    ensures { λ _. ⌜ now (list .exit) ≡ write (now (list .entry)) 0 (gathered boardRowWords (departuresBy (now (w .entry)) (now (x .entry)) (now (y .entry)) n k first last)) ⌝ }
 {
     let s = w[STOPS_AT];
     let end = stops_end(w);
@@ -178,7 +178,7 @@ fn put_from(
     requires { ⌜ Along (now w) (now x) (now y) end s from × (k < mostPeriodDays) ⌝ }
     requires { ⌜ On (now y) s start ⌝ }
     requires { ⌜ rowSize * length (leftDepartures (now w) (now x) (now y) end s from n k first last start) ≤ length (now list) ⌝ }
-    ensures { λ _. ⌜ now (list .exit) ≡ write (now (list .entry)) 0 (gathered rowWords (leftDepartures (now (w .entry)) (now (x .entry)) (now (y .entry)) end s from n k first last start)) ⌝ }
+    ensures { λ _. ⌜ now (list .exit) ≡ write (now (list .entry)) 0 (gathered boardRowWords (leftDepartures (now (w .entry)) (now (x .entry)) (now (y .entry)) end s from n k first last start)) ⌝ }
 {
     let mut c = start;
     let mut to: usize = 0;
@@ -206,7 +206,7 @@ fn put_call(
     requires { ⌜ (s ≤ length (now y)) × (0 < e) × (e ≤ entries# s (now y)) ⌝ }
     requires { ⌜ to + rowSize * length (callDepartures (viewIn (now w) (now x)) s (now y) n k first last e) ≤ length (now list) ⌝ }
     ensures end { λ r. ⌜ r ≡ to + rowSize * length (callDepartures (viewIn (now (w .entry)) (now (x .entry))) s (now (y .entry)) n k first last e) ⌝ }
-    ensures words { λ _. ⌜ now (list .exit) ≡ write (now (list .entry)) to (gathered rowWords (callDepartures (viewIn (now (w .entry)) (now (x .entry))) s (now (y .entry)) n k first last e)) ⌝ }
+    ensures words { λ _. ⌜ now (list .exit) ≡ write (now (list .entry)) to (gathered boardRowWords (callDepartures (viewIn (now (w .entry)) (now (x .entry))) s (now (y .entry)) n k first last e)) ⌝ }
 {
     let b = call_batch(w, x, y, s, n, k, first, last, e);
     board_runs::put_batch(list, to, b)

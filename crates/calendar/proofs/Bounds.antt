@@ -12,8 +12,8 @@ use Rattle.columns.specs.Columns.{columns, number}
 use Rattle.calendar.specs.Calendar.{mostPeriodDays, isLeap, yearDays, monthDays, yearsBefore, monthsBefore, exists, dayOf, lastDay, dateIn, periodOf}
 use Rattle.calendar.specs.declared.Date.{Date}
 use Rattle.calendar.specs.declared.Date.the-variants.{Day, NoSuchDate}
-use Rattle.calendar.specs.declared.Period.{Period}
-use Rattle.calendar.specs.declared.Period.the-variants.{Days, NoPeriod}
+use Rattle.calendar.specs.declared.PeriodLength.{PeriodLength}
+use Rattle.calendar.specs.declared.PeriodLength.the-variants.{OfDays, NoPeriod}
 
 -- a sum does not fall as it goes on
 sum-grows : (F g : ℕ → ℕ) → ((n : ℕ) → F (suc n) ≡ F n + g n) → (a k : ℕ) → F a ≤ F (a + k)
@@ -113,11 +113,11 @@ unfolding dateIn
 date-le-last line k e = day-le-last (number (columns 1 2 line)) (number (columns 4 5 line)) (number (columns 7 10 line)) k e
 
 -- "A period of n days has 1 to 380."
-pub days-le : (a b n : ℕ) → periodOf a b ≡ Days n → n ≤ mostPeriodDays
+pub days-le : (a b n : ℕ) → periodOf a b ≡ OfDays n → n ≤ mostPeriodDays
 unfolding periodOf
 days-le a b n e = go (ltb b a) (leb (b + 1 - a) mostPeriodDays) refl e
   where
-    go : (t u : Bool) → leb (b + 1 - a) mostPeriodDays ≡ u → cond t NoPeriod (cond u (Days (b + 1 - a)) NoPeriod) ≡ Days n → n ≤ mostPeriodDays
+    go : (t u : Bool) → leb (b + 1 - a) mostPeriodDays ≡ u → cond t NoPeriod (cond u (OfDays (b + 1 - a)) NoPeriod) ≡ OfDays n → n ≤ mostPeriodDays
     go true u k v = apart (cc)
     go false true k v = let q : b + 1 - a ≡ n = cc in omega (arith, leb-true (b + 1 - a) mostPeriodDays k)
     go false false k v = apart (cc)

@@ -3,7 +3,7 @@ use mathlib.Core.Path.{_≡_, refl}
 use mathlib.Core.List.{[], _∷_}
 use Rattle.columns.specs.Columns.{columns, padTo, numberFrom}
 use Rattle.calendar.specs.declared.Date.the-variants.{Day, NoSuchDate}
-use Rattle.calendar.specs.declared.Period.the-variants.{Days, NoPeriod}
+use Rattle.calendar.specs.declared.PeriodLength.the-variants.{OfDays, NoPeriod}
 use Rattle.calendar.specs.Calendar.{dayOf, dateIn, exists, yearsBefore, monthsBefore, periodOf, lastDay}
 
 -- "01.01.1900 to 31.12.2199, day 0 being the first"
@@ -24,7 +24,7 @@ pub end-1997 : dayOf 1 6 1997 ≡ Day 35580
 unfolding dayOf exists yearsBefore monthsBefore
 end-1997 = refl
 
-pub days-1997 : periodOf 35336 35580 ≡ Days 245
+pub days-1997 : periodOf 35336 35580 ≡ OfDays 245
 unfolding periodOf
 days-1997 = refl
 
@@ -38,11 +38,11 @@ unfolding dayOf exists
 no-leap-1900 = refl
 
 -- "A period of n days has 1 to 380"
-pub one-day : periodOf 35336 35336 ≡ Days 1
+pub one-day : periodOf 35336 35336 ≡ OfDays 1
 unfolding periodOf
 one-day = refl
 
-pub days-380 : periodOf 1 380 ≡ Days 380
+pub days-380 : periodOf 1 380 ≡ OfDays 380
 unfolding periodOf
 days-380 = refl
 

@@ -10,7 +10,7 @@ use borrow.Author.Tests.{ne-eqb, lt-ltb, le-ltb, le-leb, lt-leb}
 use Rattle.base.proofs.Laws.{tests}
 use Rattle.calendar.specs.Calendar.{mostPeriodDays, isLeap, monthDays, yearsBefore, monthsBefore, exists, dayOf, periodOf}
 use Rattle.calendar.specs.declared.Date.the-variants.{Day, NoSuchDate}
-use Rattle.calendar.specs.declared.Period.the-variants.{Days, NoPeriod}
+use Rattle.calendar.specs.declared.PeriodLength.the-variants.{OfDays, NoPeriod}
 use Rattle.calendar.proofs.Bounds.{months-within, years-within}
 use Rattle.calendar.proofs.Closed.{commonYear, years-closed, months-closed, table-le}
 
@@ -84,7 +84,7 @@ pub none-before : (s e : ℕ) → e < s → NoPeriod ≡ periodOf s e
 unfolding periodOf
 none-before s e h = rw (lt-ltb e s h)
 
-pub days-in : (s e : ℕ) → s ≤ e → e - s < mostPeriodDays → Days (e - s + 1) ≡ periodOf s e
+pub days-in : (s e : ℕ) → s ≤ e → e - s < mostPeriodDays → OfDays (e - s + 1) ≡ periodOf s e
 unfolding periodOf
 days-in s e a b =
     let q : e + 1 - s ≡ e - s + 1 = omega arith in

@@ -8,8 +8,8 @@ use Rattle.columns.specs.Columns.{number}
 use Rattle.columns.specs.LineFields.{fieldIn, dateDay, dateMonth, dateYear}
 use Rattle.calendar.specs.declared.Date.{Date}
 use Rattle.calendar.specs.declared.Date.the-variants.{Day, NoSuchDate}
-use Rattle.calendar.specs.declared.Period.{Period}
-use Rattle.calendar.specs.declared.Period.the-variants.{Days, NoPeriod}
+use Rattle.calendar.specs.declared.PeriodLength.{PeriodLength}
+use Rattle.calendar.specs.declared.PeriodLength.the-variants.{OfDays, NoPeriod}
 
 -- every fourth year, but of the hundreds only every fourth
 abbrev pub isLeap : ℕ → Bool
@@ -52,5 +52,5 @@ abbrev pub mostPeriodDays : ℕ
 mostPeriodDays = 380
 
 -- the period from one day to another: "end before start; over 380 days"
-unfoldable pub periodOf : ℕ → ℕ → Period
-periodOf start end = cond (ltb end start) NoPeriod (cond (leb (end + 1 - start) mostPeriodDays) (Days (end + 1 - start)) NoPeriod)
+unfoldable pub periodOf : ℕ → ℕ → PeriodLength
+periodOf start end = cond (ltb end start) NoPeriod (cond (leb (end + 1 - start) mostPeriodDays) (OfDays (end + 1 - start)) NoPeriod)

@@ -11,8 +11,8 @@ pub enum Date {
 }
 
 // The number of days of a period, or that it is none.
-pub enum Period {
-    Days(u32),
+pub enum PeriodLength {
+    OfDays(u32),
     NoPeriod,
 }
 
@@ -59,16 +59,16 @@ pub fn date_in(line: &[u8]) -> Date
 }
 
 // The period from one day number to another.
-pub fn period_of(start: u32, end: u32) -> Period
+pub fn period_of(start: u32, end: u32) -> PeriodLength
     ensures { λ r. ⌜ r ≡ periodOf start end ⌝ }
 {
     if end < start {
-        return Period::NoPeriod;
+        return PeriodLength::NoPeriod;
     }
     if end - start < MOST_PERIOD_DAYS {
-        return Period::Days(end - start + 1);
+        return PeriodLength::OfDays(end - start + 1);
     }
-    Period::NoPeriod
+    PeriodLength::NoPeriod
 }
 
 // The days of the years from 1900 up to y: 365 each, and the leap days. Among n years from 1900 on there are (n + 3) / 4 that 4 divides,

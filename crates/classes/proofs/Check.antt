@@ -28,7 +28,7 @@ use Rattle.timetable.specs.Plan.{threeBytes}
 use Rattle.timetable.specs.declared.Offence.{Offence}
 use Rattle.timetable.specs.declared.Checked.the-variants.{Holds, Refused}
 use Rattle.timetable.proofs.Offences.{first-none}
-use Rattle.sections.specs.Sections.{numberedBy, numberOn, asNumber, numbers, hasNumber, recordOffence, lineOffence}
+use Rattle.sections.specs.Inner.Sections.{numberedBy, numberOn, asNumber, numbers, hasNumber, recordOffence, lineOffence}
 use Rattle.sections.specs.declared.Section.the-variants.{Classes}
 use Rattle.sections.specs.declared.Numbered.{Numbered}
 use Rattle.sections.specs.declared.Numbered.the-variants.{Number, Skipped, Broken}
@@ -37,8 +37,8 @@ use Rattle.sections.proofs.Lookups.{has-class}
 use Rattle.sections.proofs.Walk.{Walked}
 use Rattle.sections.proofs.Scans.{numbers-more}
 use Rattle.sections.proofs.Files.{classes-checked}
-use Rattle.classes.specs.Passes.{before, codes, isSound, brokenColumn, sound, BreaksAt, FormedAs, once, any, codeOn, Repeats, RepeatAs, differs, groupOf, groupOn, otherGroup, groupWith, tariffOffenceOn, Differs, TariffAs}
-use Rattle.classes.specs.Index.{IndexOf, ClassesAfter}
+use Rattle.classes.specs.Inner.Passes.{before, codes, isSound, brokenColumn, sound, BreaksAt, FormedAs, once, any, codeOn, Repeats, RepeatAs, differs, groupOf, groupOn, otherGroup, groupWith, tariffOffenceOn, Differs, TariffAs}
+use Rattle.classes.specs.Inner.Index.{IndexOf, ClassesAfter}
 use Rattle.classes.specs.declared.Formed.{Formed}
 use Rattle.classes.specs.declared.Stand.{Stand}
 use Rattle.classes.proofs.Lines.{sound-held, number-skips, held-stands, sound-split, sound-first, sound-more, before-first, before-all, before-part, codes-first, codes-le, walked-no, walked-upto, before-next, codes-count, here-sound, next-at}

@@ -21,14 +21,14 @@ use Rattle.forms.specs.Columns.{classColumns}
 use Rattle.forms.specs.declared.Form.{Form}
 use Rattle.forms.specs.declared.Form.the-variants.{Fits, Broken as BrokenForm}
 use Rattle.timetable.specs.Plan.{threeBytes}
-use Rattle.sections.specs.Sections.{numberedBy, numberOn, asNumber, numbers}
+use Rattle.sections.specs.Inner.Sections.{numberedBy, numberOn, asNumber, numbers}
 use Rattle.sections.specs.declared.Section.the-variants.{Classes}
 use Rattle.sections.specs.declared.Numbered.{Numbered}
 use Rattle.sections.specs.declared.Numbered.the-variants.{Number, Skipped, Broken}
 use Rattle.sections.proofs.Walk.{Walked, walked-first, walked-lines, walked-before, walked-next}
 use Rattle.sections.proofs.Scans.{numbers-le, numbers-more, place-inside, number-small}
-use Rattle.classes.specs.Passes.{before, codes, Upto, Next, isSound, brokenColumn, sound, noCode, LineCode, groupOn}
-use Rattle.classes.specs.Index.{holdsCode}
+use Rattle.classes.specs.Inner.Passes.{before, codes, Upto, Next, isSound, brokenColumn, sound, noCode, LineCode, groupOn}
+use Rattle.classes.specs.Inner.Index.{holdsCode}
 
 -- ---- lists
 

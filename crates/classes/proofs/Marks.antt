@@ -13,8 +13,8 @@ use lib.Pow.{shr-shr, shl-exact}
 use borrow.Author.Tests.{eq-eqb, ne-eqb}
 use Rattle.base.specs.Lists.{some-of}
 use Rattle.base.proofs.Laws.{tests, by-eqb, or-false}
-use Rattle.sections.specs.Sections.{hasNumber}
-use Rattle.classes.specs.Passes.{markWords, bitOf, marked, withMark, Marks, repeatsOn, marksWith}
+use Rattle.sections.specs.Inner.Sections.{hasNumber}
+use Rattle.classes.specs.Inner.Passes.{markWords, bitOf, marked, withMark, Marks, repeatsOn, marksWith}
 use Rattle.classes.proofs.Lines.{some-append}
 
 -- ---- one bit

@@ -18,10 +18,10 @@ use Rattle.base.proofs.Lists.{gathered-append}
 use Rattle.lines.specs.Lines.{Line, linesOf, skipped, cutAt}
 use Rattle.lines.specs.declared.Cut.{Cut}
 use Rattle.timetable.specs.Layout.{mostFileBytes}
-use Rattle.sections.specs.Sections.{numberOn, asNumber, numbers, hasNumber}
+use Rattle.sections.specs.Inner.Sections.{numberOn, asNumber, numbers, hasNumber}
 use Rattle.sections.specs.declared.Section.the-variants.{Classes}
 use Rattle.sections.proofs.Walk.{Walked}
-use Rattle.classes.specs.Passes.{before, codes, Upto, Next, sound, firstByte, within, once, codeOn, Repeats, PassAs, any, RepeatAs, noCode, LineCode, small, aboveOn, Rising, markWords, marked, withMark, Marks, repeatsOn, marksWith, lesser}
+use Rattle.classes.specs.Inner.Passes.{before, codes, Upto, Next, sound, firstByte, firstByteWithin, once, codeOn, Repeats, PassAs, any, RepeatAs, noCode, LineCode, small, aboveOn, Rising, markWords, marked, withMark, Marks, repeatsOn, marksWith, lesser}
 use Rattle.classes.specs.declared.Pass.{Pass}
 use Rattle.classes.proofs.Lines.{every-append, sound-held, sound-split, codes-first, codes-part, before-part, upto-end, walked-upto, walked-no, codes-skip, codes-held, here-sound, next-at}
 use Rattle.classes.proofs.Marks.{marks-mine, marks-another, marks-tell, marks-none}
@@ -80,49 +80,49 @@ numbers-append a b = gathered-append (λ (l : Line). asNumber (numberOn Classes 
 
 -- ---- ranges of first bytes
 
-within-low : (lo hi c : ℕ) → within lo hi c ≡ true → lo ≤ firstByte c
-unfolding within
+within-low : (lo hi c : ℕ) → firstByteWithin lo hi c ≡ true → lo ≤ firstByte c
+unfolding firstByteWithin
 within-low lo hi c e = leb-true lo (firstByte c) (and-true (leb lo (firstByte c)) (ltb (firstByte c) hi) e .0)
 
-within-high : (lo hi c : ℕ) → within lo hi c ≡ true → firstByte c < hi
-unfolding within
+within-high : (lo hi c : ℕ) → firstByteWithin lo hi c ≡ true → firstByte c < hi
+unfolding firstByteWithin
 within-high lo hi c e = ltb-true (firstByte c) hi (and-true (leb lo (firstByte c)) (ltb (firstByte c) hi) e .1)
 
-within-is : (lo hi c : ℕ) → lo ≤ firstByte c → firstByte c < hi → within lo hi c ≡ true
-unfolding within
+within-is : (lo hi c : ℕ) → lo ≤ firstByte c → firstByte c < hi → firstByteWithin lo hi c ≡ true
+unfolding firstByteWithin
 within-is lo hi c l h = rw (le-leb lo (firstByte c) l, lt-ltb (firstByte c) hi h) refl
 
-within-not : (lo hi c : ℕ) → hi ≤ firstByte c → within lo hi c ≡ false
-unfolding within
+within-not : (lo hi c : ℕ) → hi ≤ firstByte c → firstByteWithin lo hi c ≡ false
+unfolding firstByteWithin
 within-not lo hi c h = rw (le-ltb (firstByte c) hi h) (go (leb lo (firstByte c)))
   where
     go : (t : Bool) → (t && false) ≡ false
     go true = refl
     go false = refl
 
-within-under : (lo hi c : ℕ) → firstByte c < lo → within lo hi c ≡ false
-unfolding within
+within-under : (lo hi c : ℕ) → firstByte c < lo → firstByteWithin lo hi c ≡ false
+unfolding firstByteWithin
 within-under lo hi c h = rw (lt-leb lo (firstByte c) h) refl
 
-within-less : (lo hi hi′ : ℕ) → hi′ ≤ hi → (c : ℕ) → within lo hi′ c ≡ true → within lo hi c ≡ true
+within-less : (lo hi hi′ : ℕ) → hi′ ≤ hi → (c : ℕ) → firstByteWithin lo hi′ c ≡ true → firstByteWithin lo hi c ≡ true
 within-less lo hi hi′ h c e = within-is lo hi c (within-low lo hi′ c e) (omega (arith, within-high lo hi′ c e))
 
-within-join : (mid hi : ℕ) (c : ℕ) → within 0 hi c ≡ true → (within 0 mid c || within mid hi c) ≡ true
-within-join mid hi c e = by-ltb (λ _. (within 0 mid c || within mid hi c) ≡ true) (firstByte c) mid
+within-join : (mid hi : ℕ) (c : ℕ) → firstByteWithin 0 hi c ≡ true → (firstByteWithin 0 mid c || firstByteWithin mid hi c) ≡ true
+within-join mid hi c e = by-ltb (λ _. (firstByteWithin 0 mid c || firstByteWithin mid hi c) ≡ true) (firstByte c) mid
     (λ h. rw (within-is 0 mid c (omega arith) h) refl)
-    (λ h. rw (within-is mid hi c h (within-high 0 hi c e)) (go (within 0 mid c)))
+    (λ h. rw (within-is mid hi c h (within-high 0 hi c e)) (go (firstByteWithin 0 mid c)))
   where
     go : (t : Bool) → (t || true) ≡ true
     go true = refl
     go false = refl
 
 -- where every code is small
-once-small : (hi : ℕ) → 256 ≤ hi → (a ns : List ℕ) → small ns ≡ true → once (within 0 hi) a ns ≡ true → once any a ns ≡ true
+once-small : (hi : ℕ) → 256 ≤ hi → (a ns : List ℕ) → small ns ≡ true → once (firstByteWithin 0 hi) a ns ≡ true → once any a ns ≡ true
 unfolding once small every
 once-small hi l a [] s e = refl
 once-small hi l a (c ∷ cs) s e =
     let (p, q) = and-true (ltb c noCode) (small cs) s in
-    let (x, y) = and-true (not (within 0 hi c && hasNumber c a)) (once (within 0 hi) (a ++ (c ∷ [])) cs) e in
+    let (x, y) = and-true (not (firstByteWithin 0 hi c && hasNumber c a)) (once (firstByteWithin 0 hi) (a ++ (c ∷ [])) cs) e in
     let k : c < noCode = ltb-true c noCode p in
     rw (rw (within-is 0 hi c (omega arith) (omega arith)) at x, once-small hi l (a ++ (c ∷ [])) cs q y) refl
 
@@ -141,7 +141,7 @@ pub record Passing (b : ℕ) (ns : List ℕ) (next : ℕ) (m : List ℕ) : Type 
   pub most : next ≤ 256
   pub marks : Marks b ns m
   pub bytes : small ns ≡ true
-  pub apart : once (within b next) [] ns ≡ true
+  pub apart : once (firstByteWithin b next) [] ns ≡ true
 
 lesser-le : (b next x : ℕ) → lesser b next x ≤ next
 lesser-le b next x = by-ltb (λ t. cond t (cond (ltb x next) x next) next ≤ next) b x (λ h. by-ltb (λ t. cond t x next ≤ next) x next (λ k. omega arith) (λ k. omega arith)) (λ h. omega arith)
@@ -160,8 +160,8 @@ module _ (b next c : ℕ) (ns m : List ℕ) (p : Passing b ns next m) (l : c < n
   abbrev next′ : ℕ
   next′ = lesser b next (firstByte c)
 
-  fewer : once (within b next′) [] ns ≡ true
-  fewer = once-fewer (within b next) (within b next′) (within-less b next next′ (lesser-le b next (firstByte c))) [] ns (p .apart)
+  fewer : once (firstByteWithin b next′) [] ns ≡ true
+  fewer = once-fewer (firstByteWithin b next) (firstByteWithin b next′) (within-less b next next′ (lesser-le b next (firstByte c))) [] ns (p .apart)
 
   passing-mine : firstByte c ≡ b → marked m (c % 65536) ≡ false → Passing b (ns ++ (c ∷ [])) next′ (withMark m (c % 65536))
   passing-mine e z = record {
@@ -169,7 +169,7 @@ module _ (b next c : ℕ) (ns m : List ℕ) (p : Passing b ns next m) (l : c < n
     most = omega (arith, p .most, lesser-le b next (firstByte c));
     marks = marks-mine b ns m c (p .marks) e;
     bytes = small-more ns c (p .bytes) l;
-    apart = once-more (within b next′) ns c fewer (rw (sym (marks-tell b ns m c (p .marks) e) ∙ z) (go (within b next′ c)));
+    apart = once-more (firstByteWithin b next′) ns c fewer (rw (sym (marks-tell b ns m c (p .marks) e) ∙ z) (go (firstByteWithin b next′ c)));
   }
     where
       go : (t : Bool) → (t && false) ≡ false
@@ -182,11 +182,11 @@ module _ (b next c : ℕ) (ns m : List ℕ) (p : Passing b ns next m) (l : c < n
     most = omega (arith, p .most, lesser-le b next (firstByte c));
     marks = marks-another b ns m c (p .marks) e;
     bytes = small-more ns c (p .bytes) l;
-    apart = once-more (within b next′) ns c fewer (ap (λ (t : Bool). t && hasNumber c ns) outside);
+    apart = once-more (firstByteWithin b next′) ns c fewer (ap (λ (t : Bool). t && hasNumber c ns) outside);
   }
     where
-      outside : within b next′ c ≡ false
-      outside = by-ltb (λ _. within b next′ c ≡ false) b (firstByte c)
+      outside : firstByteWithin b next′ c ≡ false
+      outside = by-ltb (λ _. firstByteWithin b next′ c ≡ false) b (firstByte c)
           (λ h. within-not b next′ c (lesser-mine b next (firstByte c) h))
           (λ h. within-under b next′ c (below h))
         where
@@ -327,7 +327,7 @@ pub record Passed (f : List ℕ) (r : Pass) : Type 0 where
   pub upto : Upto f (r .at)
   pub number : r .no ≡ length (before f (r .at)) + 1
   pub bytes : small (codes f (r .at)) ≡ true
-  pub apart : once (within 0 (r .next)) [] (codes f (r .at)) ≡ true
+  pub apart : once (firstByteWithin 0 (r .next)) [] (codes f (r .at)) ≡ true
   pub repeat : r .at < length f → Next f (r .at) (Repeats (codes f (r .at)))
 
 module _ (f : List ℕ) where
@@ -367,8 +367,8 @@ module _ (f : List ℕ) where
       unfolding codes
       more = ap (numbers Classes) (sym whole ∙ p .upto .split ∙ ap (λ (ls : List Line). ls ++ p .upto .rest) same) ∙ numbers-append (before f (r .at)) (p .upto .rest)
 
-      fewer-codes : once (within 0 (q .next)) [] (codes f (r .at)) ≡ true
-      fewer-codes = once-front (within 0 (q .next)) (codes f (r .at)) (numbers Classes (p .upto .rest)) (sym (ap (once (within 0 (q .next)) []) more) ∙ o .apart)
+      fewer-codes : once (firstByteWithin 0 (q .next)) [] (codes f (r .at)) ≡ true
+      fewer-codes = once-front (firstByteWithin 0 (q .next)) (codes f (r .at)) (numbers Classes (p .upto .rest)) (sym (ap (once (firstByteWithin 0 (q .next)) []) more) ∙ o .apart)
 
       found : r .at < length f → Next f (r .at) (Repeats (codes f (r .at)))
       found l = by-ltb (λ _. Next f (r .at) (Repeats (codes f (r .at)))) (r .at) (q .at) inner outer
@@ -392,7 +392,7 @@ module _ (f : List ℕ) where
         upto = record { inside = omega (arith, low, o .upto .inside); rest = p .upto .rest ++ o .upto .rest; split = split };
         number = p .number ∙ ap (λ (ls : List Line). length ls + 1) same;
         bytes = rw same-codes at (p .bytes);
-        apart = once-either (within 0 (q .next)) (within (q .next) (r .next)) (within 0 (r .next)) (within-join (q .next) (r .next)) [] (codes f (r .at)) fewer-codes (rw same-codes at (p .apart));
+        apart = once-either (firstByteWithin 0 (q .next)) (firstByteWithin (q .next) (r .next)) (firstByteWithin 0 (r .next)) (within-join (q .next) (r .next)) [] (codes f (r .at)) fewer-codes (rw same-codes at (p .apart));
         repeat = found;
       }
 

@@ -28,13 +28,13 @@ use Rattle.timetable.specs.Layout.{mostFileBytes, helperHead}
 use Rattle.timetable.specs.Delivery.{CategoryClass}
 use Rattle.timetable.specs.Files.{skip, listed, held-in, heldBy, classOf, hasClass}
 use Rattle.timetable.specs.Plan.{threeBytes}
-use Rattle.sections.specs.Sections.{numberedBy, numberOn}
+use Rattle.sections.specs.Inner.Sections.{numberedBy, numberOn}
 use Rattle.sections.specs.declared.Section.the-variants.{Classes}
 use Rattle.sections.specs.declared.Numbered.the-variants.{Skipped}
 use Rattle.sections.proofs.Held.{held-gathered}
 use Rattle.sections.proofs.Walk.{Walked, walked-lines}
-use Rattle.classes.specs.Passes.{before, isSound, sound}
-use Rattle.classes.specs.Index.{holdsCode, firstSlot, endSlot, Entry, Slot, Entered, FilledTo, IndexOf, SlotSays, FreeSlot, EnteredOn, PutOn, IndexRoom}
+use Rattle.classes.specs.Inner.Passes.{before, isSound, sound}
+use Rattle.classes.specs.Inner.Index.{holdsCode, firstSlot, endSlot, Entry, Slot, Entered, FilledTo, IndexOf, SlotSays, FreeSlot, EnteredOn, PutOn, IndexRoom}
 use Rattle.classes.proofs.Lines.{some-append, sound-split, sound-first, before-first, before-next, here-split, here-sound}
 
 -- ---- a code's slots

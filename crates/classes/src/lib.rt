@@ -16,9 +16,9 @@ ghost use Rattle.timetable.specs.Layout.{mostFileBytes, helperHead};
 ghost use Rattle.timetable.specs.Offences.{checkedBy};
 ghost use Rattle.timetable.specs.Files.{held-in, classOf, classesIn, hasClass, classesFirst};
 ghost use Rattle.timetable.specs.Plan.{threeBytes};
-ghost use Rattle.sections.specs.Sections.{asNumber};
-ghost use Rattle.classes.specs.Passes.{isSound, brokenColumn, sound, FormedAs, noCode, LineCode, firstByte, PassAs, RepeatAs, Rising, aboveOn, markWords, marked, withMark, repeatsOn, marksWith, lesser, TariffAs, groupOn, otherGroup, groupWith};
-ghost use Rattle.classes.specs.Index.{holdsCode, firstSlot, endSlot, FreeSlot, FilledTo, IndexOf, IndexRoom, EnteredOn, PutOn, ClassesAfter, SlotSays};
+ghost use Rattle.sections.specs.Inner.Sections.{asNumber};
+ghost use Rattle.classes.specs.Inner.Passes.{isSound, brokenColumn, sound, FormedAs, noCode, LineCode, firstByte, PassAs, RepeatAs, Rising, aboveOn, markWords, marked, withMark, repeatsOn, marksWith, lesser, TariffAs, groupOn, otherGroup, groupWith};
+ghost use Rattle.classes.specs.Inner.Index.{holdsCode, firstSlot, endSlot, FreeSlot, FilledTo, IndexOf, IndexRoom, EnteredOn, PutOn, ClassesAfter, SlotSays};
 
 // ---- the check
 

@@ -14,8 +14,8 @@ use borrow.Author.Tests.{eq-eqb, ne-eqb, le-leb, lt-leb}
 use Rattle.base.specs.Lists.{every}
 use Rattle.base.proofs.Laws.{drop-next, by-leb, tests}
 use Rattle.columns.specs.Columns.{padTo, columns, isDigit, digitValue, isOf, count, numberFrom, number, countTo}
-use Rattle.columns.specs.declared.Class.{Class}
-use Rattle.columns.specs.declared.Class.the-variants.{Digit, Byte}
+use Rattle.columns.specs.declared.ByteClass.{ByteClass}
+use Rattle.columns.specs.declared.ByteClass.the-variants.{Digit, Byte}
 
 -- ---- columns past the end
 
@@ -134,11 +134,11 @@ columns-lt a b line =
 -- ---- the needs of the loops over the w columns of p, for `search turns`: b was read at place i
 
 module _ (p : List ℕ) (w i b : ℕ) (h : i < w) (e : b ≡ getD p i 32) where
-  pub every-again : (k : Class) (t r : Bool) → t ≡ isOf k b → t ≡ true → every (isOf k) (drop i (padTo w p)) ≡ r → every (isOf k) (drop (i + 1) (padTo w p)) ≡ r
+  pub every-again : (k : ByteClass) (t r : Bool) → t ≡ isOf k b → t ≡ true → every (isOf k) (drop i (padTo w p)) ≡ r → every (isOf k) (drop (i + 1) (padTo w p)) ≡ r
   unfolding every
   every-again k t r d y v = sym (rw (next-column p h e, sym d ∙ y)) ∙ v
 
-  pub every-out : (k : Class) (t r : Bool) → t ≡ isOf k b → t ≡ false → every (isOf k) (drop i (padTo w p)) ≡ r → false ≡ r
+  pub every-out : (k : ByteClass) (t r : Bool) → t ≡ isOf k b → t ≡ false → every (isOf k) (drop i (padTo w p)) ≡ r → false ≡ r
   unfolding every
   every-out k t r d y v = sym (rw (next-column p h e, sym d ∙ y)) ∙ v
 
@@ -154,7 +154,7 @@ module _ (p : List ℕ) (w i b : ℕ) (h : i < w) (e : b ≡ getD p i 32) where
   unfolding numberFrom
   number-again n d r k v = rw k (sym (rw (next-column p h e)) ∙ v)
 
-pub every-done : (p : List ℕ) (w i : ℕ) (k : Class) (r : Bool) → w ≤ i → every (isOf k) (drop i (padTo w p)) ≡ r → true ≡ r
+pub every-done : (p : List ℕ) (w i : ℕ) (k : ByteClass) (r : Bool) → w ≤ i → every (isOf k) (drop i (padTo w p)) ≡ r → true ≡ r
 unfolding every
 every-done p w i k r h v = sym (rw (no-column p h)) ∙ v
 
@@ -195,7 +195,7 @@ pub ruleset sums = (tests, number-again, over-out, sum-fits, at-most-done)
 -- ---- the columns a to b of a line by the part p of it, and their number w, for `search parts`
 
 module _ (a b w : ℕ) (line p : List ℕ) (e : w ≡ b - (a - 1)) (q : p ≡ take (b - (a - 1)) (drop (a - 1) line)) where
-  pub every-columns : (k : Class) (r : Bool) → r ≡ every (isOf k) (padTo w p) → r ≡ every (isOf k) (columns a b line)
+  pub every-columns : (k : ByteClass) (r : Bool) → r ≡ every (isOf k) (padTo w p) → r ≡ every (isOf k) (columns a b line)
   every-columns k r d = d ∙ ap (every (isOf k)) (part-columns a b w line p e q)
 
   pub number-columns : (r : ℕ) → r ≡ number (padTo w p) → r ≡ number (columns a b line)
@@ -208,7 +208,7 @@ module _ (a b w : ℕ) (line p : List ℕ) (e : w ≡ b - (a - 1)) (q : p ≡ ta
   count-columns t d y m r z = rw (← (part-columns a b w line p e q), sym d ∙ y) z
 
   -- where the line reaches over them, the part is the columns
-  pub all-columns : (k : Class) (r : Bool) → w ≤ length p → r ≡ every (isOf k) p → r ≡ every (isOf k) (columns a b line)
+  pub all-columns : (k : ByteClass) (r : Bool) → w ≤ length p → r ≡ every (isOf k) p → r ≡ every (isOf k) (columns a b line)
   all-columns k r h d =
       let n : length p ≡ w = rw (q, length-take) (omega (arith, rw (q, length-take) at h)) in
       d ∙ ap (every (isOf k)) (sym (rw n at (pad-length p)) ∙ part-columns a b w line p e q)
@@ -217,10 +217,10 @@ pub ruleset parts = (tests, part-none, part-whole, part-short, every-columns, al
 
 -- ---- the needs of `all_of`, for `search alls`: b was read at place i, and u is what `both` answered
 
-pub all-start : (k : Class) (p : List ℕ) → (true && every (isOf k) (drop 0 p)) ≡ every (isOf k) p
+pub all-start : (k : ByteClass) (p : List ℕ) → (true && every (isOf k) (drop 0 p)) ≡ every (isOf k) p
 all-start k p = refl
 
-pub all-again : (p : List ℕ) (i b : ℕ) (k : Class) (all t u r : Bool) → i < length p → b ≡ getD p i 0 → t ≡ isOf k b → u ≡ (all && t)
+pub all-again : (p : List ℕ) (i b : ℕ) (k : ByteClass) (all t u r : Bool) → i < length p → b ≡ getD p i 0 → t ≡ isOf k b → u ≡ (all && t)
     → (all && every (isOf k) (drop i p)) ≡ r → (u && every (isOf k) (drop (i + 1) p)) ≡ r
 unfolding every
 all-again p i b k all t u r h e d y v = rw (y, d) (go all (rw (drop-next p i b h e) at v))
@@ -229,7 +229,7 @@ all-again p i b k all t u r h e d y v = rw (y, d) (go all (rw (drop-next p i b h
     go true w = w
     go false w = w
 
-pub all-done : (p : List ℕ) (i : ℕ) (k : Class) (all r : Bool) → length p ≤ i → (all && every (isOf k) (drop i p)) ≡ r → all ≡ r
+pub all-done : (p : List ℕ) (i : ℕ) (k : ByteClass) (all r : Bool) → length p ≤ i → (all && every (isOf k) (drop i p)) ≡ r → all ≡ r
 unfolding every
 all-done p i k all r h v = go all (rw (drop-of-length-le p h) at v)
   where

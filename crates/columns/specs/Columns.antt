@@ -6,8 +6,8 @@ use mathlib.Core.Bool.{Bool, true, false, cond, not, _&&_, _||_}
 use lib.ListN.{getD, drop}
 use lib.Dec.{eqb, leb}
 use Rattle.base.specs.Lists.{every}
-use Rattle.columns.specs.declared.Class.{Class}
-use Rattle.columns.specs.declared.Class.the-variants.{Digit, Hex, Filled, Byte}
+use Rattle.columns.specs.declared.ByteClass.{ByteClass}
+use Rattle.columns.specs.declared.ByteClass.the-variants.{Digit, Hex, Filled, Byte}
 
 -- the first w columns of l, blank past its end
 unfoldable pub padTo : ℕ → List ℕ → List ℕ
@@ -43,7 +43,7 @@ abbrev pub hexValue : ℕ → ℕ
 hexValue b = cond (isDigit b) (b - 48) (cond (leb 65 b && leb b 70) (b - 55) 0)
 
 -- what every byte of a field may have to be (for the contract of `every_in` only)
-abbrev pub isOf : Class → ℕ → Bool
+abbrev pub isOf : ByteClass → ℕ → Bool
 isOf Digit b = isDigit b
 isOf Hex b = isHex b
 isOf Filled b = not (isBlank b)

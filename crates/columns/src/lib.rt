@@ -11,7 +11,7 @@ ghost use Rattle.columns.specs.Columns.{padTo, columns, column, isDigit,
 pub mod line_fields;
 
 // What every byte of a field may have to be.
-pub enum Class {
+pub enum ByteClass {
     Digit,
     Hex,
     Filled,
@@ -21,14 +21,14 @@ pub enum Class {
 // ---- a line's columns a to b
 
 // Whether every byte is of the class.
-pub fn every_in(line: &[u8], a: usize, b: usize, class: Class) -> bool
+pub fn every_in(line: &[u8], a: usize, b: usize, class: ByteClass) -> bool
     ensures { λ r. ⌜ r ≡ every (isOf class) (columns a b (now (line .entry))) ⌝ }
 {
     every_of(part(line, a, b), width(a, b), class)
 }
 
 // The same, for many columns: each byte is tested, whatever those before it were, so that the machine tests many at once.
-pub fn all_in(line: &[u8], a: usize, b: usize, class: Class) -> bool
+pub fn all_in(line: &[u8], a: usize, b: usize, class: ByteClass) -> bool
     ensures { λ r. ⌜ r ≡ every (isOf class) (columns a b (now (line .entry))) ⌝ }
 {
     let p = part(line, a, b);
@@ -99,14 +99,14 @@ pub fn byte_at(p: &[u8], i: usize) -> u8
 }
 
 // Whether every one of the w bytes is of the class.
-pub fn every_of(p: &[u8], w: usize, class: Class) -> bool
+pub fn every_of(p: &[u8], w: usize, class: ByteClass) -> bool
     ensures { λ r. ⌜ r ≡ every (isOf class) (padTo w (now (p .entry))) ⌝ }
 {
     every_from(p, 0, w, class)
 }
 
 // Whether every byte is of the class.
-fn all_of(p: &[u8], class: Class) -> bool
+fn all_of(p: &[u8], class: ByteClass) -> bool
     ensures { λ r. ⌜ r ≡ every (isOf class) (now (p .entry)) ⌝ }
 {
     let mut all = true;
@@ -126,7 +126,7 @@ fn both(a: bool, b: bool) -> bool
 }
 
 // Whether every one of the w bytes from place `from` on is of the class.
-pub fn every_from(p: &[u8], from: usize, w: usize, class: Class) -> bool
+pub fn every_from(p: &[u8], from: usize, w: usize, class: ByteClass) -> bool
     ensures { λ r. ⌜ r ≡ every (isOf class) (drop from (padTo w (now (p .entry)))) ⌝ }
 {
     let mut i = from;
@@ -161,7 +161,7 @@ fn count_of(p: &[u8], w: usize) -> bool
     let mut i = 0;
     while i < w {
         if byte_at(p, i) != b' ' {
-            return every_from(p, i, w, Class::Digit);
+            return every_from(p, i, w, ByteClass::Digit);
         }
         i += 1;
     }
@@ -187,14 +187,14 @@ fn at_most(p: &[u8], w: usize, m: u32) -> bool
 
 // ---- bytes
 
-fn is_of(class: Class, b: u8) -> bool
+fn is_of(class: ByteClass, b: u8) -> bool
     ensures { λ r. ⌜ r ≡ isOf class b ⌝ }
 {
     match class {
-        Class::Digit => is_digit(b),
-        Class::Hex => is_hex(b),
-        Class::Filled => b != b' ',
-        Class::Byte(m) => b == m,
+        ByteClass::Digit => is_digit(b),
+        ByteClass::Hex => is_hex(b),
+        ByteClass::Filled => b != b' ',
+        ByteClass::Byte(m) => b == m,
     }
 }
 

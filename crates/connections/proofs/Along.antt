@@ -23,7 +23,7 @@ use Rattle.timetable.specs.declared.Course.{Course}
 use Rattle.timetable.specs.declared.Course.the-variants.{Along, NotRunning, Refused as Barred}
 use Rattle.timetable.specs.declared.Opening.{Opening}
 use Rattle.table.proofs.Says.{record-says, record-sized, call-sound, call-says}
-use Rattle.rows.specs.Rows.{callShown, shownBy, serviceShown}
+use Rattle.rows.specs.Inner.Rows.{callShown, shownBy, serviceShown}
 use Rattle.course.proofs.Laws.{legs-count, count-shown, course-shown}
 use Rattle.course.proofs.Rows.{along-within}
 use Rattle.connections.specs.declared.Part.{Part}
@@ -31,7 +31,7 @@ use Rattle.connections.specs.declared.Stage.{Stage}
 use Rattle.connections.specs.declared.Staged.{Staged}
 use Rattle.connections.specs.declared.Staged.the-variants.{Is, Refused}
 use Rattle.connections.specs.Connection.{moment, rowCall, stageAlong, stageBetween, stageBy}
-use Rattle.connections.specs.Inner.{runIn, callIn, stageIn, stageRidden, stageCalls}
+use Rattle.connections.specs.Inner.Stages.{runIn, callIn, stageIn, stageRidden, stageCalls}
 
 -- ---- the course c of the service at the front of s, for a part p on day k
 

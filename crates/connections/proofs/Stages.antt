@@ -20,12 +20,12 @@ use Rattle.index.specs.declared.ServiceRecord.{ServiceRecord}
 use Rattle.index.specs.declared.ServiceRecord.the-variants.{From, Refused as NoRecord}
 use Rattle.index.proofs.Records.{record-refused, record-service, record-sound, record-within}
 use Rattle.index.proofs.Shows.{day-low}
-use Rattle.rows.specs.Rows.{shownBy}
+use Rattle.rows.specs.Inner.Rows.{shownBy}
 use Rattle.connections.specs.declared.Part.{Part}
 use Rattle.connections.specs.declared.Stage.{Stage}
 use Rattle.connections.specs.declared.Staged.{Staged}
 use Rattle.connections.specs.declared.Staged.the-variants.{Is, Refused}
-use Rattle.connections.specs.Inner.{stageIn, changeNumber}
+use Rattle.connections.specs.Inner.Stages.{stageIn, changeNumber}
 use Rattle.connections.specs.Connection.{stageBy, stageDated, stageOf, changeTo, changedTo}
 
 -- ---- two tests in a row: x answers the first, y the second

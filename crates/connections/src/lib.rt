@@ -14,7 +14,7 @@ ghost use Rattle.timetable.specs.Table.{stops#, calls#, openingAt, serviceAt, s
 ghost use Rattle.timetable.specs.Run.{categoryOn, aRun, runOf};
 ghost use Rattle.timetable.specs.Runs.{hasRun};
 ghost use Rattle.index.specs.Index.{Ready, viewIn};
-ghost use Rattle.connections.specs.Inner.{runIn, callIn, stageIn, stageRidden, stageCalls, changeNumber};
+ghost use Rattle.connections.specs.Inner.Stages.{runIn, callIn, stageIn, stageRidden, stageCalls, changeNumber};
 ghost use Rattle.connections.specs.Connection.{partSize, partAt, partsOf, wholeParts, moment, stageBy, stageOf, changeTo, changedTo, partsAfter, partsHold, connectionIn, connectionAsked};
 ghost use Rattle.connections.specs.Quick.{connectionQuick};
 

@@ -15,7 +15,7 @@ use Rattle.timetable.specs.Table.{rowsIn, legsAt}
 use Rattle.timetable.proofs.Rows.{room-start, room-now, room-fits, room-next, rows-left}
 use Rattle.cover.specs.declared.FirstRange.{FirstRange}
 use Rattle.cover.specs.declared.FirstRange.the-variants.{At, Nowhere}
-use Rattle.cover.specs.Cover.{legsIn, placeFrom}
+use Rattle.cover.specs.Inner.Cover.{legsIn, coverPlaceFrom}
 
 -- ---- a range is read where it stands
 
@@ -53,25 +53,25 @@ count-done leg width (suc left) at count r w h v = absurd (omega arith)
 
 -- ---- where the first stands that covers a leg
 
-place-next : (leg width left at : ℕ) (w : List ℕ) → 0 < left → placeFrom leg width at left (drop at w) ≡ cond (covers leg (legsAt (width - 2) (drop at w))) (At at) (placeFrom leg width (at + width) (left - 1) (drop (at + width) w))
-unfolding placeFrom
+place-next : (leg width left at : ℕ) (w : List ℕ) → 0 < left → coverPlaceFrom leg width at left (drop at w) ≡ cond (covers leg (legsAt (width - 2) (drop at w))) (At at) (coverPlaceFrom leg width (at + width) (left - 1) (drop (at + width) w))
+unfolding coverPlaceFrom
 place-next leg width zero at w h = absurd (omega arith)
 place-next leg width (suc m) at w h =
     let e : suc m - 1 ≡ m = omega arith in
     rw (e, ← (drop-drop width at w)) refl
 
-module _ (leg width left at : ℕ) (r : FirstRange) (w : List ℕ) (t : Bool) (h : 0 < left) (e : t ≡ covers leg (legsAt (width - 2) (drop at w))) (v : placeFrom leg width at left (drop at w) ≡ r) where
-  place-by-test : cond t (At at) (placeFrom leg width (at + width) (left - 1) (drop (at + width) w)) ≡ r
-  place-by-test = ap (λ (x : Bool). cond x (At at) (placeFrom leg width (at + width) (left - 1) (drop (at + width) w))) e ∙ sym (place-next leg width left at w h) ∙ v
+module _ (leg width left at : ℕ) (r : FirstRange) (w : List ℕ) (t : Bool) (h : 0 < left) (e : t ≡ covers leg (legsAt (width - 2) (drop at w))) (v : coverPlaceFrom leg width at left (drop at w) ≡ r) where
+  place-by-test : cond t (At at) (coverPlaceFrom leg width (at + width) (left - 1) (drop (at + width) w)) ≡ r
+  place-by-test = ap (λ (x : Bool). cond x (At at) (coverPlaceFrom leg width (at + width) (left - 1) (drop (at + width) w))) e ∙ sym (place-next leg width left at w h) ∙ v
 
-  pub place-again : t ≡ false → placeFrom leg width (at + width) (left - 1) (drop (at + width) w) ≡ r
-  place-again k = ap (λ (x : Bool). cond x (At at) (placeFrom leg width (at + width) (left - 1) (drop (at + width) w))) (sym k) ∙ place-by-test
+  pub place-again : t ≡ false → coverPlaceFrom leg width (at + width) (left - 1) (drop (at + width) w) ≡ r
+  place-again k = ap (λ (x : Bool). cond x (At at) (coverPlaceFrom leg width (at + width) (left - 1) (drop (at + width) w))) (sym k) ∙ place-by-test
 
   pub place-out : t ≡ true → At at ≡ r
-  place-out k = ap (λ (x : Bool). cond x (At at) (placeFrom leg width (at + width) (left - 1) (drop (at + width) w))) (sym k) ∙ place-by-test
+  place-out k = ap (λ (x : Bool). cond x (At at) (coverPlaceFrom leg width (at + width) (left - 1) (drop (at + width) w))) (sym k) ∙ place-by-test
 
-pub place-done : (leg width left at : ℕ) (r : FirstRange) (w : List ℕ) → left ≤ 0 → placeFrom leg width at left (drop at w) ≡ r → Nowhere ≡ r
-unfolding placeFrom
+pub place-done : (leg width left at : ℕ) (r : FirstRange) (w : List ℕ) → left ≤ 0 → coverPlaceFrom leg width at left (drop at w) ≡ r → Nowhere ≡ r
+unfolding coverPlaceFrom
 place-done leg width zero at r w h v = v
 place-done leg width (suc left) at r w h v = absurd (omega arith)
 

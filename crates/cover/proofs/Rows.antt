@@ -18,7 +18,7 @@ use Rattle.timetable.specs.Checks.{eachOnce}
 use Rattle.timetable.specs.Table.{rowsIn, legsAt, categoryAt, dayAt}
 use Rattle.cover.specs.declared.FirstRange.{FirstRange}
 use Rattle.cover.specs.declared.FirstRange.the-variants.{At, Nowhere}
-use Rattle.cover.specs.Cover.{legsIn, onceIn, placeFrom}
+use Rattle.cover.specs.Inner.Cover.{legsIn, onceIn, coverPlaceFrom}
 
 -- ---- rows of any kind whose legs are their last two words
 
@@ -36,19 +36,19 @@ module _ {X : Type 0} (f : List ℕ → X) (legs : X → Legs) (width : ℕ) (e 
   rowAt w (At p) = some (f (drop p w))
   rowAt w Nowhere = none
 
-  first-from : (leg at n : ℕ) (w : List ℕ) → find (λ (r : X). covers leg (legs r)) (rowsIn f width n (drop at w)) ≡ rowAt w (placeFrom leg width at n (drop at w))
-  unfolding find rowsIn placeFrom
+  first-from : (leg at n : ℕ) (w : List ℕ) → find (λ (r : X). covers leg (legs r)) (rowsIn f width n (drop at w)) ≡ rowAt w (coverPlaceFrom leg width at n (drop at w))
+  unfolding find rowsIn coverPlaceFrom
   first-from leg at zero w = refl
   first-from leg at (suc n) w =
       ap (λ (g : Legs). cond (covers leg g) (some (f (drop at w))) (find (λ (r : X). covers leg (legs r)) (rowsIn f width n (drop width (drop at w))))) (sym (e (drop at w)))
       ∙ go (covers leg (legsAt (width - 2) (drop at w))) (rw (← (drop-drop width at w)) at (first-from leg (at + width) n w))
     where
-      go : (t : Bool) → find (λ (r : X). covers leg (legs r)) (rowsIn f width n (drop width (drop at w))) ≡ rowAt w (placeFrom leg width (at + width) n (drop width (drop at w))) →
-          cond t (some (f (drop at w))) (find (λ (r : X). covers leg (legs r)) (rowsIn f width n (drop width (drop at w)))) ≡ rowAt w (cond t (At at) (placeFrom leg width (at + width) n (drop width (drop at w))))
+      go : (t : Bool) → find (λ (r : X). covers leg (legs r)) (rowsIn f width n (drop width (drop at w))) ≡ rowAt w (coverPlaceFrom leg width (at + width) n (drop width (drop at w))) →
+          cond t (some (f (drop at w))) (find (λ (r : X). covers leg (legs r)) (rowsIn f width n (drop width (drop at w)))) ≡ rowAt w (cond t (At at) (coverPlaceFrom leg width (at + width) n (drop width (drop at w))))
       go true ih = refl
       go false ih = ih
 
-  pub first-row : (leg n : ℕ) (w : List ℕ) → find (λ (r : X). covers leg (legs r)) (rowsIn f width n w) ≡ rowAt w (placeFrom leg width 0 n w)
+  pub first-row : (leg n : ℕ) (w : List ℕ) → find (λ (r : X). covers leg (legs r)) (rowsIn f width n w) ≡ rowAt w (coverPlaceFrom leg width 0 n w)
   first-row leg n w = first-from leg 0 n w
 
 -- ---- 17 and 18
@@ -65,20 +65,20 @@ abbrev Within : ℕ → ℕ → FirstRange → Type 0
 Within width l (At p) = p + width ≤ l
 Within width l Nowhere = Unit {0}
 
-place-within : (leg width at n : ℕ) (w : List ℕ) → Within width (at + n * width) (placeFrom leg width at n w)
-unfolding placeFrom
+place-within : (leg width at n : ℕ) (w : List ℕ) → Within width (at + n * width) (coverPlaceFrom leg width at n w)
+unfolding coverPlaceFrom
 place-within leg width at zero w = record {}
 place-within leg width at (suc n) w = go (covers leg (legsAt (width - 2) w)) (place-within leg width (at + width) n (drop width w))
   where
     e : suc n * width ≡ n * width + width
     e = suc-mul n width
 
-    go : (t : Bool) → Within width (at + width + n * width) (placeFrom leg width (at + width) n (drop width w)) → Within width (at + suc n * width) (cond t (At at) (placeFrom leg width (at + width) n (drop width w)))
+    go : (t : Bool) → Within width (at + width + n * width) (coverPlaceFrom leg width (at + width) n (drop width w)) → Within width (at + suc n * width) (cond t (At at) (coverPlaceFrom leg width (at + width) n (drop width w)))
     go true ih = omega (arith, e)
     go false ih =
         let q : at + width + n * width ≡ at + suc n * width = omega (arith, e) in
-        subst (λ (l : ℕ). Within width l (placeFrom leg width (at + width) n (drop width w))) q ih
+        subst (λ (l : ℕ). Within width l (coverPlaceFrom leg width (at + width) n (drop width w))) q ih
 
 -- x is the place found
-pub place-fits : (leg width n p : ℕ) (x : FirstRange) (w : List ℕ) → x ≡ placeFrom leg width 0 n w → x ≡ At p → p + width ≤ n * width
+pub place-fits : (leg width n p : ℕ) (x : FirstRange) (w : List ℕ) → x ≡ coverPlaceFrom leg width 0 n w → x ≡ At p → p + width ≤ n * width
 place-fits leg width n p x w e k = omega (arith, subst (Within width (0 + n * width)) (sym e ∙ k) (place-within leg width 0 n w))

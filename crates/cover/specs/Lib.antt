@@ -1,1 +1,1 @@
-pub mod Cover
+pub mod Inner

@@ -5,7 +5,7 @@ ghost use lib.ListN.{length, drop};
 ghost use Rattle.base.specs.Lists.{every, countIf, below};
 ghost use Rattle.timetable.specs.Legs.{covers};
 ghost use Rattle.timetable.specs.Table.{legsAt};
-ghost use Rattle.cover.specs.Cover.{legsIn, onceIn, placeFrom};
+ghost use Rattle.cover.specs.Inner.Cover.{legsIn, onceIn, coverPlaceFrom};
 
 // The place of the first range that covers a leg, or that none does.
 pub enum FirstRange {
@@ -45,7 +45,7 @@ pub fn covered_once(w: &[u32], n: u32, width: usize, leg: u32) -> bool
 pub fn covering_place(w: &[u32], n: u32, width: usize, leg: u32) -> FirstRange
     requires { ⌜ 2 ≤ width ⌝ }
     requires { ⌜ n * width ≤ length (now w) ⌝ }
-    ensures { λ r. ⌜ r ≡ placeFrom leg width 0 n (now (w .entry)) ⌝ }
+    ensures { λ r. ⌜ r ≡ coverPlaceFrom leg width 0 n (now (w .entry)) ⌝ }
 {
     let mut left = n;
     let mut at: usize = 0;

@@ -22,7 +22,7 @@ use Rattle.timetable.specs.declared.Told.{Told}
 use Rattle.timetable.specs.declared.Told.the-variants.{Skip, Other, Broken, Opens, Ranges, Calls}
 use Rattle.timetable.proofs.Calls.{calls-more}
 use Rattle.timetable.proofs.Lines.{part-more, said-on}
-use Rattle.draft.specs.Draft.{mostRanges, callsLent, rangesLent, callBack, lineBack, rangeBack, callsOn, callsIn, rangesOn, rangesIn, onLine, lastOf, callsAfter, countsOf, ranges#, noCounts, countCalls, countPart, countRanges, counted, Within, DraftOf, draftedService}
+use Rattle.draft.specs.Inner.Draft.{mostRanges, callsLent, rangesLent, callBack, lineBack, rangeBack, callsOn, callsIn, rangesOn, rangesIn, onLine, lastOf, callsAfter, countsOf, ranges#, noCounts, countCalls, countPart, countRanges, counted, Within, DraftOf, draftedService}
 use Rattle.draft.specs.declared.Counts.{Counts}
 
 -- ---- counts with one line more

@@ -12,7 +12,7 @@ use Rattle.timetable.specs.declared.Part.the-variants.{Category, Days, Extra}
 use Rattle.fields.specs.declared.RangeEnd.the-variants.{Outer, Index, Stop, NoEnd}
 use Rattle.fields.specs.declared.Detail.the-variants.{Plain, Nth, Timed, NoDetail}
 use Rattle.timetable.specs.declared.RangeLine.{RangeLine}
-use Rattle.draft.specs.Draft.{callBack, placeBack, detailBack, partBack, endBack, lineBack, rangeBack}
+use Rattle.draft.specs.Inner.Draft.{callBack, placeBack, detailBack, partBack, endBack, lineBack, rangeBack}
 
 pub call-line : (w : List ℕ) (at : ℕ) → getD w (at + 7) 0 ≡ callBack (drop at w) .0
 call-line w at = sym (getD-drop at w 7 0)

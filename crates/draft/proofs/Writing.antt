@@ -36,7 +36,7 @@ use Rattle.timetable.specs.declared.RangeLine.{RangeLine}
 use Rattle.timetable.specs.declared.Told.{Told}
 use Rattle.timetable.specs.declared.Told.the-variants.{Skip, Other, Broken, Opens, Ranges, Calls}
 use Rattle.timetable.proofs.Told.{the-type}
-use Rattle.draft.specs.Draft.{draftCall, draftRange, callsLent, rangesLent, mostRanges, callDraft, placeTag, placeValue, detailTag, detailValue, endDraft, rangeDraft, callBack, placeBack, detailBack, partBack, endBack, rangeBack, callsOn, rangesOn, onLine, lastOf, callsAfter, countCalls, countPart, countRanges, counted, ranges#, Within}
+use Rattle.draft.specs.Inner.Draft.{draftCall, draftRange, callsLent, rangesLent, mostRanges, callDraft, placeTag, placeValue, detailTag, detailValue, endDraft, rangeDraft, callBack, placeBack, detailBack, partBack, endBack, rangeBack, callsOn, rangesOn, onLine, lastOf, callsAfter, countCalls, countPart, countRanges, counted, ranges#, Within}
 use Rattle.draft.specs.declared.Counts.{Counts}
 use Rattle.draft.specs.declared.Code.{Code}
 

@@ -23,8 +23,8 @@ ghost use lib.ListN.{length, drop};
 ghost use Rattle.timetable.specs.Plan.{asCall, asRange, partNumber};
 ghost use Rattle.timetable.specs.Service.{opened, callBy};
 ghost use Rattle.words.specs.Words.{write};
-ghost use Rattle.draft.specs.Draft.{draftCall, draftRange, draftEnd, mostRanges, callsLent, rangesLent, callDraft, placeTag, placeValue, detailTag, detailValue, endDraft, rangeDraft};
-ghost use Rattle.draft.specs.Draft.{callBack, placeBack, detailBack, partBack, endBack, lineBack, rangeBack, callsOn, rangesOn, onLine, lastOf, callsAfter, noCounts, countCalls, countPart, countRanges, counted, ranges#, Within};
+ghost use Rattle.draft.specs.Inner.Draft.{draftCall, draftRange, draftEnd, mostRanges, callsLent, rangesLent, callDraft, placeTag, placeValue, detailTag, detailValue, endDraft, rangeDraft};
+ghost use Rattle.draft.specs.Inner.Draft.{callBack, placeBack, detailBack, partBack, endBack, lineBack, rangeBack, callsOn, rangesOn, onLine, lastOf, callsAfter, noCounts, countCalls, countPart, countRanges, counted, ranges#, Within};
 
 // The words of a call in the draft: those of the table (stop, arrival, departure, flags, and the number and administration that hold there), and its
 // line's number.

@@ -15,7 +15,7 @@ use Rattle.timetable.specs.Load.{delivered, lengthOffence, contentOffence, offe
 use Rattle.timetable.specs.Runs.{hasRun, lateness, openingSound}
 use Rattle.timetable.specs.Table.{serviceWords, tableWords}
 use Rattle.timetable.specs.Offences.{_<|>_, first}
-use Rattle.timetable.specs.Plan.{toldIn, opens, tolds, saidOn}
+use Rattle.timetable.specs.Plan.{toldIn, opensService, tolds, saidOn}
 use Rattle.timetable.specs.Ranges.{places, lastPlace, fromPlace, toPlace, legsOf}
 use Rattle.timetable.specs.Service.{headLines, blocks, holding, calledOn, serviceOf}
 use Rattle.timetable.specs.Table.{rowsIn, serviceAt, servicesIn, tableOf, recordSound, recordsSound, headSound, isTable}
@@ -28,5 +28,5 @@ use Rattle.examples.proofs.Classing.{classing}
 use Rattle.examples.proofs.Placing.{placing}
 
 unfoldable pub computing : Unit {0}
-unfolding every some-of countIf find gathered upto bytes hexFrom hexWords bitsIn bit framed yearsBefore monthsBefore exists dayOf dateIn periodOf padTo columns count numberFrom hashDigits hash timeIn rangeEndIn detailIn strayFrom unnamed rowForm formFrom kindOf startWith pieces noCR numbered linesFrom skipped toLF cutAt saidOn timesFirst endsFirst fieldRuns stretches serviceChecks serviceFirst servicesFirst planFirst held-in periodFirst bitFieldsFirst nameLength stopsFirst interchangesFirst delivered lengthOffence contentOffence offence serviceWords tableWords onto helperNeeded loaded written _<|>_ first toldIn opens tolds dayIn dayAsked interchangeAtStop interchangeIn interchangeAsked firstRefusal idleLegs leadingLegs callRefusal callsRefusal stretchCourse dayCourse courseOn serviceCourse runOf rowsOf journey walkOf places lastPlace fromPlace toPlace legsOf headLines blocks holding calledOn serviceOf rowsIn serviceAt servicesIn tableOf recordSound recordsSound headSound isTable routeR weekAlong trial fridayRows changingR changing plannedListing dial hasRun lateness openingSound naming classing placing
+unfolding every some-of countIf find gathered upto bytes hexFrom hexWords bitsIn bit framed yearsBefore monthsBefore exists dayOf dateIn periodOf padTo columns count numberFrom hashDigits hash timeIn rangeEndIn detailIn strayFrom unnamed rowForm formFrom kindOf startWith pieces noCR numbered linesFrom skipped toLF cutAt saidOn timesFirst endsFirst fieldRuns stretches serviceChecks serviceFirst servicesFirst planFirst held-in periodFirst bitFieldsFirst nameLength stopsFirst interchangesFirst delivered lengthOffence contentOffence offence serviceWords tableWords onto helperNeeded loaded written _<|>_ first toldIn opensService tolds dayIn dayAsked interchangeAtStop interchangeIn interchangeAsked firstRefusal idleLegs leadingLegs callRefusal callsRefusal stretchCourse dayCourse courseOn serviceCourse runOf rowsOf journey walkOf places lastPlace fromPlace toPlace legsOf headLines blocks holding calledOn serviceOf rowsIn serviceAt servicesIn tableOf recordSound recordsSound headSound isTable routeR weekAlong trial fridayRows changingR changing plannedListing dial hasRun lateness openingSound naming classing placing
 computing = tt

@@ -9,7 +9,7 @@ use borrow.Author.Tests.{eq-eqb, ne-eqb, le-leb, lt-leb}
 use Rattle.base.specs.Lists.{every}
 use Rattle.base.proofs.Laws.{tests, clash}
 use Rattle.columns.specs.Columns.{padTo, columns, isBlank, isDigit, digitValue, isOf, blank, digits, number}
-use Rattle.columns.specs.declared.Class.the-variants.{Digit, Byte}
+use Rattle.columns.specs.declared.ByteClass.the-variants.{Digit, Byte}
 use Rattle.columns.proofs.Laws.{pad-take, pad-pad, getD-pad, next-column, no-column, number-next, number-fits, tens-fit, power}
 use Rattle.fields.specs.declared.Hash.{Hash}
 use Rattle.fields.specs.declared.Hash.the-variants.{Numbered, NoNumber}

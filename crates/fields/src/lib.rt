@@ -4,7 +4,7 @@ ghost use Prim.Native.Nat.{_≤_};
 ghost use lib.ListN.{drop};
 ghost use Rattle.columns.specs.Columns.{padTo, columns};
 ghost use Rattle.fields.specs.Fields.{hashDigits, afterHash, hash, clock, time, indexBy, rangeEnd, timedBy, nthBy, detail};
-use columns::Class;
+use columns::ByteClass;
 
 // Three counters that never stand for each other: the place of a call in its route from 0, which appearance of a stop in the route
 // from 0, and a stop's number.
@@ -69,7 +69,7 @@ pub fn detail_in(line: &[u8], a: usize, b: usize) -> Detail
 fn time_of(p: &[u8]) -> Time
     ensures { λ r. ⌜ r ≡ time (now (p .entry)) ⌝ }
 {
-    if columns::every_of(p, 6, Class::Byte(b' ')) {
+    if columns::every_of(p, 6, ByteClass::Byte(b' ')) {
         return Time::Absent;
     }
     let sign = columns::byte_at(p, 0);
@@ -85,7 +85,7 @@ fn time_of(p: &[u8]) -> Time
 fn clock_of(p: &[u8], barred: bool) -> Time
     ensures { λ r. ⌜ r ≡ clock barred (padTo 5 (now (p .entry))) ⌝ }
 {
-    if columns::every_of(p, 5, Class::Digit) {
+    if columns::every_of(p, 5, ByteClass::Digit) {
         let n = columns::number_of(p, 5);
         if n % 100 <= 59 {
             return Time::Stated {
@@ -101,10 +101,10 @@ fn clock_of(p: &[u8], barred: bool) -> Time
 fn range_end_of(p: &[u8]) -> RangeEnd
     ensures { λ r. ⌜ r ≡ rangeEnd (now (p .entry)) ⌝ }
 {
-    if columns::every_of(p, 7, Class::Byte(b' ')) {
+    if columns::every_of(p, 7, ByteClass::Byte(b' ')) {
         return RangeEnd::Outer;
     }
-    if columns::every_of(p, 7, Class::Digit) {
+    if columns::every_of(p, 7, ByteClass::Digit) {
         return RangeEnd::Stop(StopNumber(columns::number_of(p, 7)));
     }
     index_of(hash_of(p, 7))
@@ -124,7 +124,7 @@ fn index_of(h: Hash) -> RangeEnd
 fn detail_of(p: &[u8]) -> Detail
     ensures { λ r. ⌜ r ≡ detail (now (p .entry)) ⌝ }
 {
-    if columns::every_of(p, 6, Class::Byte(b' ')) {
+    if columns::every_of(p, 6, ByteClass::Byte(b' ')) {
         return Detail::Plain;
     }
     nth_of(hash_of(p, 6), timed_of(time_of(p)))
@@ -196,7 +196,7 @@ fn hash_digits(p: &[u8], from: usize, w: usize) -> Hash
             n = n * 10 + columns::digit_value(b);
             i += 1;
         } else {
-            if columns::every_from(p, i, w, Class::Byte(b' ')) {
+            if columns::every_from(p, i, w, ByteClass::Byte(b' ')) {
                 return Hash::Numbered(n);
             }
             return Hash::NoNumber;

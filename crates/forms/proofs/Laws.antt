@@ -15,10 +15,10 @@ use Rattle.columns.specs.Columns.{isDigit, digitValue, digits, numberFrom, numb
 use Rattle.columns.proofs.Laws.{number-grows}
 use Rattle.forms.specs.declared.Form.{Form}
 use Rattle.forms.specs.declared.Form.the-variants.{Fits, Broken}
-use Rattle.forms.specs.Form.{Row, column, free, offsetOf, fromOne, before, strayFrom, unnamed, named, rowForm, formFrom, formOf, isFit, fits}
+use Rattle.forms.specs.Form.{FieldRule, columnRule, free, offsetOf, fromOne, before, strayFrom, unnamed, brokenUnless, rowForm, formFrom, formOf, isFit, hasForm}
 use Rattle.forms.specs.Columns.{columnsOf}
 use Rattle.forms.specs.declared.LineKind.{LineKind}
-use Rattle.forms.specs.Rows.{ruleOf, fromOf, toOf, rowOf, ruleNumber, withRule, rowsOf}
+use Rattle.forms.specs.Inner.Rows.{ruleOf, fromOf, toOf, rowOf, ruleNumber, withRule, rowsOf}
 
 -- ---- unnamed columns of the line l up to column e, for `search forms`
 
@@ -52,7 +52,7 @@ module _ (l : List ℕ) (e i : ℕ) (r : Form) (v : unnamed i e l ≡ r) where
 -- ---- rows
 
 module _ (line : List ℕ) (done from to a k m : ℕ) (u : Form) (ea : a ≡ from - 1) (eu : u ≡ unnamed done a line) where
-  abbrev row : Row
+  abbrev row : FieldRule
   row = record { from = from; to = to; rule = ruleOf k m }
 
   pub row-out : (x : ℕ) → u ≡ Broken x → u ≡ rowForm done row line
@@ -94,14 +94,14 @@ pub ruleset forms = (tests, gap-again, gap-out, gap-short, gap-done, row-out, ro
 -- ---- what a line that has the form is known to have
 
 -- what a row asks of a line
-abbrev pub Holds : Row → List ℕ → Type 0
+abbrev pub Holds : FieldRule → List ℕ → Type 0
 Holds x line = x .rule line (C.columns (x .from) (x .to) line) ≡ true
 
 -- the row at place i, from 0; past the last a row that asks nothing
-abbrev pub rowAt : ℕ → List Row → Row
-rowAt i rows = getD rows i (column 0 free)
+abbrev pub rowAt : ℕ → List FieldRule → FieldRule
+rowAt i rows = getD rows i (columnRule 0 free)
 
-pub row-holds : (rows : List Row) (line : List ℕ) (i : ℕ) → formOf rows line ≡ Fits → Holds (rowAt i rows) line
+pub row-holds : (rows : List FieldRule) (line : List ℕ) (i : ℕ) → formOf rows line ≡ Fits → Holds (rowAt i rows) line
 unfolding rowForm formFrom
 row-holds rows line i e = go 0 rows i e
   where
@@ -113,11 +113,11 @@ row-holds rows line i e = go 0 rows i e
     rest Fits g e = e
     rest (Broken c) g e = cc
 
-    asked : (a : ℕ) (t : Bool) → named a t ≡ Fits → t ≡ true
+    asked : (a : ℕ) (t : Bool) → brokenUnless a t ≡ Fits → t ≡ true
     asked a true e = refl
     asked a false e = cc
 
-    go : (c : ℕ) (rows : List Row) (i : ℕ) → formFrom c rows line ≡ Fits → Holds (rowAt i rows) line
+    go : (c : ℕ) (rows : List FieldRule) (i : ℕ) → formFrom c rows line ≡ Fits → Holds (rowAt i rows) line
     go c [] zero e = refl
     go c [] (suc i) e = refl
     go c (x ∷ xs) zero e =
@@ -125,7 +125,7 @@ row-holds rows line i e = go 0 rows i e
         asked (x .from) _ (rest (unnamed c (x .from - 1) line) _ f)
     go c (x ∷ xs) (suc i) e = go (x .to) xs i (rest (rowForm c x line) (formFrom (x .to) xs line) e)
 
-pub fits-form : (rows : List Row) (line : List ℕ) → fits rows line ≡ true → formOf rows line ≡ Fits
+pub fits-form : (rows : List FieldRule) (line : List ℕ) → hasForm rows line ≡ true → formOf rows line ≡ Fits
 fits-form rows line e = go (formOf rows line) e
   where
     go : (f : Form) → isFit f ≡ true → f ≡ Fits

@@ -17,7 +17,7 @@ use Rattle.forms.specs.declared.Form.{Form}
 use Rattle.forms.specs.declared.Form.the-variants.{Fits, Broken}
 use Rattle.forms.specs.declared.LineKind.{LineKind}
 use Rattle.forms.specs.declared.LineKind.the-variants.{Date, BitField, Stop, Interchange, CategoryClass, Opening, Frequency, Category, Attribute, Schedule}
-use Rattle.forms.specs.Form.{Row, before, strayFrom, unnamed, named, rowForm, formFrom, formOf}
+use Rattle.forms.specs.Form.{FieldRule, before, strayFrom, unnamed, brokenUnless, rowForm, formFrom, formOf}
 use Rattle.forms.specs.Columns.{columnsOf}
 use Rattle.forms.specs.Leftmost.{FieldBreaks, here, there, Stray, Breaks, field, stray, Leftmost}
 
@@ -82,12 +82,12 @@ module _ (line : List ℕ) (done e : ℕ) where
 -- ---- rows
 
 -- each row starts past the one before it, and ends where it starts or later
-unfoldable inOrder : ℕ → List Row → Bool
+unfoldable inOrder : ℕ → List FieldRule → Bool
 inOrder done [] = true
 inOrder done (x ∷ xs) = ltb done (x .from) && (leb (x .from) (x .to) && inOrder (x .to) xs)
 
 module _ (line : List ℕ) where
-  ordered : (done : ℕ) (x : Row) (xs : List Row) → inOrder done (x ∷ xs) ≡ true → (done < x .from) × (x .from ≤ x .to) × (inOrder (x .to) xs ≡ true)
+  ordered : (done : ℕ) (x : FieldRule) (xs : List FieldRule) → inOrder done (x ∷ xs) ≡ true → (done < x .from) × (x .from ≤ x .to) × (inOrder (x .to) xs ≡ true)
   unfolding inOrder
   ordered done x xs o =
       let p = and-true (ltb done (x .from)) (leb (x .from) (x .to) && inOrder (x .to) xs) o in
@@ -95,7 +95,7 @@ module _ (line : List ℕ) where
       (ltb-true done (x .from) (p .0), leb-true (x .from) (x .to) (q .0), q .1)
 
   -- a field that breaks the form starts past what is done
-  fields-past : {rows : List Row} {c : ℕ} → (done : ℕ) → inOrder done rows ≡ true → FieldBreaks line rows c → done < c
+  fields-past : {rows : List FieldRule} {c : ℕ} → (done : ℕ) → inOrder done rows ≡ true → FieldBreaks line rows c → done < c
   fields-past done o (here {x} {xs} e) = ordered done x xs o .0
   fields-past done o (there {x} {xs} {c} b) =
       let p = ordered done x xs o in
@@ -103,7 +103,7 @@ module _ (line : List ℕ) where
       omega (arith, p .0, p .1, r)
 
   -- an unnamed column that is left of every row is named by none
-  left-of-all : (c done : ℕ) (rows : List Row) → inOrder done rows ≡ true → c ≤ done → All (λ (x : Row). (c < x .from) ⊎ (x .to < c)) rows
+  left-of-all : (c done : ℕ) (rows : List FieldRule) → inOrder done rows ≡ true → c ≤ done → All (λ (x : FieldRule). (c < x .from) ⊎ (x .to < c)) rows
   left-of-all c done [] o h = nil
   left-of-all c done (x ∷ xs) o h =
       let p = ordered done x xs o in
@@ -111,23 +111,23 @@ module _ (line : List ℕ) where
       cons (inl l) (left-of-all c (x .to) xs (p .2) (omega (arith, p .0, p .1)))
 
   -- a field that breaks the form starts at the first row or past it
-  fields-from : {d : ℕ} (done : ℕ) (x : Row) (xs : List Row) → inOrder done (x ∷ xs) ≡ true → FieldBreaks line (x ∷ xs) d → x .from ≤ d
+  fields-from : {d : ℕ} (done : ℕ) (x : FieldRule) (xs : List FieldRule) → inOrder done (x ∷ xs) ≡ true → FieldBreaks line (x ∷ xs) d → x .from ≤ d
   fields-from done x xs o (here e) = omega arith
   fields-from done x xs o (there b) = let p = ordered done x xs o in omega (arith, p .1, fields-past (x .to) (p .2) b)
 
   -- a stray column stands at the first that is not blank or past it
-  strays-from : {rows : List Row} (done e c d : ℕ) → Gap line done e (Broken c) → Stray line done rows d → c ≤ d
+  strays-from : {rows : List FieldRule} (done e c d : ℕ) → Gap line done e (Broken c) → Stray line done rows d → c ≤ d
   strays-from done e c d g s = by-ltb (λ t. c ≤ d) d c (λ h. clash (sym (s .filled) ∙ g .3 d (s .past) h)) (λ h. h)
 
   -- ---- one row, after the columns up to `done`
 
-  module _ (done : ℕ) (x : Row) (xs : List Row) (o : inOrder done (x ∷ xs) ≡ true) where
+  module _ (done : ℕ) (x : FieldRule) (xs : List FieldRule) (o : inOrder done (x ∷ xs) ≡ true) where
     -- where the columns left of it are blank, what breaks the form starts with the row or past it
     from-row : (d : ℕ) → Gap line done (x .from - 1) Fits → Breaks line done (x ∷ xs) d → x .from ≤ d
     from-row d g (field b) = fields-from done x xs o b
     from-row d g (stray s) = go (s .unnamed)
       where
-        go : All (λ (y : Row). (d < y .from) ⊎ (y .to < d)) (x ∷ xs) → x .from ≤ d
+        go : All (λ (y : FieldRule). (d < y .from) ⊎ (y .to < d)) (x ∷ xs) → x .from ≤ d
         go (cons (inl l) us) = clash (sym (s .filled) ∙ g d (s .past) (omega arith))
         go (cons (inr l) us) = let p = ordered done x xs o in omega (arith, p .1)
 
@@ -137,7 +137,7 @@ module _ (line : List ℕ) where
     past-row d g t (field (there b)) = field b
     past-row d g t (stray s) = go (s .unnamed)
       where
-        go : All (λ (y : Row). (d < y .from) ⊎ (y .to < d)) (x ∷ xs) → Breaks line (x .to) xs d
+        go : All (λ (y : FieldRule). (d < y .from) ⊎ (y .to < d)) (x ∷ xs) → Breaks line (x .to) xs d
         go (cons (inl l) us) = clash (sym (s .filled) ∙ g d (s .past) (omega arith))
         go (cons (inr l) us) = stray (record { past = l; unnamed = us; filled = s .filled })
 
@@ -170,7 +170,7 @@ module _ (line : List ℕ) where
     unfolding rowForm
     row f h = go (unnamed done (x .from - 1) line) (x .rule line (C.columns (x .from) (x .to) line)) refl (gap line done (x .from - 1))
       where
-        go : (u : Form) (t : Bool) → x .rule line (C.columns (x .from) (x .to) line) ≡ t → Gap line done (x .from - 1) u → Leftmost line done (x ∷ xs) (before (before u (named (x .from) t)) f)
+        go : (u : Form) (t : Bool) → x .rule line (C.columns (x .from) (x .to) line) ≡ t → Gap line done (x .from - 1) u → Leftmost line done (x ∷ xs) (before (before u (brokenUnless (x .from) t)) f)
         go (Broken c) t e g = before-row c g
         go Fits true e g = after-row f g e h
         go Fits false e g = at-row g e
@@ -193,7 +193,7 @@ module _ (line : List ℕ) where
       go Fits g = λ d b. none d g b
       go (Broken c) g = (stray (record { past = g .0; unnamed = nil; filled = g .2 }), λ d b. least c d g b)
 
-  form-leftmost : (done : ℕ) (rows : List Row) → inOrder done rows ≡ true → Leftmost line done rows (formFrom done rows line)
+  form-leftmost : (done : ℕ) (rows : List FieldRule) → inOrder done rows ≡ true → Leftmost line done rows (formFrom done rows line)
   unfolding formFrom
   form-leftmost done [] o = last-columns done
   form-leftmost done (x ∷ xs) o = row done x xs o (formFrom (x .to) xs line) (form-leftmost (x .to) xs (ordered done x xs o .2))

@@ -12,7 +12,7 @@ use Rattle.base.specs.Lists.{every}
 use Rattle.base.proofs.Laws.{tests}
 use Rattle.columns.specs.Columns as C
 use Rattle.columns.specs.Columns.{padTo, isOf, isBlank}
-use Rattle.columns.specs.declared.Class.the-variants.{Digit, Byte}
+use Rattle.columns.specs.declared.ByteClass.the-variants.{Digit, Byte}
 use Rattle.columns.proofs.Laws.{pad-pad}
 use Rattle.fields.specs.Fields as F
 use Rattle.fields.specs.declared.Time.{Time}
@@ -21,7 +21,7 @@ use Rattle.fields.specs.declared.Detail.{Detail}
 use Rattle.forms.specs.declared.Kind.{Kind}
 use Rattle.forms.specs.declared.Kind.the-variants.{Schedule, Other}
 use Rattle.forms.specs.Kinds.{starred, kindOf}
-use Rattle.forms.specs.Form.{date, isTime, time, isEnd, rangeEnd, isStop, isDetail, detailOf, offsetOf, fromOne, orBlank, letterTo, transportFlag}
+use Rattle.forms.specs.Form.{aDate, isTime, aTime, isEnd, aRangeEnd, isStop, isDetail, detailOf, offsetOf, fromOne, orBlank, letterTo, transportFlag}
 
 -- ---- one field
 
@@ -63,7 +63,7 @@ module _ (q line : List ℕ) (a b : ℕ) (e : q ≡ take (b - (a - 1)) (drop (a 
   pub first-byte : (x : ℕ) → x ≡ getD q 0 32 → x ≡ getD (C.columns a b line) 0 32
   first-byte x d = d ∙ same-place 0
 
-  pub date-part : (r : Bool) → r ≡ date q q → r ≡ date line (C.columns a b line)
+  pub date-part : (r : Bool) → r ≡ aDate q q → r ≡ aDate line (C.columns a b line)
   date-part r d = rw (d, same-columns 1 2, same-place 2, same-columns 4 5, same-place 5, same-columns 7 10)
 
 pub first-filled : (p : List ℕ) (x : ℕ) → x ≡ getD p 0 32 → not (eqb x 32) ≡ not (isBlank (getD p 0 32))
@@ -84,31 +84,31 @@ module _ (p : List ℕ) (t : Bool) (et : t ≡ every (isOf Digit) (C.columns 1 2
   day : C.digits (C.columns 1 2 p) ≡ t
   day = sym et
 
-  pub date-day : t ≡ false → false ≡ date p p
+  pub date-day : t ≡ false → false ≡ aDate p p
   date-day h = rw (day, h)
 
   module _ (x : ℕ) (h : t ≡ true) (ex : x ≡ C.column 3 p) where
-    pub date-dot : (x ≡ 46 → ⊥) → false ≡ date p p
+    pub date-dot : (x ≡ 46 → ⊥) → false ≡ aDate p p
     date-dot k = rw (day, h, sym ex, ne-eqb x 46 k)
 
     module _ (u : Bool) (k : x ≡ 46) (eu : u ≡ every (isOf Digit) (C.columns 4 5 p)) where
       month : C.digits (C.columns 4 5 p) ≡ u
       month = sym eu
 
-      pub date-month : u ≡ false → false ≡ date p p
+      pub date-month : u ≡ false → false ≡ aDate p p
       date-month g = rw (day, h, sym ex, k, month, g)
 
       module _ (z : ℕ) (g : u ≡ true) (ez : z ≡ C.column 6 p) where
-        pub date-second-dot : (z ≡ 46 → ⊥) → false ≡ date p p
+        pub date-second-dot : (z ≡ 46 → ⊥) → false ≡ aDate p p
         date-second-dot l = rw (day, h, sym ex, k, month, g, sym ez, ne-eqb z 46 l)
 
-        pub date-year : (r : Bool) → z ≡ 46 → r ≡ every (isOf Digit) (C.columns 7 10 p) → r ≡ date p p
+        pub date-year : (r : Bool) → z ≡ 46 → r ≡ every (isOf Digit) (C.columns 7 10 p) → r ≡ aDate p p
         date-year r l d = d ∙ sym (rw (day, h, sym ex, k, month, g, sym ez, l))
 
-pub time-rule : (line p : List ℕ) (t : Time) (r : Bool) → t ≡ F.time p → r ≡ isTime t → r ≡ time line p
+pub time-rule : (line p : List ℕ) (t : Time) (r : Bool) → t ≡ F.time p → r ≡ isTime t → r ≡ aTime line p
 time-rule line p t r e d = rw (d, e)
 
-pub end-rule : (line p : List ℕ) (x : RangeEnd) (r : Bool) → x ≡ F.rangeEnd p → r ≡ isEnd x → r ≡ rangeEnd line p
+pub end-rule : (line p : List ℕ) (x : RangeEnd) (r : Bool) → x ≡ F.rangeEnd p → r ≡ isEnd x → r ≡ aRangeEnd line p
 end-rule line p x r e d = rw (d, e)
 
 -- ---- two fields

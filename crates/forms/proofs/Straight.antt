@@ -10,11 +10,11 @@ use lib.Dec.{eqb}
 use Rattle.base.proofs.Laws.{tests, clash}
 use Rattle.base.specs.Lists.{every}
 use Rattle.columns.specs.Columns.{padTo, columns, column, isBlank, isHex, blank, digits, countTo, isOf}
-use Rattle.columns.specs.declared.Class.the-variants.{Byte}
-use Rattle.forms.specs.Form.{mostFileBytes, Row, fits, formOf, isFit, before, named, strayFrom, unnamed, rowForm, formFrom}
+use Rattle.columns.specs.declared.ByteClass.the-variants.{Byte}
+use Rattle.forms.specs.Form.{mostFileBytes, FieldRule, hasForm, formOf, isFit, before, brokenUnless, strayFrom, unnamed, rowForm, formFrom}
 use Rattle.forms.specs.Form as Fm
 use Rattle.forms.specs.Columns.{bitFieldColumns, stopColumns, interchangeColumns, columnsOf}
-use Rattle.forms.specs.Usual.{bitFieldFits, stopFits, interchangeFits}
+use Rattle.forms.specs.Inner.Usual.{bitFieldFits, stopFits, interchangeFits}
 use Rattle.forms.specs.declared.LineKind.{LineKind}
 use Rattle.forms.specs.declared.Form.{Form}
 use Rattle.forms.specs.declared.Form.the-variants.{Fits, Broken as BrokenForm}
@@ -39,7 +39,7 @@ fit-before : (f g : Form) → isFit (before f g) ≡ (isFit f && isFit g)
 fit-before Fits g = refl
 fit-before (BrokenForm c) g = refl
 
-fit-named : (a : ℕ) (t : Bool) → isFit (named a t) ≡ t
+fit-named : (a : ℕ) (t : Bool) → isFit (brokenUnless a t) ≡ t
 fit-named a true = refl
 fit-named a false = refl
 
@@ -65,7 +65,7 @@ no-gap : (c e : ℕ) (l : List ℕ) → e - c ≡ 0 → isFit (unnamed c e l) �
 unfolding unnamed strayFrom
 no-gap c e l h = rw h
 
-pub row-fit : (c : ℕ) (x : Row) (xs : List Row) (l : List ℕ) → isFit (formFrom c (x ∷ xs) l) ≡ (isFit (unnamed c (x .from - 1) l) && (x .rule l (columns (x .from) (x .to) l) && isFit (formFrom (x .to) xs l)))
+pub row-fit : (c : ℕ) (x : FieldRule) (xs : List FieldRule) (l : List ℕ) → isFit (formFrom c (x ∷ xs) l) ≡ (isFit (unnamed c (x .from - 1) l) && (x .rule l (columns (x .from) (x .to) l) && isFit (formFrom (x .to) xs l)))
 unfolding formFrom rowForm
 row-fit c x xs l = rw (fit-before, fit-before, fit-named) (assoc (isFit (unnamed c (x .from - 1) l)) (x .rule l (columns (x .from) (x .to) l)) (isFit (formFrom (x .to) xs l)))
   where
@@ -77,7 +77,7 @@ pub end-fit : (c : ℕ) (l : List ℕ) → length l ≤ c → isFit (formFrom c 
 unfolding formFrom
 end-fit c l h = no-gap c (length l) l (omega arith)
 
-module _ (c : ℕ) (x : Row) (xs : List Row) (l : List ℕ) where
+module _ (c : ℕ) (x : FieldRule) (xs : List FieldRule) (l : List ℕ) where
   abbrev pub asked : Bool
   asked = x .rule l (columns (x .from) (x .to) l)
 
@@ -116,35 +116,35 @@ wide-gap : (c e : ℕ) (l : List ℕ) → isFit (unnamed c e l) ≡ blank (padTo
 unfolding unnamed
 wide-gap c e l = stray-blank (c + 1) (e - c) (drop c l)
 
-pub step-wide : (c : ℕ) (x : Row) (xs : List Row) (l : List ℕ) (y : Bool) → isFit (formFrom (x .to) xs l) ≡ y
+pub step-wide : (c : ℕ) (x : FieldRule) (xs : List FieldRule) (l : List ℕ) (y : Bool) → isFit (formFrom (x .to) xs l) ≡ y
     → isFit (formFrom c (x ∷ xs) l) ≡ (blank (padTo (x .from - 1 - c) (drop c l)) && (x .rule l (columns (x .from) (x .to) l) && y))
 step-wide c x xs l y e = rw (row-fit, wide-gap c (x .from - 1) l, e)
 
 -- ---- usual lines
 
-bit-field-same : (l : List ℕ) → length l ≤ 103 → fits bitFieldColumns l ≡ bitFieldFits l
+bit-field-same : (l : List ℕ) → length l ≤ 103 → hasForm bitFieldColumns l ≡ bitFieldFits l
 unfolding bitFieldFits
 bit-field-same l h =
-    step-next 0 (Fm.columns 1 6 Fm.digits) (Fm.columns 8 103 Fm.hexDigits ∷ []) l _ refl
-    (step-gap 6 (Fm.columns 8 103 Fm.hexDigits) [] l true refl (end-fit 103 l h)
+    step-next 0 (Fm.fieldRule 1 6 Fm.digitsOnly) (Fm.fieldRule 8 103 Fm.hexDigits ∷ []) l _ refl
+    (step-gap 6 (Fm.fieldRule 8 103 Fm.hexDigits) [] l true refl (end-fit 103 l h)
     ∙ ap (λ (b : Bool). isBlank (column 7 l) && b) (and-one _))
 
-stop-same : (l : List ℕ) → length l ≤ mostFileBytes → fits stopColumns l ≡ stopFits l
+stop-same : (l : List ℕ) → length l ≤ mostFileBytes → hasForm stopColumns l ≡ stopFits l
 unfolding stopFits
 stop-same l h =
-    step-next 0 (Fm.columns 1 7 Fm.digits) (Fm.columns 9 11 Fm.free ∷ Fm.columns 13 62 Fm.notAllBlank ∷ Fm.fromColumn 63 Fm.free ∷ []) l _ refl
-    (step-gap 7 (Fm.columns 9 11 Fm.free) (Fm.columns 13 62 Fm.notAllBlank ∷ Fm.fromColumn 63 Fm.free ∷ []) l _ refl
-    (step-gap 11 (Fm.columns 13 62 Fm.notAllBlank) (Fm.fromColumn 63 Fm.free ∷ []) l true refl
-    (step-next 62 (Fm.fromColumn 63 Fm.free) [] l true refl (end-fit mostFileBytes l h))
+    step-next 0 (Fm.fieldRule 1 7 Fm.digitsOnly) (Fm.fieldRule 9 11 Fm.free ∷ Fm.fieldRule 13 62 Fm.notAllBlank ∷ Fm.restRule 63 Fm.free ∷ []) l _ refl
+    (step-gap 7 (Fm.fieldRule 9 11 Fm.free) (Fm.fieldRule 13 62 Fm.notAllBlank ∷ Fm.restRule 63 Fm.free ∷ []) l _ refl
+    (step-gap 11 (Fm.fieldRule 13 62 Fm.notAllBlank) (Fm.restRule 63 Fm.free ∷ []) l true refl
+    (step-next 62 (Fm.restRule 63 Fm.free) [] l true refl (end-fit mostFileBytes l h))
     ∙ ap (λ (b : Bool). isBlank (column 12 l) && b) (and-one _)))
 
-interchange-same : (l : List ℕ) → length l ≤ mostFileBytes → fits interchangeColumns l ≡ interchangeFits l
+interchange-same : (l : List ℕ) → length l ≤ mostFileBytes → hasForm interchangeColumns l ≡ interchangeFits l
 unfolding interchangeFits
 interchange-same l h =
-    step-next 0 (Fm.columns 1 7 Fm.digits) (Fm.columns 9 10 (Fm.count 60) ∷ Fm.columns 12 13 (Fm.count 99) ∷ Fm.fromColumn 15 Fm.free ∷ []) l _ refl
-    (step-gap 7 (Fm.columns 9 10 (Fm.count 60)) (Fm.columns 12 13 (Fm.count 99) ∷ Fm.fromColumn 15 Fm.free ∷ []) l _ refl
-    (step-gap 10 (Fm.columns 12 13 (Fm.count 99)) (Fm.fromColumn 15 Fm.free ∷ []) l _ refl
-    (step-gap 13 (Fm.fromColumn 15 Fm.free) [] l true refl (end-fit mostFileBytes l h) ∙ and-one _)))
+    step-next 0 (Fm.fieldRule 1 7 Fm.digitsOnly) (Fm.fieldRule 9 10 (Fm.aCount 60) ∷ Fm.fieldRule 12 13 (Fm.aCount 99) ∷ Fm.restRule 15 Fm.free ∷ []) l _ refl
+    (step-gap 7 (Fm.fieldRule 9 10 (Fm.aCount 60)) (Fm.fieldRule 12 13 (Fm.aCount 99) ∷ Fm.restRule 15 Fm.free ∷ []) l _ refl
+    (step-gap 10 (Fm.fieldRule 12 13 (Fm.aCount 99)) (Fm.restRule 15 Fm.free ∷ []) l _ refl
+    (step-gap 13 (Fm.restRule 15 Fm.free) [] l true refl (end-fit mostFileBytes l h) ∙ and-one _)))
 
 -- ---- for `search usual`: t is what the columns said, u what is answered
 

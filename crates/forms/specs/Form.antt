@@ -26,8 +26,8 @@ Rule = List ℕ → List ℕ → Bool
 abbrev pub free : Rule
 free line p = true
 
-abbrev pub digits : Rule
-digits line p = C.digits p
+abbrev pub digitsOnly : Rule
+digitsOnly line p = C.digits p
 
 abbrev pub hexDigits : Rule
 hexDigits line p = every C.isHex p
@@ -50,12 +50,12 @@ abbrev pub firstNotBlank : Rule
 firstNotBlank line p = not (C.isBlank (getD p 0 32))
 
 -- "count to 60"
-abbrev pub count : ℕ → Rule
-count m line p = C.countTo m p
+abbrev pub aCount : ℕ → Rule
+aCount m line p = C.countTo m p
 
 -- DD.MM.YYYY ("." is byte 46)
-abbrev pub date : Rule
-date line p =
+abbrev pub aDate : Rule
+aDate line p =
     C.digits (fieldIn dateDay p) && eqb (C.column 3 p) 46 && C.digits (fieldIn dateMonth p) && eqb (C.column 6 p) 46 && C.digits (fieldIn dateYear p)
 
 abbrev pub isTime : Time → Bool
@@ -63,8 +63,8 @@ isTime Absent = true
 isTime (Stated minutes barred) = true
 isTime NoTime = false
 
-abbrev pub time : Rule
-time line p = isTime (F.time p)
+abbrev pub aTime : Rule
+aTime line p = isTime (F.time p)
 
 abbrev pub isEnd : RangeEnd → Bool
 isEnd Outer = true
@@ -72,8 +72,8 @@ isEnd (Index i) = true
 isEnd (Stop n) = true
 isEnd NoEnd = false
 
-abbrev pub rangeEnd : Rule
-rangeEnd line p = isEnd (F.rangeEnd p)
+abbrev pub aRangeEnd : Rule
+aRangeEnd line p = isEnd (F.rangeEnd p)
 
 abbrev pub isStop : RangeEnd → Bool
 isStop Outer = false
@@ -113,29 +113,29 @@ transportFlag line p = eqb (getD p 0 32) 78 || (eqb (getD p 0 32) 66 || eqb (get
 -- ---- the form that a list of rules says
 
 -- columns `from` to `to`, and what is asked of them
-pub record Row : Type 0 where
+pub record FieldRule : Type 0 where
   pub from : ℕ
   pub to : ℕ
   pub rule : Rule
 
-abbrev pub columns : ℕ → ℕ → Rule → Row
-columns a b r = record { from = a; to = b; rule = r }
+abbrev pub fieldRule : ℕ → ℕ → Rule → FieldRule
+fieldRule a b r = record { from = a; to = b; rule = r }
 
-abbrev pub column : ℕ → Rule → Row
-column a r = columns a a r
+abbrev pub columnRule : ℕ → Rule → FieldRule
+columnRule a r = fieldRule a a r
 
 infix 70 _is_
 -- a field, and what is asked of it
-abbrev pub _is_ : Field → Rule → Row
-f is r = columns (f .from) (f .to) r
+abbrev pub _is_ : Field → Rule → FieldRule
+f is r = fieldRule (f .from) (f .to) r
 
 -- "1 file over 16,777,216 bytes"
 abbrev pub mostFileBytes : ℕ
 mostFileBytes = 16777216
 
 -- "from 63 free": to the line's end, since no file is longer
-abbrev pub fromColumn : ℕ → Rule → Row
-fromColumn a r = columns a mostFileBytes r
+abbrev pub restRule : ℕ → Rule → FieldRule
+restRule a r = fieldRule a mostFileBytes r
 
 -- the first of two that is broken
 abbrev pub before : Form → Form → Form
@@ -152,20 +152,20 @@ strayFrom c (suc w) (b ∷ l) = cond (C.isBlank b) (strayFrom (c + 1) w l) (Brok
 unfoldable pub unnamed : ℕ → ℕ → List ℕ → Form
 unnamed c e line = strayFrom (c + 1) (e - c) (drop c line)
 
-abbrev pub named : ℕ → Bool → Form
-named a true = Fits
-named a false = Broken a
+abbrev pub brokenUnless : ℕ → Bool → Form
+brokenUnless a true = Fits
+brokenUnless a false = Broken a
 
 -- one row, where the columns up to c are done
-unfoldable pub rowForm : ℕ → Row → List ℕ → Form
-rowForm c x line = before (unnamed c (x .from - 1) line) (named (x .from) (x .rule line (C.columns (x .from) (x .to) line)))
+unfoldable pub rowForm : ℕ → FieldRule → List ℕ → Form
+rowForm c x line = before (unnamed c (x .from - 1) line) (brokenUnless (x .from) (x .rule line (C.columns (x .from) (x .to) line)))
 
-unfoldable pub formFrom : ℕ → List Row → List ℕ → Form
+unfoldable pub formFrom : ℕ → List FieldRule → List ℕ → Form
 formFrom c [] line = unnamed c (length line) line
 formFrom c (x ∷ xs) line = before (rowForm c x line) (formFrom (x .to) xs line)
 
 -- whether a line has the form, or the column where the leftmost field or unnamed column that breaks it starts (01 asks only whether)
-abbrev pub formOf : List Row → List ℕ → Form
+abbrev pub formOf : List FieldRule → List ℕ → Form
 formOf rows line = formFrom 0 rows line
 
 abbrev pub isFit : Form → Bool
@@ -173,5 +173,5 @@ isFit Fits = true
 isFit (Broken c) = false
 
 -- whether a line has the form
-abbrev pub fits : List Row → List ℕ → Bool
-fits rows line = isFit (formOf rows line)
+abbrev pub hasForm : List FieldRule → List ℕ → Bool
+hasForm rows line = isFit (formOf rows line)

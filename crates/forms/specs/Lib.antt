@@ -1,6 +1,5 @@
 pub mod Form
 pub mod Columns
-pub mod Rows
+pub mod Inner
 pub mod Kinds
 pub mod Leftmost
-pub mod Usual

@@ -1,6 +1,6 @@
 // The kinds of lines and their forms. A form is data: a table of rows (columns from, to, and what is asked of them) in the paper's
 // order, read by one loop. Columns that no row names are blank.
-use columns::Class;
+use columns::ByteClass;
 use columns::line_fields::attribute;
 use columns::line_fields::bit_field;
 use columns::line_fields::call;
@@ -23,11 +23,11 @@ ghost use lib.Dec.{eqb};
 ghost use Rattle.base.specs.Lists.{every};
 ghost use Rattle.columns.specs.Columns as C;
 ghost use Rattle.columns.specs.Columns.{isOf, isBlank, blank};
-ghost use Rattle.forms.specs.Form.{date, isTime, isEnd, isStop, isDetail, detailOf, offsetOf, fromOne, orBlank, letterTo, transportFlag, unnamed, rowForm, formOf};
-ghost use Rattle.forms.specs.Rows.{ruleOf, toOf, rowOf, rowsOf};
+ghost use Rattle.forms.specs.Form.{aDate, isTime, isEnd, isStop, isDetail, detailOf, offsetOf, fromOne, orBlank, letterTo, transportFlag, unnamed, rowForm, formOf};
+ghost use Rattle.forms.specs.Inner.Rows.{ruleOf, toOf, rowOf, rowsOf};
 ghost use Rattle.forms.specs.Columns.{bitFieldColumns, stopColumns, interchangeColumns, columnsOf};
 ghost use Rattle.forms.specs.declared.Form.the-variants.{Fits};
-ghost use Rattle.forms.specs.Usual.{bitFieldFits, stopFits, interchangeFits};
+ghost use Rattle.forms.specs.Inner.Usual.{bitFieldFits, stopFits, interchangeFits};
 ghost use Rattle.forms.specs.Kinds.{starred, kindOf};
 
 // Which kind a line of FPLAN is.
@@ -317,9 +317,14 @@ fn usual_bit_field(line: &[u8]) -> bool
 fn bit_field_fits(line: &[u8]) -> bool
     ensures { λ r. ⌜ r ≡ bitFieldFits (now (line .entry)) ⌝ }
 {
-    if columns::every_in(line, bit_field::NUMBER, bit_field::NUMBER_END, Class::Digit) {
+    if columns::every_in(
+        line,
+        bit_field::NUMBER,
+        bit_field::NUMBER_END,
+        ByteClass::Digit,
+    ) {
         if blank_at(line, 7) {
-            return columns::all_in(line, bit_field::BITS, bit_field::BITS_END, Class::Hex);
+            return columns::all_in(line, bit_field::BITS, bit_field::BITS_END, ByteClass::Hex);
         }
     }
     false
@@ -340,7 +345,7 @@ fn usual_stop(line: &[u8]) -> bool
 fn stop_fits(line: &[u8]) -> bool
     ensures { λ r. ⌜ r ≡ stopFits (now (line .entry)) ⌝ }
 {
-    if columns::every_in(line, stop::NUMBER, stop::NUMBER_END, Class::Digit) {
+    if columns::every_in(line, stop::NUMBER, stop::NUMBER_END, ByteClass::Digit) {
         if blank_at(line, 8) {
             if blank_at(line, 12) {
                 return is_filled(line, stop::NAMES, stop::NAMES_END);
@@ -365,7 +370,12 @@ fn usual_interchange(line: &[u8]) -> bool
 fn interchange_fits(line: &[u8]) -> bool
     ensures { λ r. ⌜ r ≡ interchangeFits (now (line .entry)) ⌝ }
 {
-    if columns::every_in(line, interchange::STOP, interchange::STOP_END, Class::Digit) {
+    if columns::every_in(
+        line,
+        interchange::STOP,
+        interchange::STOP_END,
+        ByteClass::Digit,
+    ) {
         if blank_at(line, 8) {
             if columns::count_in(line, interchange::FIRST, interchange::FIRST_END, 60) {
                 if blank_at(line, 11) {
@@ -389,7 +399,7 @@ fn blank_at(line: &[u8], c: usize) -> bool
 fn is_filled(line: &[u8], a: usize, b: usize) -> bool
     ensures { λ r. ⌜ r ≡ not (blank (C.columns a b (now (line .entry)))) ⌝ }
 {
-    !columns::every_in(line, a, b, Class::Byte(b' '))
+    !columns::every_in(line, a, b, ByteClass::Byte(b' '))
 }
 
 // ---- the form that a table says, row by row
@@ -479,33 +489,33 @@ fn fits_rule(line: &[u8], a: usize, b: usize, k: u64, m: u32) -> bool
 {
     match k {
         FREE => true,
-        DIGITS => columns::every_in(line, a, b, Class::Digit),
-        DIGITS_OR_BLANK => blank_or(line, a, b, Class::Digit),
-        HEX_DIGITS => columns::all_in(line, a, b, Class::Hex),
-        NOT_ALL_BLANK => !columns::every_in(line, a, b, Class::Byte(b' ')),
+        DIGITS => columns::every_in(line, a, b, ByteClass::Digit),
+        DIGITS_OR_BLANK => blank_or(line, a, b, ByteClass::Digit),
+        HEX_DIGITS => columns::all_in(line, a, b, ByteClass::Hex),
+        NOT_ALL_BLANK => !columns::every_in(line, a, b, ByteClass::Byte(b' ')),
         FIRST_NOT_BLANK => first_filled(line, a, b),
-        NON_BLANK => columns::every_in(line, a, b, Class::Filled),
-        NON_BLANK_OR_BLANK => blank_or(line, a, b, Class::Filled),
+        NON_BLANK => columns::every_in(line, a, b, ByteClass::Filled),
+        NON_BLANK_OR_BLANK => blank_or(line, a, b, ByteClass::Filled),
         COUNT => columns::count_in(line, a, b, m),
         DATE => fits_date(line, a, b),
         TIME => is_time(fields::time_in(line, a, b)),
         RANGE_END => is_end(fields::range_end_in(line, a, b)),
         DETAIL_OF => fits_detail(line, a, b, m),
         OFFSET_OF => fits_offset(line, a, b, m),
-        BYTE_OR_BLANK => blank_or(line, a, b, Class::Byte(m as u8)),
+        BYTE_OR_BLANK => blank_or(line, a, b, ByteClass::Byte(m as u8)),
         DIGITS_FROM_ONE => fits_from_one(line, a, b),
         LETTER_OR_BLANK => letter_or_blank(line, a, b, m),
         FLAG_OR_BLANK => flag_or_blank(line, a, b),
         // BYTE
-        _ => columns::every_in(line, a, b, Class::Byte(m as u8)),
+        _ => columns::every_in(line, a, b, ByteClass::Byte(m as u8)),
     }
 }
 
 // Whether columns a to b are blank, or every one is of the class.
-fn blank_or(line: &[u8], a: usize, b: usize, class: Class) -> bool
+fn blank_or(line: &[u8], a: usize, b: usize, class: ByteClass) -> bool
     ensures { λ r. ⌜ r ≡ (blank (C.columns a b (now (line .entry))) || every (isOf class) (C.columns a b (now (line .entry)))) ⌝ }
 {
-    if columns::every_in(line, a, b, Class::Byte(b' ')) {
+    if columns::every_in(line, a, b, ByteClass::Byte(b' ')) {
         return true;
     }
     columns::every_in(line, a, b, class)
@@ -529,7 +539,7 @@ fn first_byte(line: &[u8], a: usize, b: usize) -> u8
 fn letter_or_blank(line: &[u8], a: usize, b: usize, m: u32) -> bool
     ensures { λ r. ⌜ r ≡ orBlank (letterTo m) (now (line .entry)) (C.columns a b (now (line .entry))) ⌝ }
 {
-    if columns::every_in(line, a, b, Class::Byte(b' ')) {
+    if columns::every_in(line, a, b, ByteClass::Byte(b' ')) {
         return true;
     }
     let x = first_byte(line, a, b);
@@ -543,7 +553,7 @@ fn letter_or_blank(line: &[u8], a: usize, b: usize, m: u32) -> bool
 fn flag_or_blank(line: &[u8], a: usize, b: usize) -> bool
     ensures { λ r. ⌜ r ≡ orBlank transportFlag (now (line .entry)) (C.columns a b (now (line .entry))) ⌝ }
 {
-    if columns::every_in(line, a, b, Class::Byte(b' ')) {
+    if columns::every_in(line, a, b, ByteClass::Byte(b' ')) {
         return true;
     }
     is_flag(first_byte(line, a, b))
@@ -562,20 +572,20 @@ fn is_flag(x: u8) -> bool
 }
 
 fn fits_date(line: &[u8], a: usize, b: usize) -> bool
-    ensures { λ r. ⌜ r ≡ date (now (line .entry)) (C.columns a b (now (line .entry))) ⌝ }
+    ensures { λ r. ⌜ r ≡ aDate (now (line .entry)) (C.columns a b (now (line .entry))) ⌝ }
 {
     is_date(columns::part(line, a, b))
 }
 
 // DD.MM.YYYY
 fn is_date(p: &[u8]) -> bool
-    ensures { λ r. ⌜ r ≡ date (now (p .entry)) (now (p .entry)) ⌝ }
+    ensures { λ r. ⌜ r ≡ aDate (now (p .entry)) (now (p .entry)) ⌝ }
 {
-    if columns::every_in(p, date::DAY, date::DAY_END, Class::Digit) {
+    if columns::every_in(p, date::DAY, date::DAY_END, ByteClass::Digit) {
         if columns::column_at(p, 3) == b'.' {
-            if columns::every_in(p, date::MONTH, date::MONTH_END, Class::Digit) {
+            if columns::every_in(p, date::MONTH, date::MONTH_END, ByteClass::Digit) {
                 if columns::column_at(p, 6) == b'.' {
-                    return columns::every_in(p, date::YEAR, date::YEAR_END, Class::Digit);
+                    return columns::every_in(p, date::YEAR, date::YEAR_END, ByteClass::Digit);
                 }
             }
         }
@@ -601,14 +611,14 @@ pub fn fits_offset(line: &[u8], a: usize, b: usize, c: u32) -> bool
 {
     let from = c as usize;
     let to = (c + 2) as usize;
-    if columns::every_in(line, from, to, Class::Byte(b' ')) {
-        return columns::every_in(line, a, b, Class::Byte(b' '));
+    if columns::every_in(line, from, to, ByteClass::Byte(b' ')) {
+        return columns::every_in(line, a, b, ByteClass::Byte(b' '));
     }
-    if columns::every_in(line, a, b, Class::Digit) {
-        if columns::every_in(line, from, to, Class::Byte(b'0')) {
+    if columns::every_in(line, a, b, ByteClass::Digit) {
+        if columns::every_in(line, from, to, ByteClass::Byte(b'0')) {
             return true;
         }
-        return !columns::every_in(line, a, b, Class::Byte(b'0'));
+        return !columns::every_in(line, a, b, ByteClass::Byte(b'0'));
     }
     false
 }
@@ -617,8 +627,8 @@ pub fn fits_offset(line: &[u8], a: usize, b: usize, c: u32) -> bool
 fn fits_from_one(line: &[u8], a: usize, b: usize) -> bool
     ensures { λ r. ⌜ r ≡ fromOne (now (line .entry)) (C.columns a b (now (line .entry))) ⌝ }
 {
-    if columns::every_in(line, a, b, Class::Digit) {
-        return !columns::every_in(line, a, b, Class::Byte(b'0'));
+    if columns::every_in(line, a, b, ByteClass::Digit) {
+        return !columns::every_in(line, a, b, ByteClass::Byte(b'0'));
     }
     false
 }

@@ -12,7 +12,7 @@ use Rattle.chain_check.specs.Tally.{same}
 use Rattle.index.specs.Index.{indexSize, fieldSection, stopSection, interchangeSection, classSection, chainsOf, Fits}
 use Rattle.index.specs.declared.Section.{Section}
 use Rattle.index.proofs.Places.{end-scaled, end-fits, records-fit}
-use Rattle.index_check.specs.Parts.{chainsRight}
+use Rattle.index_check.specs.Inner.Parts.{chainsRight}
 
 -- ---- one section
 

@@ -23,7 +23,7 @@ use Rattle.whole_index.specs.Whole.{wholeIndexOf}
 use Rattle.whole_index.proofs.Whole.{lookups-long, whole-long}
 use Rattle.whole_index.proofs.Answers.{is-table, is-just}
 use Rattle.index_check.specs.Check.{checkedOf}
-use Rattle.index_check.specs.Parts.{chainsRight}
+use Rattle.index_check.specs.Inner.Parts.{chainsRight}
 use Rattle.index_check.specs.declared.IndexCheck.{IndexCheck}
 use Rattle.index_check.specs.declared.IndexCheck.the-variants.{Right, Refused}
 use Rattle.index_check.proofs.Sections.{room-fields, room-stops, room-interchanges, room-classes}

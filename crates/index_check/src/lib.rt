@@ -13,7 +13,7 @@ ghost use Rattle.chain_check.specs.Tally.{same};
 ghost use Rattle.index.specs.Index.{indexSize, placesOf, indexOf, Fits};
 ghost use Rattle.whole_index.specs.Whole.{wholeIndexOf};
 ghost use Rattle.index_check.specs.Check.{checkedOf};
-ghost use Rattle.index_check.specs.Parts.{chainsRight};
+ghost use Rattle.index_check.specs.Inner.Parts.{chainsRight};
 
 // That the words are the table's index; or 21 no table, 43 another's words.
 pub enum IndexCheck {

@@ -10,7 +10,7 @@ use Rattle.lines.specs.Lines.{Line, skipped}
 use Rattle.timetable.specs.Delivery.{BitField, Legs}
 use Rattle.timetable.specs.Files.{Held, skip, broken, held, listed, held-in, bitFieldOf, hasField}
 use Rattle.timetable.specs.Legs.{runsBy, fieldRuns}
-use Rattle.timetable.specs.Plan.{isOpening, opens, toldIn, tolds, asCall, asOpening, asRange, rangesOf, isPart, ofPart, partLines, saidOn}
+use Rattle.timetable.specs.Plan.{isOpening, opensService, toldIn, tolds, asCall, asOpening, asRange, rangesOf, isPart, ofPart, partLines, saidOn}
 use Rattle.timetable.specs.Service.{firstLine, openingOf, calledOn, callsOf, withLegs, legsOn, categoryRange, dayRange, extraRange, serviceOf}
 use Rattle.timetable.specs.declared.Call.{Call}
 use Rattle.timetable.specs.declared.Part.{Part}
@@ -91,8 +91,8 @@ module _ (σ : ℕ → ℕ) (g : Everywhere σ) where
   abbrev pub line-for : Line → Line
   line-for = onText (planLine σ)
 
-  pub opens-for : (l : Line) → opens (line-for l) ≡ opens l
-  unfolding opens
+  pub opens-for : (l : Line) → opensService (line-for l) ≡ opensService l
+  unfolding opensService
   opens-for l = ap isOpening (plan-kind σ (l .text))
 
   pub told-for : (l : Line) → toldIn (line-for l .text) ≡ toldFor σ (toldIn (l .text))

@@ -13,7 +13,7 @@ use Rattle.base.proofs.Lists.{gathered-append}
 use Rattle.base.proofs.Loops.{and-true}
 use Rattle.lines.specs.Lines.{Line, startWith, pieces, noCR, numbered, linesFrom, linesOf, skipped}
 use Rattle.timetable.specs.Delivery.{Service}
-use Rattle.timetable.specs.Plan.{toldIn, tolds, opens, asCall, asRange, rangesOf, saidOn}
+use Rattle.timetable.specs.Plan.{toldIn, tolds, opensService, asCall, asRange, rangesOf, saidOn}
 use Rattle.timetable.specs.Service.{headLines, blocks, openingOf, opened, announced, callBy, holding, calledOn, callsOf, serviceOf}
 use Rattle.timetable.specs.declared.Announced.{Announced}
 use Rattle.timetable.specs.declared.Call.{Call}
@@ -94,11 +94,11 @@ plain-append a b h = ap (map textOnly) (pieces-append a b h) ∙ map-append text
 -- ---- blocks of them
 
 -- lines changed, of which the same open a service
-module _ (g : Line → Line) (keeps : (l : Line) → opens (g l) ≡ opens l) where
+module _ (g : Line → Line) (keeps : (l : Line) → opensService (g l) ≡ opensService l) where
   pub head-map : (ls : List Line) → headLines (map g ls) ≡ map g (headLines ls)
   unfolding headLines
   head-map [] = refl
-  head-map (l ∷ ls) = rw (keeps l) (go (opens l) (head-map ls))
+  head-map (l ∷ ls) = rw (keeps l) (go (opensService l) (head-map ls))
     where
       go : (t : Bool) → headLines (map g ls) ≡ map g (headLines ls) → cond t [] (g l ∷ headLines (map g ls)) ≡ map g (cond t [] (l ∷ headLines ls))
       go true e = refl
@@ -107,15 +107,15 @@ module _ (g : Line → Line) (keeps : (l : Line) → opens (g l) ≡ opens l) wh
   pub blocks-map : (ls : List Line) → blocks (map g ls) ≡ map (map g) (blocks ls)
   unfolding blocks
   blocks-map [] = refl
-  blocks-map (l ∷ ls) = rw (keeps l) (go (opens l) (head-map ls) (blocks-map ls))
+  blocks-map (l ∷ ls) = rw (keeps l) (go (opensService l) (head-map ls) (blocks-map ls))
     where
       go : (t : Bool) → headLines (map g ls) ≡ map g (headLines ls) → blocks (map g ls) ≡ map (map g) (blocks ls)
           → cond t ((g l ∷ headLines (map g ls)) ∷ blocks (map g ls)) (blocks (map g ls)) ≡ map (map g) (cond t ((l ∷ headLines ls) ∷ blocks ls) (blocks ls))
       go true h e = rw (h, e)
       go false h e = e
 
-opens-unplaced : (l : Line) → opens (unplaced l) ≡ opens l
-unfolding opens
+opens-unplaced : (l : Line) → opensService (unplaced l) ≡ opensService l
+unfolding opensService
 opens-unplaced l = refl
 
 -- ---- services of them
@@ -205,7 +205,7 @@ skips-behind l a b h = same-bare (l ∷ (a ++ b)) (l ∷ a) refl (said-before as
 head-then : (a b : List Line) → Skipped (headLines b) → (r : List Line) × Skipped r × (headLines (a ++ b) ≡ headLines a ++ r)
 unfolding headLines every
 head-then [] b h = (headLines b, h, refl)
-head-then (l ∷ a) b h = go (opens l) (head-then a b h)
+head-then (l ∷ a) b h = go (opensService l) (head-then a b h)
   where
     go : (t : Bool) → (r : List Line) × Skipped r × (headLines (a ++ b) ≡ headLines a ++ r)
         → (r : List Line) × Skipped r × (cond t [] (l ∷ headLines (a ++ b)) ≡ cond t [] (l ∷ headLines a) ++ r)
@@ -215,7 +215,7 @@ head-then (l ∷ a) b h = go (opens l) (head-then a b h)
 services-append : (a b : List Line) → Skipped (headLines b) → services (a ++ b) ≡ services a ++ services b
 unfolding blocks
 services-append [] b h = refl
-services-append (l ∷ a) b h = go (opens l) (head-then a b h) (services-append a b h)
+services-append (l ∷ a) b h = go (opensService l) (head-then a b h) (services-append a b h)
   where
     go : (t : Bool) → (r : List Line) × Skipped r × (headLines (a ++ b) ≡ headLines a ++ r) → services (a ++ b) ≡ services a ++ services b
         → allBare (cond t ((l ∷ headLines (a ++ b)) ∷ blocks (a ++ b)) (blocks (a ++ b))) ≡ allBare (cond t ((l ∷ headLines a) ∷ blocks a) (blocks a)) ++ services b

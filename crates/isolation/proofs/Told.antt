@@ -12,7 +12,7 @@ use Rattle.base.proofs.Laws.{apart, clash}
 use Rattle.base.proofs.Loops.{and-true}
 use Rattle.columns.specs.Columns.{padTo, columns, column, isDigit, digitValue, isBlank, blank, digits, number, numberFrom}
 use Rattle.lines.specs.Lines.{Line, skipped}
-use Rattle.forms.specs.Form.{Row, columns as row, digits as digitsRule, orBlank, unnamed, rowForm, formFrom, formOf, before, named}
+use Rattle.forms.specs.Form.{FieldRule, fieldRule as row, digitsOnly as digitsRule, orBlank, unnamed, rowForm, formFrom, formOf, before, brokenUnless}
 use Rattle.forms.specs.Columns.{bitFieldColumns, serviceColumns, frequencyColumns, categoryColumns, attributeColumns, callColumns}
 use Rattle.forms.specs.Kinds.{starred, kindOf}
 use Rattle.forms.specs.declared.Form.{Form}
@@ -63,11 +63,11 @@ here-broken : (f g : Form) → (c : ℕ) × (f ≡ BrokenForm c) → (c : ℕ) �
 here-broken f g q = (q .0, rw (q .1))
 
 -- where a rule is broken, so is the form
-broken-row : (c : ℕ) (xs : List Row) (x : Row) (ys : List Row) (line : List ℕ) → x .rule line (columns (x .from) (x .to) line) ≡ false → (k : ℕ) × (formFrom c (xs ++ (x ∷ ys)) line ≡ BrokenForm k)
+broken-row : (c : ℕ) (xs : List FieldRule) (x : FieldRule) (ys : List FieldRule) (line : List ℕ) → x .rule line (columns (x .from) (x .to) line) ≡ false → (k : ℕ) × (formFrom c (xs ++ (x ∷ ys)) line ≡ BrokenForm k)
 unfolding formFrom rowForm
 broken-row c [] x ys line e =
     here-broken (rowForm c x line) (formFrom (x .to) ys line)
-    (later-broken (unnamed c (x .from - 1) line) (named (x .from) (x .rule line (columns (x .from) (x .to) line))) (x .from, rw e))
+    (later-broken (unnamed c (x .from - 1) line) (brokenUnless (x .from) (x .rule line (columns (x .from) (x .to) line))) (x .from, rw e))
 broken-row c (z ∷ xs) x ys line e = later-broken (rowForm c z line) (formFrom (z .to) (xs ++ (x ∷ ys)) line) (broken-row (z .to) xs x ys line e)
 
 blank-byte : (b : ℕ) → isBlank b ≡ true → digitValue b ≡ 0

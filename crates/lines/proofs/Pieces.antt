@@ -13,7 +13,7 @@ use borrow.Author.Tests.{eq-eqb, ne-eqb, eqb-true, le-leb, lt-leb, leb-true}
 use Rattle.base.proofs.Laws.{tests, by-eqb, by-leb}
 use Rattle.base.specs.Lists.{every}
 use Rattle.columns.specs.Columns.{column, padTo, isOf}
-use Rattle.columns.specs.declared.Class.the-variants.{Byte}
+use Rattle.columns.specs.declared.ByteClass.the-variants.{Byte}
 use Rattle.columns.proofs.Laws.{pad-length}
 use Rattle.lines.specs.Lines.{toLF, startWith, pieces, noCR, pastLF, cutAt, skipped}
 use Rattle.lines.specs.declared.Cut.{Cut}

@@ -5,7 +5,7 @@ ghost use Prim.Native.Nat.{_+_, _-_, _≤_, _<_};
 ghost use lib.ListN.{length, take, drop};
 ghost use lib.Dec.{eqb, leb};
 ghost use Rattle.lines.specs.Lines.{noCR, toLF, pastLF, cutAt, skipped};
-use columns::Class;
+use columns::ByteClass;
 
 // The line that starts at a known place: where its text stops, where the next line starts, and the next line's number.
 pub struct Cut {
@@ -37,7 +37,7 @@ pub fn skips(line: &[u8]) -> bool
     if columns::column_at(line, 1) == b'%' {
         return true;
     }
-    columns::every_of(line, line.len(), Class::Byte(b' '))
+    columns::every_of(line, line.len(), ByteClass::Byte(b' '))
 }
 
 // ---- the first LF. A block whose bytes are all tested, with no way out between them, is tested by the machine at once.

@@ -22,12 +22,12 @@ use Rattle.timetable.specs.Load.{Where, delivered, lengthOffence, contentOffenc
 use Rattle.timetable.specs.declared.Offence.{Offence}
 use Rattle.timetable.specs.declared.Loaded.{Loaded}
 use Rattle.timetable.specs.declared.Loaded.the-variants.{Accepted, Refused as LoadRefused}
-use Rattle.plan.specs.Services.{withinLimits}
+use Rattle.plan.specs.Inner.Services.{withinLimits}
 use Rattle.plan.proofs.Within.{head-none, plan-within}
-use Rattle.table_words.specs.Words.{headerWords, bodyWords}
+use Rattle.table_words.specs.Inner.Words.{headerWords, bodyWords}
 use Rattle.table_words.specs.declared.Header.{Header}
-use Rattle.load.specs.Delivered.{longIn, headerOf, deliveredBy, answered, left}
-use Rattle.load.specs.Helper.{roomOf}
+use Rattle.load.specs.Inner.Delivered.{longIn, headerOf, deliveredBy, answered, left}
+use Rattle.load.specs.Inner.Helper.{roomOf}
 use Rattle.load.specs.declared.Room.{Room}
 use Rattle.load.specs.declared.Delivered.{Delivered}
 use Rattle.load.specs.declared.Delivered.the-variants.{Holds, Refused}

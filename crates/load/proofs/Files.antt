@@ -23,11 +23,11 @@ use Rattle.timetable.specs.declared.Checked.the-variants.{Holds as Both, Refuse
 use Rattle.timetable.proofs.Offences.{then-none, in-none, checked-holds, checked-refused}
 use Rattle.period.proofs.Laws.{period-short}
 use Rattle.sections.proofs.Held.{held-file}
-use Rattle.plan.specs.Services.{blockWords, mostPlanWords}
+use Rattle.plan.specs.Inner.Services.{blockWords, mostPlanWords}
 use Rattle.plan.proofs.Sizes.{words-fit}
 use Rattle.table_words.specs.declared.Header.{Header}
-use Rattle.load.specs.Helper.{Short}
-use Rattle.load.specs.Delivered.{longIn, headerBy, headerOf, refusedIn, deliveredBy}
+use Rattle.load.specs.Inner.Helper.{Short}
+use Rattle.load.specs.Inner.Delivered.{longIn, headerBy, headerOf, refusedIn, deliveredBy}
 use Rattle.load.specs.declared.Delivered.{Delivered}
 use Rattle.load.specs.declared.Delivered.the-variants.{Holds, Refused}
 use Rattle.load.proofs.Table.{header-is}

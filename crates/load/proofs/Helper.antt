@@ -13,13 +13,13 @@ use Rattle.lines.proofs.Laws.{lines-le}
 use Rattle.timetable.specs.Layout.{helperHead, helperLine, mostFileBytes}
 use Rattle.timetable.specs.declared.Checked.{Checked}
 use Rattle.timetable.specs.declared.Checked.the-variants.{Holds, Refused}
-use Rattle.sections.specs.SectionMap.{MapOf, Lent, MapAfter}
-use Rattle.classes.specs.Index.{IndexOf, IndexRoom, ClassesAfter}
+use Rattle.sections.specs.Inner.SectionMap.{MapOf, Lent, MapAfter}
+use Rattle.classes.specs.Inner.Index.{IndexOf, IndexRoom, ClassesAfter}
 use Rattle.sections.specs.declared.Section.the-variants.{BitFields, Stops}
-use Rattle.reading.specs.Maps.{FieldMap, StopMap, ClassIndex}
+use Rattle.reading.specs.Inner.Maps.{FieldMap, StopMap, ClassIndex}
 use Rattle.table_words.specs.declared.Header.{Header}
-use Rattle.load.specs.Delivered.{refusedIn}
-use Rattle.load.specs.Helper.{Short, roomOf, Emptied, LentAt, IndexLent, FieldsAfter, StopsAfter, IndexAfter, StopsStand}
+use Rattle.load.specs.Inner.Delivered.{refusedIn}
+use Rattle.load.specs.Inner.Helper.{Short, roomOf, Emptied, LentAt, IndexLent, FieldsAfter, StopsAfter, IndexAfter, StopsStand}
 use Rattle.load.specs.declared.Delivered.{Delivered}
 use Rattle.load.specs.declared.Delivered.the-variants.{Holds as AllHold}
 use Rattle.load.specs.declared.Room.{Room}

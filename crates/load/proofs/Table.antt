@@ -12,13 +12,13 @@ use Rattle.timetable.specs.Service.{blocks, serviceOf}
 use Rattle.timetable.specs.Table.{sections, tableWords}
 use Rattle.timetable.specs.Load.{delivered}
 use Rattle.sections.specs.declared.Section.the-variants.{BitFields, Stops, Interchanges, Classes}
-use Rattle.section_words.specs.Words.{sectionWords}
+use Rattle.section_words.specs.Inner.Words.{sectionWords}
 use Rattle.section_words.proofs.Words.{words-fields, words-stops, words-interchanges, words-classes, length-fields, length-stops, length-interchanges, length-classes}
-use Rattle.plan.specs.Services.{blockWords, placedWords}
+use Rattle.plan.specs.Inner.Services.{blockWords, placedWords}
 use Rattle.plan.proofs.Putting.{placed-size}
-use Rattle.table_words.specs.Words.{headerWords, sectionsWords, bodyWords}
+use Rattle.table_words.specs.Inner.Words.{headerWords, sectionsWords, bodyWords}
 use Rattle.table_words.specs.declared.Header.{Header}
-use Rattle.load.specs.Delivered.{headerBy, headerOf}
+use Rattle.load.specs.Inner.Delivered.{headerBy, headerOf}
 
 -- ---- the words of a delivery
 

@@ -1,2 +1,1 @@
-pub mod Delivered
-pub mod Helper
+pub mod Inner

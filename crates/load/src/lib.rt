@@ -24,10 +24,10 @@ ghost use Rattle.timetable.specs.Files.{bitFieldsIn, bitFieldsFirst, stopsIn, s
 ghost use Rattle.timetable.specs.Service.{blocks};
 ghost use Rattle.timetable.specs.Checks.{planFirst};
 ghost use Rattle.timetable.specs.Load.{delivered, contentOffence, loaded, written, helped};
-ghost use Rattle.reading.specs.Maps.{FieldMap, StopMap, ClassIndex};
-ghost use Rattle.plan.specs.Services.{blockWords, mostPlanWords};
-ghost use Rattle.load.specs.Delivered.{longIn, headerBy, headerOf, refusedIn, deliveredBy, answered, left};
-ghost use Rattle.load.specs.Helper.{Short, roomOf, Emptied, LentAt, IndexLent, FieldsAfter, StopsAfter, IndexAfter, StopsStand};
+ghost use Rattle.reading.specs.Inner.Maps.{FieldMap, StopMap, ClassIndex};
+ghost use Rattle.plan.specs.Inner.Services.{blockWords, mostPlanWords};
+ghost use Rattle.load.specs.Inner.Delivered.{longIn, headerBy, headerOf, refusedIn, deliveredBy, answered, left};
+ghost use Rattle.load.specs.Inner.Helper.{Short, roomOf, Emptied, LentAt, IndexLent, FieldsAfter, StopsAfter, IndexAfter, StopsStand};
 
 // What the checks of the files say: the header of the table, or the first offence and its file.
 pub enum Delivered {

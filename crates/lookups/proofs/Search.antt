@@ -17,8 +17,8 @@ use Rattle.timetable.specs.Table.{rowsIn}
 use Rattle.timetable.proofs.Rows.{stride-turn}
 use Rattle.table.proofs.Records.{first-word}
 use Rattle.lookups.specs.Lookups.{placeOf, readAt, isAt}
-use Rattle.lookups.specs.declared.Found.{Found}
-use Rattle.lookups.specs.declared.Found.the-variants.{At, Nothing}
+use Rattle.lookups.specs.declared.RecordFound.{RecordFound}
+use Rattle.lookups.specs.declared.RecordFound.the-variants.{At, Nothing}
 
 -- ---- a turn at place p, with k records left
 
@@ -29,14 +29,14 @@ one-place w key s p (suc k) h =
     let e : suc k - 1 ≡ k = omega arith in
     rw e
 
-module _ (w : List ℕ) (key s p k : ℕ) (r : Found) (h : 0 < k) (v : placeOf w key s p k ≡ r) where
+module _ (w : List ℕ) (key s p k : ℕ) (r : RecordFound) (h : 0 < k) (v : placeOf w key s p k ≡ r) where
   pub find-again : (getD w p 0 ≡ key → ⊥) → placeOf w key s (p + s) (k - 1) ≡ r
   find-again n = rw (one-place w key s p k h, ne-eqb (getD w p 0) key n) at v
 
   pub find-here : getD w p 0 ≡ key → At p ≡ r
   find-here e = rw (one-place w key s p k h, eq-eqb (getD w p 0) key e) at v
 
-pub find-none : (w : List ℕ) (key s p k : ℕ) (r : Found) → k ≤ 0 → placeOf w key s p k ≡ r → Nothing ≡ r
+pub find-none : (w : List ℕ) (key s p k : ℕ) (r : RecordFound) → k ≤ 0 → placeOf w key s p k ≡ r → Nothing ≡ r
 unfolding placeOf
 find-none w key s p zero r h v = v
 find-none w key s p (suc k) r h v = absurd (omega arith)
@@ -69,7 +69,7 @@ module _ {X : Type 0} (f : List ℕ → X) (number : X → ℕ) (first : (u : Li
       ∙ ap (λ (o : Option X). cond (eqb (getD w p 0) key) (some (f (drop p w))) o) (find-there n (p + s))
       ∙ go (eqb (getD w p 0) key) (placeOf w key s (p + s) n)
     where
-      go : (t : Bool) (q : Found) → cond t (some (f (drop p w))) (readAt f w q) ≡ readAt f w (cond t (At p) q)
+      go : (t : Bool) (q : RecordFound) → cond t (some (f (drop p w))) (readAt f w q) ≡ readAt f w (cond t (At p) q)
       go true q = refl
       go false q = refl
 
@@ -79,12 +79,12 @@ module _ {X : Type 0} (f : List ℕ → X) (number : X → ℕ) (first : (u : Li
   some-there (suc n) p =
       rw (first (drop p w), first-word w p, drop-drop s p w, some-there n (p + s)) (go (eqb (getD w p 0) key) (placeOf w key s (p + s) n))
     where
-      go : (t : Bool) (q : Found) → (t || isAt q) ≡ isAt (cond t (At p) q)
+      go : (t : Bool) (q : RecordFound) → (t || isAt q) ≡ isAt (cond t (At p) q)
       go true q = refl
       go false q = refl
 
 -- the record there is one of the n
-abbrev Inside : ℕ → ℕ → Found → Type 0
+abbrev Inside : ℕ → ℕ → RecordFound → Type 0
 Inside s m Nothing = Unit {0}
 Inside s m (At q) = q + s ≤ m
 
@@ -93,7 +93,7 @@ unfolding placeOf
 inside w key s zero p = tt
 inside w key s (suc n) p = go (eqb (getD w p 0) key) (placeOf w key s (p + s) n) (inside w key s n (p + s))
   where
-    go : (t : Bool) (f : Found) → Inside s (p + s + s * n) f → Inside s (p + s * suc n) (cond t (At p) f)
+    go : (t : Bool) (f : RecordFound) → Inside s (p + s + s * n) f → Inside s (p + s * suc n) (cond t (At p) f)
     go true f h = omega (arith, mul-suc s n)
     go false Nothing h = tt
     go false (At q) h = omega (arith, mul-suc s n)

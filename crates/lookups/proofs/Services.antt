@@ -9,7 +9,7 @@ use lib.ListN.{length, getD, drop, length-drop, getElem?}
 use lib.Seq.{drop-drop}
 use Rattle.base.proofs.Loops.{and-true}
 use Rattle.timetable.specs.Delivery.{Service}
-use Rattle.timetable.specs.Table.{recordWords, serviceAt, servicesIn, stops#, services#, servicesPlace, resolved, tableOf, recordSound, recordsSound}
+use Rattle.timetable.specs.Table.{wordCountIn, serviceAt, servicesIn, stops#, services#, servicesPlace, resolved, tableOf, recordSound, recordsSound}
 use Rattle.table.specs.JustTable.{JustTable}
 use Rattle.table.proofs.Says.{Sizes, record-says}
 use Rattle.table.proofs.Records.{first-word, one-record}
@@ -30,14 +30,14 @@ unfolding servicesIn recordPlace
 service-there f w zero p i h = absurd (omega arith)
 service-there f w (suc v) p zero h = refl
 service-there f w (suc v) p (suc i) h =
-    rw (drop-drop (recordWords (drop p w)) p w, first-word w p) (service-there f w v (p + getD w p 0) i (omega arith))
+    rw (drop-drop (wordCountIn (drop p w)) p w, first-word w p) (service-there f w v (p + getD w p 0) i (omega arith))
 
 none-there : (f : Service → Service) (v i : ℕ) (u : List ℕ) → v ≤ i → getElem? (map f (servicesIn v u)) i ≡ none
 unfolding servicesIn
 none-there f zero zero u h = refl
 none-there f zero (suc i) u h = refl
 none-there f (suc v) zero u h = absurd (omega arith)
-none-there f (suc v) (suc i) u h = none-there f v i (drop (recordWords u) u) (omega arith)
+none-there f (suc v) (suc i) u h = none-there f v i (drop (wordCountIn u) u) (omega arith)
 
 sound-there : (stops : ℕ) (w : List ℕ) (v p i : ℕ) → i < v → recordsSound stops v (drop p w) ≡ true → (recordPlace w p i ≤ length w) × (recordSound stops (drop (recordPlace w p i) w) ≡ true)
 unfolding recordPlace

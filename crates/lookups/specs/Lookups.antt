@@ -8,8 +8,8 @@ use lib.Dec.{eqb}
 use Rattle.timetable.specs.Delivery.{StopRecord, Interchange}
 use Rattle.timetable.specs.Table.{word, servicesPlace}
 use Rattle.timetable.specs.Questions.{Dated, undated, dated}
-use Rattle.lookups.specs.declared.Found.{Found}
-use Rattle.lookups.specs.declared.Found.the-variants.{At, Nothing}
+use Rattle.lookups.specs.declared.RecordFound.{RecordFound}
+use Rattle.lookups.specs.declared.RecordFound.the-variants.{At, Nothing}
 use Rattle.lookups.specs.declared.PeriodDay.{PeriodDay}
 use Rattle.lookups.specs.declared.PeriodDay.the-variants.{On, Refused}
 use Rattle.lookups.specs.declared.StopName.{StopName}
@@ -17,16 +17,16 @@ use Rattle.lookups.specs.declared.StopName.the-variants.{Place, Unknown}
 use Rattle.lookups.specs.declared.Times.{Times}
 
 -- "Lookups take the first match": the first of n records of a size from place p on that begins with the key
-unfoldable pub placeOf : List ℕ → ℕ → ℕ → ℕ → ℕ → Found
+unfoldable pub placeOf : List ℕ → ℕ → ℕ → ℕ → ℕ → RecordFound
 placeOf w key size p zero = Nothing
 placeOf w key size p (suc n) = cond (eqb (word w p) key) (At p) (placeOf w key size (p + size) n)
 
 -- what a reader f gives at a place that was found
-abbrev pub readAt : {X : Type 0} → (List ℕ → X) → List ℕ → Found → Option X
+abbrev pub readAt : {X : Type 0} → (List ℕ → X) → List ℕ → RecordFound → Option X
 readAt f w Nothing = none
 readAt f w (At p) = some (f (drop p w))
 
-abbrev pub isAt : Found → Bool
+abbrev pub isAt : RecordFound → Bool
 isAt Nothing = false
 isAt (At p) = true
 

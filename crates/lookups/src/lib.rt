@@ -36,7 +36,7 @@ pub enum StopName {
 }
 
 // The place of a record.
-pub enum Found {
+pub enum RecordFound {
     At(usize),
     Nothing,
 }
@@ -44,7 +44,7 @@ pub enum Found {
 // ---- the search
 
 // The first of n records of a size from place `at` on that begins with the key.
-pub fn find(w: &[u32], at: usize, n: u32, size: usize, key: u32) -> Found
+pub fn find(w: &[u32], at: usize, n: u32, size: usize, key: u32) -> RecordFound
     requires { ⌜ (1 ≤ size) × (at + size * n ≤ length (now w)) ⌝ }
     ensures { λ r. ⌜ r ≡ placeOf (now (w .entry)) key size at n ⌝ }
 {
@@ -52,12 +52,12 @@ pub fn find(w: &[u32], at: usize, n: u32, size: usize, key: u32) -> Found
     let mut k = n;
     while 0 < k {
         if w[p] == key {
-            return Found::At(p);
+            return RecordFound::At(p);
         }
         p += size;
         k -= 1;
     }
-    Found::Nothing
+    RecordFound::Nothing
 }
 
 // ---- what stands at a place

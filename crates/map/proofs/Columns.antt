@@ -7,7 +7,7 @@ use native.Mathlib.Numerals.{add-one}
 use native.Mathlib.Omega.{arith}
 use lib.ListN.{length, getD, length-append}
 use Rattle.base.proofs.Laws.{clash}
-use Rattle.map.specs.Map.{onward, lastOf, column, numbersIn}
+use Rattle.map.specs.Inner.Map.{onward, lastOf, column, numbersIn}
 
 -- ---- the last that passes a test
 

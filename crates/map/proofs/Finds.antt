@@ -10,7 +10,7 @@ use lib.ListN.{length, getD}
 use lib.Dec.{eqb}
 use borrow.Author.Tests.{eq-eqb, ne-eqb, eqb-true}
 use Rattle.base.proofs.Laws.{tests}
-use Rattle.map.specs.Map.{lastOf, foundBy, foundIn, column, numbersIn, bucketOf, inBucket, Chained, Mapped, Finds}
+use Rattle.map.specs.Inner.Map.{lastOf, foundBy, foundIn, column, numbersIn, bucketOf, inBucket, Chained, Mapped, Finds}
 use Rattle.map.specs.declared.Found.{Found}
 use Rattle.map.specs.declared.Found.the-variants.{At, Nowhere}
 use Rattle.map.proofs.Columns.{last-step, last-le, last-here, last-narrow}

@@ -13,7 +13,7 @@ use lib.Dec.{eqb}
 use borrow.Author.Tests.{eq-eqb, eqb-true}
 use Rattle.base.specs.Lists.{some-of, find}
 use Rattle.base.proofs.Laws.{clash, apart}
-use Rattle.map.specs.Map.{onward, lastOf, foundBy, foundIn, column, numbersIn, Chained, Distinct}
+use Rattle.map.specs.Inner.Map.{onward, lastOf, foundBy, foundIn, column, numbersIn, Chained, Distinct}
 use Rattle.map.specs.declared.Found.{Found}
 use Rattle.map.specs.declared.Found.the-variants.{At, Nowhere}
 use Rattle.map.proofs.Columns.{length-column}

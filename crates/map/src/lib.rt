@@ -5,7 +5,7 @@ ghost use mathlib.Core.Path.{_≡_};
 ghost use mathlib.Core.List.{_++_};
 ghost use Prim.Native.Nat.{_+_, _*_, _≤_, _<_};
 ghost use lib.ListN.{length, drop, replicate, getD};
-ghost use Rattle.map.specs.Map.{recordWords, wordValues, mostRecords, bucketOf, Chained, Mapped, Finds, Added};
+ghost use Rattle.map.specs.Inner.Map.{mapRecordSize, wordValues, mostRecords, bucketOf, Chained, Mapped, Finds, Added};
 
 // Which record, counted from 0.
 pub enum Found {
@@ -37,7 +37,7 @@ pub fn find(m: &[u32], number: u32) -> Found
 // Adds record `count`, with its number and its place.
 pub fn put(m: &mut [u32], count: usize, number: u32, place: u32)
     requires { ⌜ Chained count (now m) ⌝ }
-    requires { ⌜ recordWords * count + recordWords ≤ length (now m) ⌝ }
+    requires { ⌜ mapRecordSize * count + mapRecordSize ≤ length (now m) ⌝ }
     ensures { λ _. ⌜ Added count number place (now (m .entry)) (now (m .exit)) ⌝ }
 {
     let b = bucket(m.len() / 4, number);
@@ -51,8 +51,8 @@ pub fn put(m: &mut [u32], count: usize, number: u32, place: u32)
 
 // The place of record i.
 pub fn place_of(m: &[u32], i: usize) -> usize
-    requires { ⌜ recordWords * i + recordWords ≤ length (now m) ⌝ }
-    ensures { λ r. ⌜ r ≡ getD (now (m .entry)) (recordWords * i + 2) 0 ⌝ }
+    requires { ⌜ mapRecordSize * i + mapRecordSize ≤ length (now m) ⌝ }
+    ensures { λ r. ⌜ r ≡ getD (now (m .entry)) (mapRecordSize * i + 2) 0 ⌝ }
 {
     wide(m[4 * i + 2])
 }

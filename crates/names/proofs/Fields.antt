@@ -11,11 +11,11 @@ use Rattle.base.specs.Lists.{find, some-of}
 use Rattle.base.proofs.Laws.{tests, apart}
 use Rattle.names.specs.Grammar.{dollar, isPlain, Named, IsNames, last-name, then-name, then-patterns}
 use Rattle.names.specs.Names.{span, namesOf, nameList, isNameList, isRead, fitting, nameElse, answerIn, answerBy, nameFor}
-use Rattle.names.specs.Answers.{fitBy, foundIn, chosenBy}
+use Rattle.names.specs.Inner.Answers.{fitBy, foundIn, chosenBy}
 use Rattle.names.specs.declared.Name.{Name}
 use Rattle.names.specs.declared.Wanted.{Wanted}
-use Rattle.names.specs.declared.Found.{Found}
-use Rattle.names.specs.declared.Found.the-variants.{Broken, Unfit, Fits}
+use Rattle.names.specs.declared.NameFound.{NameFound}
+use Rattle.names.specs.declared.NameFound.the-variants.{Broken, Unfit, Fits}
 use Rattle.names.specs.declared.Chosen.the-variants.{Is, NoList}
 use Rattle.names.proofs.Spans.{span-all, span-ends}
 use Rattle.names.proofs.Reading.{reads-right}
@@ -85,7 +85,7 @@ module _ (f : List ℕ) where
     unfolding nameList
     as-read = rw (le-leb (length f) 50 l)
 
-    module _ (w : Wanted) (x : Found) (e : x ≡ foundIn w (namesOf 0 (drop 0 f))) where
+    module _ (w : Wanted) (x : NameFound) (e : x ≡ foundIn w (namesOf 0 (drop 0 f))) where
       pub no-list : x ≡ Broken → false ≡ isNameList f
       no-list k = sym (rw (as-read, broken-none w (namesOf 0 f) (sym e ∙ k)))
 

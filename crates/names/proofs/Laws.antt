@@ -12,18 +12,18 @@ use Rattle.base.specs.Lists.{every}
 use Rattle.base.proofs.Laws.{tests, clash, drop-next}
 use Rattle.names.specs.Grammar.{isPlain, among, languages, isLanguage, isType, Pattern}
 use Rattle.names.specs.Names.{span, languageKnown, typeDigit, wantedBy, allows, fits}
-use Rattle.names.specs.Answers.{isOf, askedBy, firstOf}
+use Rattle.names.specs.Inner.Answers.{isOf, askedBy, firstOf}
 use Rattle.names.specs.declared.Name.{Name}
 use Rattle.names.specs.declared.Wanted.{Wanted}
 use Rattle.names.specs.declared.Asked.the-variants.{For, Outside}
-use Rattle.names.specs.declared.Found.{Found}
-use Rattle.names.specs.declared.Found.the-variants.{Broken, Unfit, Fits}
-use Rattle.names.specs.declared.Class.{Class}
-use Rattle.names.specs.declared.Class.the-variants.{Plain, Letter, Digit}
+use Rattle.names.specs.declared.NameFound.{NameFound}
+use Rattle.names.specs.declared.NameFound.the-variants.{Broken, Unfit, Fits}
+use Rattle.names.specs.declared.NameByte.{NameByte}
+use Rattle.names.specs.declared.NameByte.the-variants.{Plain, Letter, Digit}
 
 -- ---- the classes of bytes
 
-module _ (k : Class) (b : ℕ) (r : Bool) where
+module _ (k : NameByte) (b : ℕ) (r : Bool) where
   pub of-plain : k ≡ Plain → r ≡ isPlain b → r ≡ isOf k b
   of-plain e h = rw e h
 
@@ -44,7 +44,7 @@ module _ (p : List ℕ) (i : ℕ) (h : i < length p) where
   unfolding among
   among-out b r n v = sym (rw (drop-next p i (getD p i 0) h refl, eq-eqb (getD p i 0) b n)) ∙ v
 
-  module _ (k : Class) (t : Bool) (d : t ≡ isOf k (getD p i 0)) (r : ℕ) where
+  module _ (k : NameByte) (t : Bool) (d : t ≡ isOf k (getD p i 0)) (r : ℕ) where
     pub span-again : t ≡ true → i + span (isOf k) (drop i p) ≡ r → i + 1 + span (isOf k) (drop (i + 1) p) ≡ r
     unfolding span
     span-again y v =
@@ -61,7 +61,7 @@ pub among-done : (p : List ℕ) (i b : ℕ) (r : Bool) → length p ≤ i → am
 unfolding among
 among-done p i b r h v = sym (rw (drop-of-length-le p h)) ∙ v
 
-pub span-done : (p : List ℕ) (i : ℕ) (k : Class) (r : ℕ) → length p ≤ i → i + span (isOf k) (drop i p) ≡ r → i ≡ r
+pub span-done : (p : List ℕ) (i : ℕ) (k : NameByte) (r : ℕ) → length p ≤ i → i + span (isOf k) (drop i p) ≡ r → i ≡ r
 unfolding span
 span-done p i k r h v =
     let s : span (isOf k) (drop i p) ≡ 0 = rw (drop-of-length-le p h) in
@@ -75,7 +75,7 @@ pub ruleset loops = (tests, of-plain, of-letter, of-digit, name-first, among-aga
 
 -- ---- a name before what reading on tells
 
-module _ (t : Bool) (name : Name) (onward : Found) where
+module _ (t : Bool) (name : Name) (onward : NameFound) where
   pub first-unfit : not t ≡ true → onward ≡ firstOf t name onward
   first-unfit n = rw (not-true t n)
 

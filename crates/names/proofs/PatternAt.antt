@@ -13,11 +13,11 @@ use borrow.Author.Tests.{eq-eqb, ne-eqb, lt-ltb, le-ltb}
 use Rattle.base.proofs.Laws.{tests, getD-any}
 use Rattle.names.specs.Grammar.{opens, closes, isLanguage, isType, Pattern}
 use Rattle.names.specs.Names.{span, closed, bodyOf, bodySize, hasPattern, patternOf, patternSize, fits}
-use Rattle.names.specs.Answers.{isOf, patternAnswer, behindAnswer}
+use Rattle.names.specs.Inner.Answers.{isOf, patternAnswer, behindAnswer}
 use Rattle.names.specs.declared.Wanted.{Wanted}
 use Rattle.names.specs.declared.PatternRead.{PatternRead}
 use Rattle.names.specs.declared.PatternRead.the-variants.{To, Nothing}
-use Rattle.names.specs.declared.Class.the-variants.{Plain, Letter, Digit}
+use Rattle.names.specs.declared.NameByte.the-variants.{Plain, Letter, Digit}
 use Rattle.names.proofs.Spans.{span-le}
 
 -- a byte that was read as no blank stands inside the field

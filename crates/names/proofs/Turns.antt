@@ -15,14 +15,14 @@ use Rattle.base.specs.Lists.{some-of, find}
 use Rattle.base.proofs.Laws.{tests, apart, by-eqb, getD-any}
 use Rattle.names.specs.Grammar.{dollar, opens, isPlain, Pattern, Named, named}
 use Rattle.names.specs.Names.{span, hasPattern, patternOf, patternSize, Tail, mapped, namesFrom, patternsFrom, namesOf, patternsOf, fits, fitting}
-use Rattle.names.specs.Answers.{isOf, fitBy, foundIn, foundBehind, firstOf, patternAnswer, nextName}
+use Rattle.names.specs.Inner.Answers.{isOf, fitBy, foundIn, foundBehind, firstOf, patternAnswer, nextName}
 use Rattle.names.specs.declared.Name.{Name}
 use Rattle.names.specs.declared.Wanted.{Wanted}
-use Rattle.names.specs.declared.Found.{Found}
-use Rattle.names.specs.declared.Found.the-variants.{Broken, Unfit, Fits}
+use Rattle.names.specs.declared.NameFound.{NameFound}
+use Rattle.names.specs.declared.NameFound.the-variants.{Broken, Unfit, Fits}
 use Rattle.names.specs.declared.PatternRead.{PatternRead}
 use Rattle.names.specs.declared.PatternRead.the-variants.{To, Nothing}
-use Rattle.names.specs.declared.Class.the-variants.{Plain}
+use Rattle.names.specs.declared.NameByte.the-variants.{Plain}
 use Rattle.names.proofs.Spans.{span-le, pattern-inside}
 use Rattle.names.proofs.PatternAt.{read-inside, same-byte}
 use Rattle.names.proofs.Reading.{names-enough, patterns-enough}
@@ -154,7 +154,7 @@ module _ (f : List ℕ) (w : Wanted) (at end : ℕ) (e : end ≡ at + span (isOf
       unfolding foundIn
       list-parted-badly d = sym (rw (names-at f at end e, filled, more, ne-eqb (getD f end 0) dollar d))
 
-      module _ (d : getD f end 0 ≡ 36) (x : ℕ) (g : x ≡ getD f (end + 1) 32) (r : Found) where
+      module _ (d : getD f end 0 ≡ 36) (x : ℕ) (g : x ≡ getD f (end + 1) 32) (r : NameFound) where
         pub list-patterns : x ≡ 60 → r ≡ foundBehind w (record { place = at; size = end - at }) (patternsOf (end + 1) (drop (end + 1) f)) → r ≡ foundIn w (namesOf at (drop at f))
         list-patterns o h =
             let b : getD f (end + 1) 0 ≡ opens = getD-any f (end + 1) 0 32 (read-inside f (end + 1) x g (λ k. omega arith)) ∙ sym g ∙ o in
@@ -246,7 +246,7 @@ module _ (f : List ℕ) (w : Wanted) (at : ℕ) (read : PatternRead) (e : read �
     pub pattern-falls-more : (m next : ℕ) → length f - at ≡ m → next ≡ nextName f end → length f - next < m
     pattern-falls-more m next h g = by-eqb (λ s. next ≡ cond s (end + 1) end → length f - next < m) (getD f end 0) dollar (λ c k. omega (arith, end-inside)) (λ c k. omega (arith, end-inside)) g
 
-    module _ (name : Name) (r : Found) where
+    module _ (name : Name) (r : NameFound) where
       abbrev p : Pattern
       p = patternOf (drop at f)
 
@@ -267,7 +267,7 @@ module _ (f : List ℕ) (w : Wanted) (at : ℕ) (read : PatternRead) (e : read �
           let l : end - at ≡ length (drop at f) = rw length-drop (omega arith) in
           h ∙ sym (rw (patterns-at, eq-eqb (end - at) (length (drop at f)) l, says .fit) (found-last w name p))
 
-      module _ (m : end ≡ length f → ⊥) (s : Found) (h : r ≡ firstOf t name s) where
+      module _ (m : end ≡ length f → ⊥) (s : NameFound) (h : r ≡ firstOf t name s) where
         further : eqb (end - at) (length (drop at f)) ≡ false
         further = ne-eqb (end - at) (length (drop at f)) (λ z. omega (arith, end-inside, length-drop at f))
 

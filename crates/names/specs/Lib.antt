@@ -1,3 +1,3 @@
 pub mod Grammar
 pub mod Names
-pub mod Answers
+pub mod Inner

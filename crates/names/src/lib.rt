@@ -6,7 +6,7 @@ ghost use Prim.Native.Nat.{_+_, _≤_, _<_};
 ghost use lib.ListN.{length, drop};
 ghost use Rattle.names.specs.Grammar.{isPlain, among, isLanguage, isType};
 ghost use Rattle.names.specs.Names.{span, namesOf, patternsOf, isNameList, languageKnown, typeDigit, allows, fits, nameFor};
-ghost use Rattle.names.specs.Answers.{isOf, askedBy, foundIn, foundBehind, firstOf, patternAnswer, behindAnswer, nextName, chosenBy};
+ghost use Rattle.names.specs.Inner.Answers.{isOf, askedBy, foundIn, foundBehind, firstOf, patternAnswer, behindAnswer, nextName, chosenBy};
 
 // A name inside its field: where it begins, from 0, and how many bytes it has.
 pub struct Name {
@@ -53,9 +53,9 @@ pub fn is_name_list(field: &[u8]) -> bool
         },
     );
     match found {
-        Found::Broken => false,
-        Found::Unfit => true,
-        Found::Fits(name) => true,
+        NameFound::Broken => false,
+        NameFound::Unfit => true,
+        NameFound::Fits(name) => true,
     }
 }
 
@@ -68,9 +68,9 @@ pub fn name_for(field: &[u8], wanted: Wanted) -> Chosen
     }
     let found = name_list(field, 0, wanted);
     match found {
-        Found::Broken => Chosen::NoList,
-        Found::Unfit => Chosen::Is(first_name(field)),
-        Found::Fits(name) => Chosen::Is(name),
+        NameFound::Broken => Chosen::NoList,
+        NameFound::Unfit => Chosen::Is(first_name(field)),
+        NameFound::Fits(name) => Chosen::Is(name),
     }
 }
 
@@ -80,7 +80,7 @@ fn first_name(field: &[u8]) -> Name
 {
     Name {
         place: 0,
-        size: span_end(field, 0, Class::Plain),
+        size: span_end(field, 0, NameByte::Plain),
     }
 }
 
@@ -134,25 +134,25 @@ fn type_digit(nametype: u32) -> u8
 // ---- the field read from a place on: names read on into patterns, and patterns into further names
 
 // What reading on tells: that it is no name list, that no name of it fits, or the first that fits.
-enum Found {
+enum NameFound {
     Broken,
     Unfit,
     Fits(Name),
 }
 
 // A name; then the end, "$" and patterns, or "$" and a further name list.
-fn name_list(field: &[u8], at: usize, wanted: Wanted) -> Found
+fn name_list(field: &[u8], at: usize, wanted: Wanted) -> NameFound
     ensures { λ r. ⌜ r ≡ foundIn wanted (namesOf at (drop at (now (field .entry)))) ⌝ }
 {
-    let end = span_end(field, at, Class::Plain);
+    let end = span_end(field, at, NameByte::Plain);
     if end == at {
-        return Found::Broken; // "A name is not empty"
+        return NameFound::Broken; // "A name is not empty"
     }
     if end == field.len() {
-        return Found::Unfit; // a name without patterns fits nothing
+        return NameFound::Unfit; // a name without patterns fits nothing
     }
     if field[end] != b'$' {
-        return Found::Broken;
+        return NameFound::Broken;
     }
     if byte_at(field, end + 1) == b'<' {
         return patterns(
@@ -169,15 +169,15 @@ fn name_list(field: &[u8], at: usize, wanted: Wanted) -> Found
 }
 
 // The patterns of a name; behind each the end, a further pattern, or a further name list.
-fn patterns(field: &[u8], at: usize, name: Name, wanted: Wanted) -> Found
+fn patterns(field: &[u8], at: usize, name: Name, wanted: Wanted) -> NameFound
     ensures { λ r. ⌜ r ≡ foundBehind wanted name (patternsOf at (drop at (now (field .entry)))) ⌝ }
 {
     let read = pattern_at(field, at, wanted);
     let PatternRead::To { end, fits } = read else {
-        return Found::Broken;
+        return NameFound::Broken;
     };
     if end == field.len() {
-        return first_of(fits, name, Found::Unfit);
+        return first_of(fits, name, NameFound::Unfit);
     }
     if field[end] == b'<' {
         return first_of(fits, name, patterns(field, end, name, wanted));
@@ -194,16 +194,16 @@ fn next_name(field: &[u8], end: usize) -> usize
 }
 
 // The name, if its pattern fits, before what reading on tells; but what reads on must be right.
-fn first_of(fits: bool, name: Name, onward: Found) -> Found
+fn first_of(fits: bool, name: Name, onward: NameFound) -> NameFound
     ensures { λ r. ⌜ r ≡ firstOf fits name onward ⌝ }
 {
     if !fits {
         return onward;
     }
     match onward {
-        Found::Broken => Found::Broken,
-        Found::Unfit => Found::Fits(name),
-        Found::Fits(later) => Found::Fits(name),
+        NameFound::Broken => NameFound::Broken,
+        NameFound::Unfit => NameFound::Fits(name),
+        NameFound::Fits(later) => NameFound::Fits(name),
     }
 }
 
@@ -230,8 +230,8 @@ fn behind_opening(field: &[u8], letters: usize, wanted: Wanted) -> PatternRead
     requires { ⌜ letters ≤ length (now field) ⌝ }
     ensures { λ r. ⌜ r ≡ behindAnswer wanted letters (drop letters (now (field .entry))) ⌝ }
 {
-    let digits = span_end(field, letters, Class::Letter);
-    let close = span_end(field, digits, Class::Digit);
+    let digits = span_end(field, letters, NameByte::Letter);
+    let close = span_end(field, digits, NameByte::Digit);
     if close == letters {
         return PatternRead::Nothing;
     }
@@ -271,14 +271,14 @@ fn part_allows(part: &[u8], b: u8) -> bool
 // ---- bytes
 
 // What the bytes of a span are.
-enum Class {
+enum NameByte {
     Plain,
     Letter,
     Digit,
 }
 
 // Where the bytes of a class end that stand from a place on.
-fn span_end(field: &[u8], at: usize, class: Class) -> usize
+fn span_end(field: &[u8], at: usize, class: NameByte) -> usize
     ensures { λ r. ⌜ r ≡ at + span (isOf class) (drop at (now (field .entry))) ⌝ }
 {
     let mut i = at;
@@ -292,13 +292,13 @@ fn span_end(field: &[u8], at: usize, class: Class) -> usize
     i
 }
 
-fn is_of(class: Class, b: u8) -> bool
+fn is_of(class: NameByte, b: u8) -> bool
     ensures { λ r. ⌜ r ≡ isOf class b ⌝ }
 {
     match class {
-        Class::Plain => is_plain(b),
-        Class::Letter => is_language(b),
-        Class::Digit => is_type(b),
+        NameByte::Plain => is_plain(b),
+        NameByte::Letter => is_language(b),
+        NameByte::Digit => is_type(b),
     }
 }
 

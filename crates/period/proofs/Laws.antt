@@ -13,8 +13,8 @@ use Rattle.lines.proofs.Laws.{cutting, lines-none, walk}
 use Rattle.calendar.specs.Calendar.{dateIn, periodOf}
 use Rattle.calendar.specs.declared.Date.{Date}
 use Rattle.calendar.specs.declared.Date.the-variants.{Day, NoSuchDate}
-use Rattle.calendar.specs.declared.Period.{Period as PeriodOf}
-use Rattle.calendar.specs.declared.Period.the-variants.{Days, NoPeriod}
+use Rattle.calendar.specs.declared.PeriodLength.{PeriodLength as PeriodOf}
+use Rattle.calendar.specs.declared.PeriodLength.the-variants.{OfDays, NoPeriod}
 use Rattle.calendar.proofs.Bounds.{days-le}
 use Rattle.forms.specs.Form.{formOf}
 use Rattle.forms.specs.Columns.{dateColumns}
@@ -27,7 +27,7 @@ use Rattle.timetable.specs.declared.Offence.{Offence}
 use Rattle.timetable.specs.declared.Checked.{Checked}
 use Rattle.timetable.specs.declared.Checked.the-variants.{Holds, Refused}
 use Rattle.timetable.proofs.Offences.{checked-holds, checked-refused}
-use Rattle.period.specs.Dates.{dateOf, dateAt}
+use Rattle.period.specs.Inner.Dates.{dateOf, dateAt}
 
 -- "A period of n days has 1 to 380": no file gives more
 pub period-short : (ls : List Line) → periodIn ls .n ≤ mostPeriodDays
@@ -42,7 +42,7 @@ period-short (s ∷ e ∷ ls) = go (periodOf a b) refl
     b = dayNumber (dateIn (e .text))
 
     go : (p : PeriodOf) → periodOf a b ≡ p → daysIn p ≤ mostPeriodDays
-    go (Days n) k = days-le a b n k
+    go (OfDays n) k = days-le a b n k
     go NoPeriod k = omega arith
 
 -- ---- a line that has to be a date, for `search dates`
@@ -107,7 +107,7 @@ module _ (s : Line) where
         unfolding periodFirst first _<|>_
         answered-no ls p = rw (o, k, p) refl
 
-        module _ (n : ℕ) (p : period ≡ Days n) where
+        module _ (n : ℕ) (p : period ≡ OfDays n) where
           answered-two : answered (s ∷ e ∷ []) ≡ Refused (offenceAt 2 3)
           unfolding periodFirst first _<|>_
           answered-two = rw (o, k, p) refl
@@ -186,7 +186,7 @@ module _ (f : List ℕ) (r : Checked) (e : r ≡ dateAt f 0 1) where
         pub days-none : (x : Offence) → p ≡ NoPeriod → x ≡ offenceAt 5 2 → Refused x ≡ answered (linesOf f)
         days-none x k z = ap Refused z ∙ rw lines-are (sym (answered-no (one .line) (one .right) (two .line) (two .right) _ (period-is ∙ k) ∙ rw (two .number) refl))
 
-        module _ (n : ℕ) (k : p ≡ Days n) where
+        module _ (n : ℕ) (k : p ≡ OfDays n) where
           pub no-third : (x : Offence) → length f ≤ next → x ≡ offenceAt 2 3 → Refused x ≡ answered (linesOf f)
           no-third x l z = ap Refused z ∙ rw (lines-are, lines-none f next 3 l) (sym (answered-two (one .line) (one .right) (two .line) (two .right) n (period-is ∙ k)))
 

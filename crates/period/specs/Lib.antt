@@ -1,1 +1,1 @@
-pub mod Dates
+pub mod Inner

@@ -1,6 +1,6 @@
 // ECKDATEN: the period, or the file's first offence.
 use calendar::Date;
-use calendar::Period;
+use calendar::PeriodLength;
 use forms::Form;
 use forms::LineKind;
 use timetable::Checked;
@@ -12,7 +12,7 @@ ghost use Rattle.lines.specs.Lines.{linesOf};
 ghost use Rattle.timetable.specs.Layout.{mostFileBytes};
 ghost use Rattle.timetable.specs.Offences.{checkedBy};
 ghost use Rattle.timetable.specs.Files.{periodFirst, periodIn};
-ghost use Rattle.period.specs.Dates.{dateAt};
+ghost use Rattle.period.specs.Inner.Dates.{dateAt};
 
 // The first day and the number of days. Line 3 says nothing, and is the last.
 pub fn check_period(f: &[u8]) -> Checked
@@ -28,7 +28,7 @@ pub fn check_period(f: &[u8]) -> Checked
         return second;
     };
     let period = calendar::period_of(start, end);
-    let Period::Days(days) = period else {
+    let PeriodLength::OfDays(days) = period else {
         return Checked::Refused(timetable::offence_at(5, 2));
     };
     let at = third_at as usize;

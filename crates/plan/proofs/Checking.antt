@@ -16,14 +16,14 @@ use Rattle.timetable.specs.Checks.{headFirst, serviceFirst, servicesFirst, plan
 use Rattle.timetable.specs.declared.Offence.{Offence}
 use Rattle.timetable.specs.declared.Checked.{Checked}
 use Rattle.timetable.specs.declared.Checked.the-variants.{Holds, Refused}
-use Rattle.reading.specs.Reading.{serviceAt, Boundary, HeadClear, HeadAs}
+use Rattle.reading.specs.Inner.Reading.{serviceLinesAt, Boundary, HeadClear, HeadAs}
 use Rattle.reading.specs.declared.Head.{Head}
 use Rattle.reading.specs.declared.Head.the-variants.{Clear, Stray}
 use Rattle.reading.proofs.Heads.{after, service-here, services-none}
-use Rattle.service.specs.Answers.{ServiceTaken, CheckedAs}
+use Rattle.service.specs.Inner.Answers.{ServiceTaken, CheckedAs}
 use Rattle.service.specs.declared.ServiceCheck.{ServiceCheck}
 use Rattle.service.specs.declared.ServiceCheck.the-variants.{Takes, Refused as ServiceRefused}
-use Rattle.plan.specs.Services.{blockWords}
+use Rattle.plan.specs.Inner.Services.{blockWords}
 use Rattle.plan.proofs.Sizes.{words-fit, count-fits}
 use Rattle.plan.proofs.Putting.{next-boundary, next-less, next-count, head-next}
 
@@ -40,13 +40,13 @@ module _ (fields : List BitField) (stops : List StopRecord) (classes : List Cate
         → Refused o ≡ checkedBy x a b
     unfolding _<|>_
     refused-here o x a b e s h v =
-        let q : serviceFirst fields stops classes days (serviceAt f at n) ≡ some o = rw e at k in
+        let q : serviceFirst fields stops classes days (serviceLinesAt f at n) ≡ some o = rw e at k in
         let p : servicesFirst fields stops classes days (blocks (linesAt f at n)) ≡ some o
-        = ap (servicesFirst fields stops classes days) (service-here f at n s h) ∙ (first-cons (serviceAt f at n) (blocks (after f (cutAt f at n))) ∙ rw q refl) in
+        = ap (servicesFirst fields stops classes days) (service-here f at n s h) ∙ (first-cons (serviceLinesAt f at n) (blocks (after f (cutAt f at n))) ∙ rw q refl) in
         rw (sym v ∙ p) refl
 
     module _ (w end m : ℕ) (e : c ≡ Takes w end m) where
-      fine : (serviceFirst fields stops classes days (serviceAt f at n) ≡ none) × ServiceTaken f at n w end m
+      fine : (serviceFirst fields stops classes days (serviceLinesAt f at n) ≡ none) × ServiceTaken f at n w end m
       fine = rw e at k
 
       pub took-boundary : Boundary f end m
@@ -57,7 +57,7 @@ module _ (fields : List BitField) (stops : List StopRecord) (classes : List Cate
 
       pub clean-next : (x : Option Offence) → servicesFirst fields stops classes days (blocks (linesAt f at n)) ≡ x → servicesFirst fields stops classes days (blocks (linesAt f end m)) ≡ x
       unfolding _<|>_
-      clean-next x v = rw (fine .1 .services, first-cons (serviceAt f at n) (blocks (linesAt f end m)), fine .0) at v
+      clean-next x v = rw (fine .1 .services, first-cons (serviceLinesAt f at n) (blocks (linesAt f end m)), fine .0) at v
 
       module _ (words all : ℕ) (v : words + length (blockWords (blocks (linesAt f at n))) ≡ all) where
         pub words-next : words + w + length (blockWords (blocks (linesAt f end m))) ≡ all

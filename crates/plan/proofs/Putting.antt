@@ -20,18 +20,18 @@ use Rattle.timetable.specs.Table.{serviceWords, pointing}
 use Rattle.timetable.specs.declared.Offence.{Offence}
 use Rattle.timetable.specs.declared.Opening.{Opening}
 use Rattle.timetable.proofs.Records.{service-length}
-use Rattle.draft.specs.Draft.{draftCall, draftRange, mostRanges, callsLent, rangesLent, countsOf, ranges#, Within}
+use Rattle.draft.specs.Inner.Draft.{draftCall, draftRange, mostRanges, callsLent, rangesLent, countsOf, ranges#, Within}
 use Rattle.draft.specs.declared.Drafted.{Drafted}
 use Rattle.draft.proofs.Drafts.{draft-service, ranges-within}
-use Rattle.reading.specs.Reading.{serviceAt, Boundary, ServiceRead, HeadClear, HeadAs}
+use Rattle.reading.specs.Inner.Reading.{serviceLinesAt, Boundary, ServiceRead, HeadClear, HeadAs}
 use Rattle.reading.specs.declared.Head.{Head}
 use Rattle.reading.specs.declared.Head.the-variants.{Clear, Stray}
 use Rattle.reading.proofs.Heads.{after, service-here, services-none}
-use Rattle.service_words.specs.Parts.{serviceIn, sizesOf}
+use Rattle.service_words.specs.Inner.Parts.{serviceIn, sizesOf}
 use Rattle.service_words.specs.declared.Sizes.{Sizes}
-use Rattle.service.specs.Answers.{ServiceTaken}
+use Rattle.service.specs.Inner.Answers.{ServiceTaken}
 use Rattle.stop_places.proofs.Laws.{pointed-size, calls-inside, pointed-written}
-use Rattle.plan.specs.Services.{blockWords, placedWords, within, withinLimits}
+use Rattle.plan.specs.Inner.Services.{blockWords, placedWords, countsWithin, withinLimits}
 use Rattle.plan.proofs.Within.{within-says}
 use Rattle.plan.proofs.Sizes.{words-fit}
 
@@ -58,24 +58,24 @@ placed-size stops (b ∷ bs) =
       length-append (serviceWords (serviceOf b)) (gathered serviceWords (map serviceOf bs)),
     )
 
-within-cons : (b : List Line) (bs : List (List Line)) → withinLimits (b ∷ bs) ≡ true → (within (countsOf b) ≡ true) × (withinLimits bs ≡ true)
+within-cons : (b : List Line) (bs : List (List Line)) → withinLimits (b ∷ bs) ≡ true → (countsWithin (countsOf b) ≡ true) × (withinLimits bs ≡ true)
 unfolding withinLimits every
 within-cons b bs e = and-true _ _ e
 
 module _ (f : List ℕ) (at n : ℕ) (b : Boundary f at n) (h : at < length f) where
-  pub here-within : withinLimits (blocks (linesAt f at n)) ≡ true → Within (countsOf (serviceAt f at n))
-  here-within w = within-says (countsOf (serviceAt f at n)) (within-cons (serviceAt f at n) (blocks (after f (cutAt f at n))) (rw (service-here f at n b h) at w) .0)
+  pub here-within : withinLimits (blocks (linesAt f at n)) ≡ true → Within (countsOf (serviceLinesAt f at n))
+  here-within w = within-says (countsOf (serviceLinesAt f at n)) (within-cons (serviceLinesAt f at n) (blocks (after f (cutAt f at n))) (rw (service-here f at n b h) at w) .0)
 
-  here-words : length (serviceWords (serviceOf (serviceAt f at n))) ≤ length (blockWords (blocks (linesAt f at n)))
+  here-words : length (serviceWords (serviceOf (serviceLinesAt f at n))) ≤ length (blockWords (blocks (linesAt f at n)))
   here-words =
       omega (
         arith,
-        ap length (ap blockWords (service-here f at n b h) ∙ words-cons (serviceAt f at n) (blocks (after f (cutAt f at n)))),
-        length-append (serviceWords (serviceOf (serviceAt f at n))) (blockWords (blocks (after f (cutAt f at n)))),
+        ap length (ap blockWords (service-here f at n b h) ∙ words-cons (serviceLinesAt f at n) (blocks (after f (cutAt f at n)))),
+        length-append (serviceWords (serviceOf (serviceLinesAt f at n))) (blockWords (blocks (after f (cutAt f at n)))),
       )
 
   -- `to` is the place to write at; all services end at place q
-  pub here-room : (to q l : ℕ) → to + length (blockWords (blocks (linesAt f at n))) ≡ q → q ≤ l → to + length (serviceWords (serviceOf (serviceAt f at n))) ≤ l
+  pub here-room : (to q l : ℕ) → to + length (blockWords (blocks (linesAt f at n))) ≡ q → q ≤ l → to + length (serviceWords (serviceOf (serviceLinesAt f at n))) ≤ l
   here-room to q l v r = omega (arith, v, r, here-words)
 
 -- ---- the needs of `put_drafted`, for `search holding`: the draft that was read holds the service; m is how many ranges it has
@@ -94,15 +94,15 @@ module _ (f : List ℕ) (at n : ℕ) (d : Drafted) (calls ranges : List ℕ) (s 
     abbrev held : Service
     held = serviceIn (d .opening) (d .line) (d .counts .calls) calls m ranges
 
-    service-is : held ≡ serviceOf (serviceAt f at n)
+    service-is : held ≡ serviceOf (serviceLinesAt f at n)
     service-is =
-        let ls : List Line = serviceAt f at n in
+        let ls : List Line = serviceLinesAt f at n in
         ap (λ (k : ℕ). serviceIn (d .opening) (d .line) (d .counts .calls) calls k ranges) e
         ∙ (ap (λ (o : Opening). serviceIn o (d .line) (d .counts .calls) calls (ranges# (d .counts)) ranges) (sym (s .opening))
         ∙ (ap (λ (l : ℕ). serviceIn (serviceOf ls .opening) l (d .counts .calls) calls (ranges# (d .counts)) ranges) (s .line ∙ sym (s .own-line))
         ∙ draft-service ls (d .counts) calls ranges (s .draft)))
 
-    pub held-room : (to l : ℕ) → to + length (serviceWords (serviceOf (serviceAt f at n))) ≤ l → to + length (serviceWords held) ≤ l
+    pub held-room : (to l : ℕ) → to + length (serviceWords (serviceOf (serviceLinesAt f at n))) ≤ l → to + length (serviceWords held) ≤ l
     held-room to l h = rw service-is h
 
     pub held-fits : Boundary f at n → at < length f → length (serviceWords held) ≤ 4294967295
@@ -111,10 +111,10 @@ module _ (f : List ℕ) (at n : ℕ) (d : Drafted) (calls ranges : List ℕ) (s 
     pub held-taken : (z : Sizes) → z ≡ sizesOf held → ServiceTaken f at n (z .words) (d .end) (d .no)
     held-taken z i = record { size = rw (i, service-is) refl; services = s .services; past = s .past; next = s .next }
 
-    pub held-calls : (z : Sizes) → z ≡ sizesOf held → z .calls ≡ length (serviceOf (serviceAt f at n) .calls)
+    pub held-calls : (z : Sizes) → z ≡ sizesOf held → z .calls ≡ length (serviceOf (serviceLinesAt f at n) .calls)
     held-calls z i = rw (i, service-is) refl
 
-    pub held-written : (t t′ : List ℕ) (to : ℕ) → t′ ≡ write t to (serviceWords held) → t′ ≡ write t to (serviceWords (serviceOf (serviceAt f at n)))
+    pub held-written : (t t′ : List ℕ) (to : ℕ) → t′ ≡ write t to (serviceWords held) → t′ ≡ write t to (serviceWords (serviceOf (serviceLinesAt f at n)))
     held-written t t′ to x = rw service-is at x
 
 pub ruleset holding = (tests, calls-room, ranges-count, ranges-room, held-room, held-fits, held-taken, held-calls, held-written)
@@ -131,13 +131,13 @@ pub ruleset pointed = (tests, calls-place, calls-inside, pointed-written, len-tr
 
 module _ (f : List ℕ) (at n w end m : ℕ) (s : ServiceTaken f at n w end m) where
   abbrev own : List ℕ
-  own = serviceWords (serviceOf (serviceAt f at n))
+  own = serviceWords (serviceOf (serviceLinesAt f at n))
 
   abbrev rest : List ℕ
   rest = blockWords (blocks (linesAt f end m))
 
   words-step : blockWords (blocks (linesAt f at n)) ≡ own ++ rest
-  words-step = ap blockWords (s .services) ∙ words-cons (serviceAt f at n) (blocks (linesAt f end m))
+  words-step = ap blockWords (s .services) ∙ words-cons (serviceLinesAt f at n) (blocks (linesAt f end m))
 
   pub next-boundary : Boundary f end m
   next-boundary = s .next
@@ -146,7 +146,7 @@ module _ (f : List ℕ) (at n w end m : ℕ) (s : ServiceTaken f at n w end m) w
   next-less h = omega (arith, s .past)
 
   pub next-within : withinLimits (blocks (linesAt f at n)) ≡ true → withinLimits (blocks (linesAt f end m)) ≡ true
-  next-within v = within-cons (serviceAt f at n) (blocks (linesAt f end m)) (rw (s .services) at v) .1
+  next-within v = within-cons (serviceLinesAt f at n) (blocks (linesAt f end m)) (rw (s .services) at v) .1
 
   -- `to` words stand before it, q in all
   module _ (to q : ℕ) (count : to + length (blockWords (blocks (linesAt f at n))) ≡ q) where
@@ -156,13 +156,13 @@ module _ (f : List ℕ) (at n w end m : ℕ) (s : ServiceTaken f at n w end m) w
     pub place-fits : q < 2 ^ 64 → to + w < 2 ^ 64
     place-fits h = omega (arith, next-count)
 
-    pub next-written : (stops : List StopRecord) (t t′ ws : List ℕ) → q ≤ length t → t′ ≡ write t to (serviceWords (pointing stops (serviceOf (serviceAt f at n))))
+    pub next-written : (stops : List StopRecord) (t t′ ws : List ℕ) → q ≤ length t → t′ ≡ write t to (serviceWords (pointing stops (serviceOf (serviceLinesAt f at n))))
         → write t to (placedWords stops (blocks (linesAt f at n))) ≡ ws → write t′ (to + w) (placedWords stops (blocks (linesAt f end m))) ≡ ws
     next-written stops t t′ ws room x v =
-        let A : List ℕ = serviceWords (pointing stops (serviceOf (serviceAt f at n))) in
+        let A : List ℕ = serviceWords (pointing stops (serviceOf (serviceLinesAt f at n))) in
         let B : List ℕ = placedWords stops (blocks (linesAt f end m)) in
-        let step : placedWords stops (blocks (linesAt f at n)) ≡ A ++ B = ap (placedWords stops) (s .services) ∙ placed-cons stops (serviceAt f at n) (blocks (linesAt f end m)) in
-        let size : w ≡ length A = s .size ∙ sym (pointed-size stops (serviceOf (serviceAt f at n))) in
+        let step : placedWords stops (blocks (linesAt f at n)) ≡ A ++ B = ap (placedWords stops) (s .services) ∙ placed-cons stops (serviceLinesAt f at n) (blocks (linesAt f end m)) in
+        let size : w ≡ length A = s .size ∙ sym (pointed-size stops (serviceOf (serviceLinesAt f at n))) in
         let fits : to + length A ≤ length t = omega (arith, next-count, size, room) in
         rw (x, size) (write-write t to A B fits ∙ (sym (ap (write t to) step) ∙ v))
 

@@ -12,7 +12,7 @@ use Rattle.lines.specs.Lines.{Line, linesAt}
 use Rattle.lines.proofs.Laws.{lines-le}
 use Rattle.timetable.specs.Layout.{mostFileBytes, serviceHead, callSize}
 use Rattle.timetable.specs.Delivery.{Legs, CategoryRange, DayRange, ExtraRange}
-use Rattle.timetable.specs.Plan.{toldIn, tolds, asCall, asRange, ofPart, opens, rangesOf, partLines}
+use Rattle.timetable.specs.Plan.{toldIn, tolds, asCall, asRange, ofPart, opensService, rangesOf, partLines}
 use Rattle.timetable.specs.Service.{withLegs, legsOn, callsOf, headLines, blocks, serviceOf}
 use Rattle.timetable.specs.Table.{serviceWords}
 use Rattle.timetable.specs.declared.Call.{Call}
@@ -24,7 +24,7 @@ use Rattle.timetable.specs.declared.Told.{Told}
 use Rattle.timetable.specs.declared.Told.the-variants.{Skip, Other, Broken, Opens, Ranges, Calls}
 use Rattle.timetable.proofs.Calls.{calls-count}
 use Rattle.timetable.proofs.Records.{service-length}
-use Rattle.plan.specs.Services.{blockWords, wordsALine, mostPlanWords}
+use Rattle.plan.specs.Inner.Services.{blockWords, wordsALine, mostPlanWords}
 
 -- ---- a line gives one call or one range at most
 
@@ -89,7 +89,7 @@ service-le ls =
 blocks-le : (ls : List Line) → length (blockWords (blocks ls)) + callSize * length (headLines ls) ≤ wordsALine * length ls
 unfolding blocks headLines blockWords gathered
 blocks-le [] = omega arith
-blocks-le (l ∷ ls) = go (opens l) (blocks-le ls)
+blocks-le (l ∷ ls) = go (opensService l) (blocks-le ls)
   where
     go : (t : Bool) → length (blockWords (blocks ls)) + callSize * length (headLines ls) ≤ wordsALine * length ls → length (blockWords (cond t ((l ∷ headLines ls) ∷ blocks ls) (blocks ls))) + callSize * length (cond t [] (l ∷ headLines ls)) ≤ wordsALine * length (l ∷ ls)
     go true h = omega (arith, h, service-le (l ∷ headLines ls), length-append (serviceWords (serviceOf (l ∷ headLines ls))) (gathered serviceWords (map serviceOf (blocks ls))))
@@ -99,7 +99,7 @@ blocks-le (l ∷ ls) = go (opens l) (blocks-le ls)
 count-le : (ls : List Line) → length (blocks ls) ≤ length ls
 unfolding blocks
 count-le [] = omega arith
-count-le (l ∷ ls) = go (opens l) (count-le ls)
+count-le (l ∷ ls) = go (opensService l) (count-le ls)
   where
     go : (t : Bool) → length (blocks ls) ≤ length ls → length (cond t ((l ∷ headLines ls) ∷ blocks ls) (blocks ls)) ≤ suc (length ls)
     go true h = omega (arith, h)

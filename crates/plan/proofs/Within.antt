@@ -14,18 +14,18 @@ use Rattle.timetable.specs.Delivery.{BitField, StopRecord, CategoryClass}
 use Rattle.timetable.specs.Service.{blocks}
 use Rattle.timetable.specs.Checks.{headFirst, serviceFirst, servicesFirst, planFirst}
 use Rattle.timetable.proofs.Offences.{then-none}
-use Rattle.draft.specs.Draft.{countsOf, Within}
+use Rattle.draft.specs.Inner.Draft.{countsOf, Within}
 use Rattle.draft.specs.declared.Counts.{Counts}
 use Rattle.reading.proofs.Checking.{own-within}
-use Rattle.plan.specs.Services.{within, withinLimits}
+use Rattle.plan.specs.Inner.Services.{countsWithin, withinLimits}
 
 -- ---- the test and what it says
 
 module _ (k : Counts) where
-  pub within-holds : Within k → within k ≡ true
+  pub within-holds : Within k → countsWithin k ≡ true
   within-holds h = rw (le-leb (k .calls) mostCalls (h .calls), le-leb (k .categories) mostCategories (h .categories), le-leb (k .days) mostDays (h .days), le-leb (k .extras) mostExtras (h .extras)) refl
 
-  pub within-says : within k ≡ true → Within k
+  pub within-says : countsWithin k ≡ true → Within k
   within-says e =
       let a = and-true (leb (k .calls) mostCalls) _ e in
       let b = and-true (leb (k .categories) mostCategories) _ (a .1) in

@@ -16,11 +16,11 @@ ghost use Rattle.timetable.specs.Files.{bitFieldsIn, stopsIn, classesIn};
 ghost use Rattle.timetable.specs.Service.{blocks, serviceOf};
 ghost use Rattle.timetable.specs.Checks.{headFirst, servicesFirst, planFirst};
 ghost use Rattle.timetable.specs.Table.{serviceWords, pointing};
-ghost use Rattle.draft.specs.Draft.{callsLent, rangesLent, countsOf, Within};
-ghost use Rattle.reading.specs.Maps.{FieldMap, StopMap, ClassIndex};
-ghost use Rattle.reading.specs.Reading.{serviceAt, Boundary};
-ghost use Rattle.service.specs.Answers.{ServiceTaken};
-ghost use Rattle.plan.specs.Services.{blockWords, placedWords, withinLimits};
+ghost use Rattle.draft.specs.Inner.Draft.{callsLent, rangesLent, countsOf, Within};
+ghost use Rattle.reading.specs.Inner.Maps.{FieldMap, StopMap, ClassIndex};
+ghost use Rattle.reading.specs.Inner.Reading.{serviceLinesAt, Boundary};
+ghost use Rattle.service.specs.Inner.Answers.{ServiceTaken};
+ghost use Rattle.plan.specs.Inner.Services.{blockWords, placedWords, withinLimits};
 
 // The first offence of FPLAN, or how many services it has and how many words they take. `fields` and `stops` are the maps of BITFELD and BAHNHOF, `index`
 // is the index of ZUGART.
@@ -198,11 +198,11 @@ fn put_service(
 ) -> Put
     requires { ⌜ Boundary (now fplan) at no × (at < length (now fplan)) ⌝ }
     requires { ⌜ StopMap (now bahnhof) (now stops) ⌝ }
-    requires { ⌜ Within (countsOf (serviceAt (now fplan) at no)) ⌝ }
+    requires { ⌜ Within (countsOf (serviceLinesAt (now fplan) at no)) ⌝ }
     requires { ⌜ (callsLent ≤ length (now calls)) × (rangesLent ≤ length (now ranges)) ⌝ }
-    requires { ⌜ to + length (serviceWords (serviceOf (serviceAt (now fplan) at no))) ≤ length (now table) ⌝ }
+    requires { ⌜ to + length (serviceWords (serviceOf (serviceLinesAt (now fplan) at no))) ≤ length (now table) ⌝ }
     ensures { λ r. ⌜ ServiceTaken (now (fplan .entry)) at no (r .words) (r .end) (r .no) ⌝ }
-    ensures { λ r. ⌜ now (table .exit) ≡ write (now (table .entry)) to (serviceWords (pointing (stopsIn (now (bahnhof .entry))) (serviceOf (serviceAt (now (fplan .entry)) at no)))) ⌝ }
+    ensures { λ r. ⌜ now (table .exit) ≡ write (now (table .entry)) to (serviceWords (pointing (stopsIn (now (bahnhof .entry))) (serviceOf (serviceLinesAt (now (fplan .entry)) at no)))) ⌝ }
 {
     let put = put_drafted(fplan, at, no, calls, ranges, table, to);
     stop_places::point_calls(bahnhof, stops, table, to + SERVICE_WORDS, put.calls);
@@ -220,12 +220,12 @@ fn put_drafted(
     to: usize,
 ) -> Put
     requires { ⌜ Boundary (now fplan) at no × (at < length (now fplan)) ⌝ }
-    requires { ⌜ Within (countsOf (serviceAt (now fplan) at no)) ⌝ }
+    requires { ⌜ Within (countsOf (serviceLinesAt (now fplan) at no)) ⌝ }
     requires { ⌜ (callsLent ≤ length (now calls)) × (rangesLent ≤ length (now ranges)) ⌝ }
-    requires { ⌜ to + length (serviceWords (serviceOf (serviceAt (now fplan) at no))) ≤ length (now table) ⌝ }
+    requires { ⌜ to + length (serviceWords (serviceOf (serviceLinesAt (now fplan) at no))) ≤ length (now table) ⌝ }
     ensures { λ r. ⌜ ServiceTaken (now (fplan .entry)) at no (r .words) (r .end) (r .no) ⌝ }
-    ensures { λ r. ⌜ r .calls ≡ length (serviceOf (serviceAt (now (fplan .entry)) at no) .calls) ⌝ }
-    ensures { λ r. ⌜ now (table .exit) ≡ write (now (table .entry)) to (serviceWords (serviceOf (serviceAt (now (fplan .entry)) at no))) ⌝ }
+    ensures { λ r. ⌜ r .calls ≡ length (serviceOf (serviceLinesAt (now (fplan .entry)) at no) .calls) ⌝ }
+    ensures { λ r. ⌜ now (table .exit) ≡ write (now (table .entry)) to (serviceWords (serviceOf (serviceLinesAt (now (fplan .entry)) at no))) ⌝ }
 {
     let read = reading::read_again(fplan, at, no, calls, ranges);
     let opening = read.opening;

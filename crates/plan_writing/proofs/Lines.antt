@@ -26,10 +26,10 @@ use Rattle.line_text.specs.Laid.{textOf}
 use Rattle.plan_text.specs.PlanText.{withLF, categoryOf, attributeText, openingText, frequencyText, categoryText, dayText, extraText, callText}
 use Rattle.plan_text.proofs.Lengths.{category-length, day-length, extra-length, call-length}
 use Rattle.plan_services.specs.Services.{openingLine}
-use Rattle.service_lines.specs.Record.{partSize, partCount, partPlace, here, partRows, shownCall, callRows}
+use Rattle.service_lines.specs.Inner.Record.{partSize, partCount, partPlace, here, partRows, shownCall, callRows}
 use Rattle.service_lines.proofs.Parts.{size-low, range-first, range-second, ranges-start, ranges-now, ranges-place, ranges-left}
 use Rattle.service_lines.proofs.Calls.{calls-just, calls-head, calls-start, calls-sound, sound-now, sound-left}
-use Rattle.plan_writing.specs.Record.{rangeText, partText, callsText}
+use Rattle.plan_writing.specs.Inner.Record.{rangeText, partText, callsText}
 
 -- ---- the opening line of a service; o is what it says
 

@@ -22,10 +22,10 @@ use Rattle.line_text.specs.Laid.{textOf}
 use Rattle.plan_text.specs.PlanText.{withLF, openingText, frequencyText, categoryText, dayText, extraText, callText}
 use Rattle.plan_text.proofs.Lengths.{opening-length, frequency-length, call-length}
 use Rattle.plan_services.specs.Services.{openingLine, restLines, serviceLines, planLines, planText}
-use Rattle.service_lines.specs.Record.{partSize, partCount, partPlace, here, partRows, callRows, shownCall, shown}
+use Rattle.service_lines.specs.Inner.Record.{partSize, partCount, partPlace, here, partRows, callRows, shownCall, shown}
 use Rattle.service_lines.proofs.Services.{calls-shown, shownFrom, shown-all, shown-now, no-service, standing-head, standing-sized, start-place, services-here, standing, records-inside, records-fit, records-place, records-left}
 use Rattle.plan_writing.specs.Writing.{tableText}
-use Rattle.plan_writing.specs.Record.{rangeText, partText, callsText, recordText}
+use Rattle.plan_writing.specs.Inner.Record.{rangeText, partText, callsText, recordText}
 use Rattle.plan_writing.proofs.Lines.{range-length}
 
 -- ---- texts

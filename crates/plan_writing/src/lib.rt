@@ -17,9 +17,9 @@ ghost use Rattle.words.specs.Words.{write};
 ghost use Rattle.table.specs.JustTable.{JustTable};
 ghost use Rattle.plan_text.specs.PlanText.{withLF};
 ghost use Rattle.plan_services.specs.Services.{openingLine};
-ghost use Rattle.service_lines.specs.Record.{partSize, partCount, Standing};
+ghost use Rattle.service_lines.specs.Inner.Record.{partSize, partCount, Standing};
 ghost use Rattle.plan_writing.specs.Writing.{tableText, planAnswer, planBytes};
-ghost use Rattle.plan_writing.specs.Record.{rangeText, partText, callsText, recordText};
+ghost use Rattle.plan_writing.specs.Inner.Record.{rangeText, partText, callsText, recordText};
 
 // What writing answers: the bytes written, or the refusal and the bytes needed (0 unless 45).
 pub enum WriteAnswer {

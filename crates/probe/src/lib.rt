@@ -4,8 +4,8 @@ use bitfield::BIT_COUNT;
 use bitfield::BIT_WORDS;
 use bitfield::MOST_FRAMED;
 use calendar::Date;
-use calendar::Period;
-use columns::Class;
+use calendar::PeriodLength;
+use columns::ByteClass;
 use fields::Detail;
 use fields::RangeEnd;
 use fields::Time;
@@ -27,7 +27,7 @@ ghost use Rattle.bitfield.specs.BitField.{bitCount, mostFramed, bitsIn, bit, ru
 ghost use Rattle.forms.specs.Kinds.{kindOf};
 ghost use Rattle.forms.specs.Form.{formOf};
 ghost use Rattle.forms.specs.Columns.{columnsOf};
-ghost use Rattle.probe.specs.Flat.{flatCut, noStep, flatTime, flatEnd, flatDetail, flatDate, flatPeriod, flatKind, flatForm, classOf, lineKind};
+ghost use Rattle.probe.specs.Inner.Flat.{flatCut, noStep, flatTime, flatEnd, flatDetail, flatDate, flatPeriod, flatKind, flatForm, classOf, lineKind};
 
 // Where a line's text stops, where the next line starts, and its number.
 #[repr(C)]
@@ -366,23 +366,23 @@ fn flat_date(d: Date) -> Told
     }
 }
 
-fn flat_period(p: Period) -> Told
+fn flat_period(p: PeriodLength) -> Told
     ensures { λ r. ⌜ r ≡ flatPeriod p ⌝ }
 {
     match p {
-        Period::Days(n) => Told { kind: 1, value: n },
-        Period::NoPeriod => Told { kind: 0, value: 0 },
+        PeriodLength::OfDays(n) => Told { kind: 1, value: n },
+        PeriodLength::NoPeriod => Told { kind: 0, value: 0 },
     }
 }
 
-fn class_of(k: u32, m: u8) -> Class
+fn class_of(k: u32, m: u8) -> ByteClass
     ensures { λ r. ⌜ r ≡ classOf k m ⌝ }
 {
     match k {
-        0 => Class::Digit,
-        1 => Class::Hex,
-        2 => Class::Filled,
-        _ => Class::Byte(m),
+        0 => ByteClass::Digit,
+        1 => ByteClass::Hex,
+        2 => ByteClass::Filled,
+        _ => ByteClass::Byte(m),
     }
 }
 

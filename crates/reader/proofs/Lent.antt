@@ -37,7 +37,7 @@ use denote.Triple.Spec.{tripleOf}
 use denote.Triple.Clauses.{Lasts, ensured, lasts}
 use Rattle.lines.specs.Lines.{cutAt}
 use Rattle.lines.specs.declared.Cut.{Cut}
-use Rattle.reader.specs.Past.{past}
+use Rattle.reader.specs.Inner.Past.{past}
 use Rattle.reader.specs.declared.Reader.{Reader}
 use Rattle.reader.proofs.Asked.{says-both}
 use Rattle.reader.proofs.Reader as T

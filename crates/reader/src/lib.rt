@@ -3,7 +3,7 @@ ghost use mathlib.Core.Path.{_≡_};
 ghost use Prim.Native.Nat.{_+_, _≤_, _<_, _^_};
 ghost use lib.ListN.{length};
 ghost use Rattle.lines.specs.Lines.{cutAt, linesOf};
-ghost use Rattle.reader.specs.Past.{past};
+ghost use Rattle.reader.specs.Inner.Past.{past};
 use lines::Cut;
 
 // A file, the place where its next line starts, and that line's number.

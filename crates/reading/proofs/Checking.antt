@@ -28,10 +28,10 @@ use Rattle.timetable.specs.declared.Told.the-variants.{Skip, Other, Broken, Ope
 use Rattle.timetable.specs.declared.Verdict.{Verdict}
 use Rattle.timetable.specs.declared.Verdict.the-variants.{Fine, Offends}
 use Rattle.timetable.proofs.Offences.{then-none, given-none, first-none, verdict-fine, verdict-offends}
-use Rattle.draft.specs.Draft.{callsLent, rangesLent, callsOn, rangesOn, onLine, callsAfter, countsOf, countPart, ranges#, noCounts, counted, Within}
+use Rattle.draft.specs.Inner.Draft.{callsLent, rangesLent, callsOn, rangesOn, onLine, callsAfter, countsOf, countPart, ranges#, noCounts, counted, Within}
 use Rattle.draft.specs.declared.Counts.{Counts}
 use Rattle.draft.proofs.Drafts.{counts-more}
-use Rattle.reading.specs.Reading.{serviceAt, Boundary, NextLine, NextAs, countOf, rangeAfter, callAfter, offenceAfter}
+use Rattle.reading.specs.Inner.Reading.{serviceLinesAt, Boundary, NextLine, NextAs, countOf, rangeAfter, callAfter, offenceAfter}
 use Rattle.reading.specs.declared.Next.{Next}
 use Rattle.reading.specs.declared.Next.the-variants.{Line as LineTold, End}
 use Rattle.reading.proofs.Heads.{cutLine, after}
@@ -106,7 +106,7 @@ or-some a b x e = rw e refl
 pub record Clean (fields : List BitField) (stops : List StopRecord) (classes : List CategoryClass) (f : List ℕ) (at n : ℕ) (opening : Opening) (e m : ℕ) (k : Counts) (calls ranges : List ℕ) : Type 0 where
   pub ls : List Line
   pub reads : Reads f at n opening ls e m k calls ranges
-  pub clean : first (ownOffence fields stops classes) [] (serviceAt f at n) ≡ first (ownOffence fields stops classes) ls (headLines (linesAt f e m))
+  pub clean : first (ownOffence fields stops classes) [] (serviceLinesAt f at n) ≡ first (ownOffence fields stops classes) ls (headLines (linesAt f e m))
 
 module _ (fields : List BitField) (stops : List StopRecord) (classes : List CategoryClass) where
   -- at the first line: v is its verdict
@@ -116,7 +116,7 @@ module _ (fields : List BitField) (stops : List StopRecord) (classes : List Cate
     unfolding tolds gathered saidOn holding calledOn
     own-first = offence-next fields stops classes [] (cutLine f at n r) k n said (sym z) refl d
 
-    first-lines : first (ownOffence fields stops classes) [] (serviceAt f at n)
+    first-lines : first (ownOffence fields stops classes) [] (serviceLinesAt f at n)
         ≡ (ownOffence fields stops classes [] (cutLine f at n r) <|> first (ownOffence fields stops classes) (cutLine f at n r ∷ []) (headLines (after f r)))
     first-lines = rw (cutting f at n r h e .step) (first-cons (ownOffence fields stops classes) [] (cutLine f at n r) (headLines (after f r)))
 
@@ -128,11 +128,11 @@ module _ (fields : List BitField) (stops : List StopRecord) (classes : List Cate
       clean = first-lines ∙ or-none (ownOffence fields stops classes [] (cutLine f at n r)) _ (sym own-first ∙ verdict-fine (offenceAfter fields stops classes k n said) v o g);
     }
 
-    pub refused-first : (x : Offence) → v ≡ Offends x → first (ownOffence fields stops classes) [] (serviceAt f at n) ≡ some x
+    pub refused-first : (x : Offence) → v ≡ Offends x → first (ownOffence fields stops classes) [] (serviceLinesAt f at n) ≡ some x
     refused-first x g = first-lines ∙ or-some (ownOffence fields stops classes [] (cutLine f at n r)) _ x (sym own-first ∙ verdict-offends (offenceAfter fields stops classes k n said) v o x g)
 
   module _ (f : List ℕ) (at n : ℕ) (opening : Opening) (e m : ℕ) (k : Counts) (calls ranges : List ℕ) (p : Clean fields stops classes f at n opening e m k calls ranges) (r : Next) (a : NextAs f e m r) where
-    pub clean-end : r ≡ End → first (ownOffence fields stops classes) [] (serviceAt f at n) ≡ none
+    pub clean-end : r ≡ End → first (ownOffence fields stops classes) [] (serviceLinesAt f at n) ≡ none
     unfolding first
     clean-end g = let z : headLines (linesAt f e m) ≡ [] = rw g at a in p .clean ∙ rw z refl
 
@@ -144,11 +144,11 @@ module _ (fields : List BitField) (stops : List StopRecord) (classes : List Cate
       own-next : offenceAfter fields stops classes k m said ≡ ownOffence fields stops classes (p .ls) (it .line)
       own-next = offence-next fields stops classes (p .ls) (it .line) k m said (p .reads .draft .counts) (it .own-number) (it .told)
 
-      next-lines : first (ownOffence fields stops classes) [] (serviceAt f at n)
+      next-lines : first (ownOffence fields stops classes) [] (serviceLinesAt f at n)
           ≡ (ownOffence fields stops classes (p .ls) (it .line) <|> first (ownOffence fields stops classes) (p .ls ++ (it .line ∷ [])) (headLines (linesAt f next m′)))
       next-lines = p .clean ∙ (ap (first (ownOffence fields stops classes) (p .ls)) (it .head) ∙ first-cons (ownOffence fields stops classes) (p .ls) (it .line) (headLines (linesAt f next m′)))
 
-      pub refused-next : (x : Offence) → v ≡ Offends x → first (ownOffence fields stops classes) [] (serviceAt f at n) ≡ some x
+      pub refused-next : (x : Offence) → v ≡ Offends x → first (ownOffence fields stops classes) [] (serviceLinesAt f at n) ≡ some x
       refused-next x y = next-lines ∙ or-some (ownOffence fields stops classes (p .ls) (it .line)) _ x (sym own-next ∙ verdict-offends (offenceAfter fields stops classes k m said) v o x y)
 
       module _ (y : v ≡ Fine) where

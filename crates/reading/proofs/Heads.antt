@@ -15,36 +15,36 @@ use Rattle.forms.specs.Kinds.{kindOf}
 use Rattle.forms.specs.declared.Kind.{Kind}
 use Rattle.timetable.specs.Layout.{mostFileBytes}
 use Rattle.timetable.specs.Offences.{offenceAt, given, _<|>_, first}
-use Rattle.timetable.specs.Plan.{toldIn, isOpening, opens}
+use Rattle.timetable.specs.Plan.{toldIn, isOpening, opensService}
 use Rattle.timetable.specs.Service.{headLines, blocks}
 use Rattle.timetable.specs.Checks.{headFirst}
 use Rattle.timetable.specs.declared.Offence.{Offence}
 use Rattle.timetable.specs.declared.Told.{Told}
-use Rattle.reading.specs.Reading.{serviceAt, Boundary, HeadClear, NextLine}
+use Rattle.reading.specs.Inner.Reading.{serviceLinesAt, Boundary, HeadClear, NextLine}
 
 -- ---- the first of some lines
 
 module _ (l : Line) (ls : List Line) where
-  pub head-open : opens l ≡ true → headLines (l ∷ ls) ≡ []
+  pub head-open : opensService l ≡ true → headLines (l ∷ ls) ≡ []
   unfolding headLines
   head-open e = rw e
 
-  head-shut : opens l ≡ false → headLines (l ∷ ls) ≡ l ∷ headLines ls
+  head-shut : opensService l ≡ false → headLines (l ∷ ls) ≡ l ∷ headLines ls
   unfolding headLines
   head-shut e = rw e
 
-  pub blocks-open : opens l ≡ true → blocks (l ∷ ls) ≡ (l ∷ headLines ls) ∷ blocks ls
+  pub blocks-open : opensService l ≡ true → blocks (l ∷ ls) ≡ (l ∷ headLines ls) ∷ blocks ls
   unfolding blocks
   blocks-open e = rw e
 
-  blocks-shut : opens l ≡ false → blocks (l ∷ ls) ≡ blocks ls
+  blocks-shut : opensService l ≡ false → blocks (l ∷ ls) ≡ blocks ls
   unfolding blocks
   blocks-shut e = rw e
 
   -- lines before which none stands begin with one that opens a service
-  pub opens-first : headLines (l ∷ ls) ≡ [] → opens l ≡ true
+  pub opens-first : headLines (l ∷ ls) ≡ [] → opensService l ≡ true
   unfolding headLines
-  opens-first e = go (opens l) e
+  opens-first e = go (opensService l) e
     where
       go : (t : Bool) → cond t [] (l ∷ headLines ls) ≡ [] → t ≡ true
       go true e = refl
@@ -62,8 +62,8 @@ cutLine f at n r = record { no = n; start = at; text = take (r .stop - at) (drop
 abbrev pub after : List ℕ → Cut → List Line
 after f r = linesAt f (r .next) (r .no)
 
-opens-by : (l : Line) (kind : Kind) (t : Bool) → kind ≡ kindOf (l .text) → t ≡ isOpening kind → opens l ≡ t
-unfolding opens
+opens-by : (l : Line) (kind : Kind) (t : Bool) → kind ≡ kindOf (l .text) → t ≡ isOpening kind → opensService l ≡ t
+unfolding opensService
 opens-by l kind t w o = sym (o ∙ ap isOpening w)
 
 -- ---- the next line of a service, for `search next`
@@ -76,7 +76,7 @@ module _ (f : List ℕ) (at n : ℕ) (r : Cut) (kind : Kind) (t : Bool) (h : at 
   next-told said k v e =
       let c : Cutting f at n r = cutting f at n r h d in
       let l : Line = cutLine f at n r in
-      let q : opens l ≡ false = opens-by l kind t w o ∙ k in
+      let q : opensService l ≡ false = opens-by l kind t w o ∙ k in
       record {
         line = l;
         own-number = refl;
@@ -107,7 +107,7 @@ unfolding first
 first-before a b [] = refl
 first-before a b (l ∷ ls) = rw (first-before (a ++ (l ∷ [])) (b ++ (l ∷ [])) ls) refl
 
-module _ (l : Line) (ls : List Line) (q : opens l ≡ false) where
+module _ (l : Line) (ls : List Line) (q : opensService l ≡ false) where
   offence-skip : skipped (l .text) ≡ true → headFirst (l ∷ ls) ≡ headFirst ls
   unfolding first _<|>_
   offence-skip s = rw (head-shut l ls q, s) (first-before (l ∷ []) [] (headLines ls))
@@ -139,7 +139,7 @@ module _ (f : List ℕ) (at n : ℕ) (p : Headed f at n) where
           let c : Cutting f at n r = cutting f at n r h d in
           let l : Line = cutLine f at n r in
           let ls : List Line = after f r in
-          let q : opens l ≡ false = opens-by l kind t w o ∙ k in
+          let q : opensService l ≡ false = opens-by l kind t w o ∙ k in
           record {
             clean = p .clean ∙ rw (c .step) (offence-skip l ls q (sym i ∙ j));
             services = p .services ∙ rw (c .step) (blocks-shut l ls q);
@@ -154,7 +154,7 @@ pub ruleset heading = (tests, walk, head-start, head-none, head-clear, head-more
 
 -- ---- the service that begins at a place, for callers
 
-pub service-here : (f : List ℕ) (at n : ℕ) → Boundary f at n → at < length f → blocks (linesAt f at n) ≡ serviceAt f at n ∷ blocks (after f (cutAt f at n))
+pub service-here : (f : List ℕ) (at n : ℕ) → Boundary f at n → at < length f → blocks (linesAt f at n) ≡ serviceLinesAt f at n ∷ blocks (after f (cutAt f at n))
 service-here f at n b h =
     let r : Cut = cutAt f at n in
     let c : Cutting f at n r = cutting f at n r h refl in

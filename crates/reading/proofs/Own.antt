@@ -22,12 +22,12 @@ use Rattle.timetable.specs.declared.Told.{Told}
 use Rattle.timetable.specs.declared.Told.the-variants.{Skip, Other, Broken, Opens, Ranges, Calls}
 use Rattle.timetable.specs.declared.Verdict.{Verdict}
 use Rattle.timetable.specs.declared.Verdict.the-variants.{Fine, Offends}
-use Rattle.sections.specs.SectionMap.{MapOf}
-use Rattle.classes.specs.Index.{IndexOf}
+use Rattle.sections.specs.Inner.SectionMap.{MapOf}
+use Rattle.classes.specs.Inner.Index.{IndexOf}
 use Rattle.sections.specs.declared.Section.the-variants.{BitFields, Stops}
 use Rattle.draft.specs.declared.Counts.{Counts}
-use Rattle.reading.specs.Maps.{FieldMap, StopMap, ClassIndex}
-use Rattle.reading.specs.Reading.{countOf, categoryAfter, rangeAfter, callAfter, offenceAfter}
+use Rattle.reading.specs.Inner.Maps.{FieldMap, StopMap, ClassIndex}
+use Rattle.reading.specs.Inner.Reading.{countOf, categoryAfter, rangeAfter, callAfter, offenceAfter}
 
 -- ---- limits and look-ups, for `search lookups`
 

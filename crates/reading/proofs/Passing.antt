@@ -21,7 +21,7 @@ use Rattle.forms.specs.declared.Form.{Form}
 use Rattle.forms.specs.declared.Form.the-variants.{Fits, Broken as BrokenForm}
 use Rattle.forms.specs.declared.Kind.{Kind}
 use Rattle.forms.specs.declared.Kind.the-variants.{Opening as OpeningKind, Frequency, Category as CategoryKind, Attribute, Schedule, Other as OtherKind}
-use Rattle.timetable.specs.Plan.{openingIn, frequencyIn, formed, toldBy, toldIn, isOpening, opens, tolds, asCall, asRange, asOpening, rangesOf, ofPart, partLines}
+use Rattle.timetable.specs.Plan.{openingIn, frequencyIn, formed, toldBy, toldIn, isOpening, opensService, tolds, asCall, asRange, asOpening, rangesOf, ofPart, partLines}
 use Rattle.timetable.specs.Service.{headLines, blocks, firstLine, firstOpening, openingOf, callsOf, serviceOf}
 use Rattle.timetable.specs.declared.CallLine.{CallLine}
 use Rattle.timetable.specs.declared.Opening.{Opening}
@@ -31,11 +31,11 @@ use Rattle.timetable.specs.declared.Told.{Told}
 use Rattle.timetable.specs.declared.Told.the-variants.{Skip, Other, Broken, Opens, Ranges, Calls}
 use Rattle.timetable.proofs.Calls.{calls-count}
 use Rattle.timetable.proofs.Told.{the-type}
-use Rattle.draft.specs.Draft.{callsLent, rangesLent, callsOn, rangesOn, onLine, callsAfter, countsOf, ranges#, noCounts, counted, Within, DraftOf}
+use Rattle.draft.specs.Inner.Draft.{callsLent, rangesLent, callsOn, rangesOn, onLine, callsAfter, countsOf, ranges#, noCounts, counted, Within, DraftOf}
 use Rattle.draft.specs.declared.Counts.{Counts}
 use Rattle.draft.specs.declared.Drafted.{Drafted}
 use Rattle.draft.proofs.Drafts.{draft-first, draft-more, opening-kept, counts-more}
-use Rattle.reading.specs.Reading.{serviceAt, Boundary, ServiceRead, NextLine, NextAs}
+use Rattle.reading.specs.Inner.Reading.{serviceLinesAt, Boundary, ServiceRead, NextLine, NextAs}
 use Rattle.reading.specs.declared.Next.{Next}
 use Rattle.reading.specs.declared.Next.the-variants.{Line as LineTold, End}
 use Rattle.reading.proofs.Heads.{cutLine, after, opens-first, blocks-open}
@@ -73,11 +73,11 @@ within-front a b w = record {
 -- ---- the lines ls were read, up to line m at place e: they are drafted; the service's first line is line n at place `at`, and says `opening`
 
 pub record Reads (f : List ℕ) (at n : ℕ) (opening : Opening) (ls : List Line) (e m : ℕ) (k : Counts) (calls ranges : List ℕ) : Type 0 where
-  pub own : serviceAt f at n ≡ ls ++ headLines (linesAt f e m)
-  pub services : blocks (linesAt f at n) ≡ serviceAt f at n ∷ blocks (linesAt f e m)
+  pub own : serviceLinesAt f at n ≡ ls ++ headLines (linesAt f e m)
+  pub services : blocks (linesAt f at n) ≡ serviceLinesAt f at n ∷ blocks (linesAt f e m)
   pub draft : DraftOf ls k calls ranges
-  pub own-line : firstLine (serviceAt f at n) .no ≡ n
-  pub opened : serviceOf (serviceAt f at n) .opening ≡ opening
+  pub own-line : firstLine (serviceLinesAt f at n) .no ≡ n
+  pub opened : serviceOf (serviceLinesAt f at n) .opening ≡ opening
   pub some-line : 1 ≤ length ls
   pub begun : openingOf ls ≡ opening
   pub start : Boundary f at n
@@ -98,15 +98,15 @@ says-no-more Attribute text e = clash e
 says-no-more Schedule text e = clash e
 says-no-more OtherKind text e = clash e
 
-opening-says : (l : Line) → opens l ≡ true → (asCall (toldIn (l .text)) ≡ []) × (asRange (toldIn (l .text)) ≡ [])
-unfolding opens toldIn
+opening-says : (l : Line) → opensService l ≡ true → (asCall (toldIn (l .text)) ≡ []) × (asRange (toldIn (l .text)) ≡ [])
+unfolding opensService toldIn
 opening-says l e = go (skipped (l .text)) (toldBy (kindOf (l .text)) (l .text)) (says-no-more (kindOf (l .text)) (l .text) e)
   where
     go : (s : Bool) (t : Told) → (asCall t ≡ []) × (asRange t ≡ []) → (asCall (cond s Skip t) ≡ []) × (asRange (cond s Skip t) ≡ [])
     go true t h = (refl, refl)
     go false t h = h
 
-draft-opening : (l : Line) (calls ranges : List ℕ) → opens l ≡ true → callsLent ≤ length calls → rangesLent ≤ length ranges → DraftOf (l ∷ []) noCounts calls ranges
+draft-opening : (l : Line) (calls ranges : List ℕ) → opensService l ≡ true → callsLent ≤ length calls → rangesLent ≤ length ranges → DraftOf (l ∷ []) noCounts calls ranges
 draft-opening l calls ranges o c r = let s : (asCall (toldIn (l .text)) ≡ []) × (asRange (toldIn (l .text)) ≡ []) = opening-says l o in draft-first l calls ranges (s .0) (s .1) c r
 
 -- ---- the needs of `opening_of`, for `search opening`
@@ -135,7 +135,7 @@ unfolding serviceOf
 reads-first f at n r said opening k calls ranges b h e d o z x y =
     let c : Cutting f at n r = cutting f at n r h e in
     let l : Line = cutLine f at n r in
-    let q : opens l ≡ true = opens-first l (after f r) (ap headLines (sym (c .step)) ∙ b .opening) in
+    let q : opensService l ≡ true = opens-first l (after f r) (ap headLines (sym (c .step)) ∙ b .opening) in
     record {
       own = rw (c .step) refl;
       services = rw (c .step) (blocks-open l (after f r) q);
@@ -156,7 +156,7 @@ next-is f e m r said next m′ a g = rw g at a
 module _ (f : List ℕ) (at n : ℕ) (opening : Opening) (ls : List Line) (e m : ℕ) (k : Counts) (calls ranges : List ℕ) (p : Reads f at n opening ls e m k calls ranges) where
   reads-end : headLines (linesAt f e m) ≡ [] → ServiceRead f at n (record { opening = opening; line = n; counts = k; end = e; no = m }) calls ranges
   reads-end z =
-      let whole : serviceAt f at n ≡ ls = p .own ∙ rw z (append-nil ls) in
+      let whole : serviceLinesAt f at n ≡ ls = p .own ∙ rw z (append-nil ls) in
       record {
         line = refl;
         own-line = p .own-line;
@@ -169,10 +169,10 @@ module _ (f : List ℕ) (at n : ℕ) (opening : Opening) (ls : List Line) (e m :
 
   module _ (said : Told) (next m′ : ℕ) (x : NextLine f e m said next m′) where
     -- what is left of the service
-    left : serviceAt f at n ≡ (ls ++ (x .line ∷ [])) ++ headLines (linesAt f next m′)
+    left : serviceLinesAt f at n ≡ (ls ++ (x .line ∷ [])) ++ headLines (linesAt f next m′)
     left = p .own ∙ (rw (x .head) refl ∙ sym (append-assoc ls (x .line ∷ []) (headLines (linesAt f next m′))))
 
-    reads-within : Within (countsOf (serviceAt f at n)) → Within (counted k said)
+    reads-within : Within (countsOf (serviceLinesAt f at n)) → Within (counted k said)
     reads-within w =
         let v : Within (countsOf (ls ++ (x .line ∷ []))) = within-front (ls ++ (x .line ∷ [])) (headLines (linesAt f next m′)) (rw left at w) in
         let u : countsOf (ls ++ (x .line ∷ [])) ≡ counted k said = counts-more ls (x .line) ∙ rw (p .draft .counts, ← (x .told)) refl in
@@ -218,7 +218,7 @@ pass-less f e m r said next m′ a g = let x : NextLine f e m said next m′ = n
 
 module _ (f : List ℕ) (at n : ℕ) (opening : Opening) (e m : ℕ) (k : Counts) (calls ranges : List ℕ) (p : Passed f at n opening e m k calls ranges)
     (r : Next) (a : NextAs f e m r) (said : Told) (next m′ : ℕ) (g : r ≡ LineTold said next m′) where
-  pub pass-within : Within (countsOf (serviceAt f at n)) → Within (counted k said)
+  pub pass-within : Within (countsOf (serviceLinesAt f at n)) → Within (counted k said)
   pass-within w = reads-within f at n opening (p .ls) e m k calls ranges (p .reads) said next m′ (next-is f e m r said next m′ a g) w
 
   pub pass-more : (k′ : Counts) (calls′ ranges′ : List ℕ) → Within (counted k said) → k′ ≡ counted k said

@@ -18,9 +18,9 @@ ghost use Rattle.timetable.specs.Plan.{asOpening};
 ghost use Rattle.timetable.specs.Service.{firstOpening};
 ghost use Rattle.timetable.specs.Legs.{fieldKnown};
 ghost use Rattle.timetable.specs.Checks.{most, categoryListed};
-ghost use Rattle.draft.specs.Draft.{callsLent, rangesLent, countsOf, Within};
-ghost use Rattle.reading.specs.Maps.{FieldMap, StopMap, ClassIndex};
-ghost use Rattle.reading.specs.Reading.{serviceAt, Boundary, ServiceRead, ReadAs, HeadAs, NextAs, countOf, categoryAfter, rangeAfter, callAfter, offenceAfter};
+ghost use Rattle.draft.specs.Inner.Draft.{callsLent, rangesLent, countsOf, Within};
+ghost use Rattle.reading.specs.Inner.Maps.{FieldMap, StopMap, ClassIndex};
+ghost use Rattle.reading.specs.Inner.Reading.{serviceLinesAt, Boundary, ServiceRead, ReadAs, HeadAs, NextAs, countOf, categoryAfter, rangeAfter, callAfter, offenceAfter};
 
 // A service as it was read and drafted, or the first own offence of its lines.
 pub enum Read {
@@ -142,7 +142,7 @@ pub fn read_again(
     ranges: &mut [u32],
 ) -> Drafted
     requires { ⌜ Boundary (now fplan) at no × (at < length (now fplan)) ⌝ }
-    requires { ⌜ Within (countsOf (serviceAt (now fplan) at no)) ⌝ }
+    requires { ⌜ Within (countsOf (serviceLinesAt (now fplan) at no)) ⌝ }
     requires { ⌜ (callsLent ≤ length (now calls)) × (rangesLent ≤ length (now ranges)) ⌝ }
     ensures { λ r. ⌜ ServiceRead (now (fplan .entry)) at no r (now (calls .exit)) (now (ranges .exit)) ⌝ }
 {

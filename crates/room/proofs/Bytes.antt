@@ -11,7 +11,7 @@ use Rattle.base.specs.Lists.{every}
 use Rattle.base.proofs.Laws.{clash}
 use Rattle.base.proofs.Loops.{and-true}
 use Rattle.columns.specs.Columns.{padTo, columns, isBlank, isDigit, blank, digits, count, countTo}
-use Rattle.forms.specs.Form.{Row, formOf}
+use Rattle.forms.specs.Form.{FieldRule, formOf}
 use Rattle.forms.specs.declared.Form.{Form}
 use Rattle.forms.specs.declared.Form.the-variants.{Fits, Broken}
 use Rattle.lines.specs.Lines.{startWith, pieces, noCR, Line, numbered, linesFrom, linesOf, skipped}
@@ -104,7 +104,7 @@ filled-long a b line h1 e = go (drop (a - 1) line) refl e
 
 -- ---- records of a file
 
-module _ {X : Type 0} (rows : List Row) (read : Line → X) (least : ℕ) (long : (line : List ℕ) → formOf rows line ≡ Fits → least ≤ length line) where
+module _ {X : Type 0} (rows : List FieldRule) (read : Line → X) (least : ℕ) (long : (line : List ℕ) → formOf rows line ≡ Fits → least ≤ length line) where
   held-one : (l : Line) → least * length (listed (heldLine rows read l)) ≤ length (l .text)
   held-one l = go (skipped (l .text)) (formOf rows (l .text)) refl
     where

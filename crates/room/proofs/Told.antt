@@ -9,7 +9,7 @@ use lib.Dec.{eqb}
 use borrow.Author.Tests.{ltb-false}
 use Rattle.base.specs.Lists.{All, nil, cons, countIf, gathered}
 use Rattle.base.proofs.Laws.{apart}
-use Rattle.forms.specs.Form.{Row, formOf}
+use Rattle.forms.specs.Form.{FieldRule, formOf}
 use Rattle.forms.specs.Columns.{serviceColumns, frequencyColumns, categoryColumns, attributeColumns, callColumns}
 use Rattle.forms.specs.Kinds.{kindOf}
 use Rattle.forms.specs.declared.Form.{Form}
@@ -43,7 +43,7 @@ use Rattle.room.proofs.Bytes.{bytesOf, bytes-append, every-long}
 abbrev said : Told → ℕ
 said t = length (asCall t) + length (asRange t)
 
-marked : (rows : List Row) (text : List ℕ) → (formOf rows text ≡ Fits → planBytes ≤ length text) → (t : Told) → said t ≤ 1 → planBytes * said (formed (formOf rows text) t) ≤ length text
+marked : (rows : List FieldRule) (text : List ℕ) → (formOf rows text ≡ Fits → planBytes ≤ length text) → (t : Told) → said t ≤ 1 → planBytes * said (formed (formOf rows text) t) ≤ length text
 marked rows text long t one = go (formOf rows text) refl
   where
     go : (f : Form) → formOf rows text ≡ f → planBytes * said (formed f t) ≤ length text

@@ -13,7 +13,7 @@ use Rattle.base.proofs.Laws.{apart}
 use Rattle.lines.specs.Lines.{Line, linesOf}
 use Rattle.timetable.specs.Delivery.{StopRecord, Service}
 use Rattle.timetable.specs.Layout.{mostCalls, kindZ}
-use Rattle.timetable.specs.Plan.{toldIn, tolds, opens}
+use Rattle.timetable.specs.Plan.{toldIn, tolds, opensService}
 use Rattle.timetable.specs.Service.{headLines, blocks, callsOf, serviceOf}
 use Rattle.timetable.specs.Table.{stops#, services#, stopsAt, resolved, withStop, stopNumberAt, tableOf, isTable}
 use Rattle.timetable.specs.declared.Opening.{Opening}
@@ -96,7 +96,7 @@ held-back ss h = record {
 head-formed : (ls : List Line) → All Formed (tolds ls) → All Formed (tolds (headLines ls))
 unfolding headLines tolds
 head-formed [] nil = nil
-head-formed (l ∷ ls) (cons h t) = go (opens l) (head-formed ls t)
+head-formed (l ∷ ls) (cons h t) = go (opensService l) (head-formed ls t)
   where
     go : (x : Bool) → All Formed (tolds (headLines ls)) → All Formed (tolds (cond x [] (l ∷ headLines ls)))
     go true k = nil
@@ -105,7 +105,7 @@ head-formed (l ∷ ls) (cons h t) = go (opens l) (head-formed ls t)
 blocks-formed : (ls : List Line) → All Formed (tolds ls) → All (λ (b : List Line). All Formed (tolds b)) (blocks ls)
 unfolding blocks tolds
 blocks-formed [] nil = nil
-blocks-formed (l ∷ ls) (cons h t) = go (opens l) (blocks-formed ls t)
+blocks-formed (l ∷ ls) (cons h t) = go (opensService l) (blocks-formed ls t)
   where
     go : (x : Bool) → All (λ (b : List Line). All Formed (tolds b)) (blocks ls) → All (λ (b : List Line). All Formed (tolds b)) (cond x ((l ∷ headLines ls) ∷ blocks ls) (blocks ls))
     go true k = cons (cons h (head-formed ls t)) k

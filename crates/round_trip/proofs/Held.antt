@@ -17,7 +17,7 @@ use Rattle.timetable.specs.Layout.{serviceHead, callSize, mostCalls, kindZ, kin
 use Rattle.timetable.specs.Plan.{VE}
 use Rattle.timetable.specs.Ranges.{hasArrival}
 use Rattle.timetable.specs.Runs.{openingSound}
-use Rattle.timetable.specs.Table.{callAt, recordWords, calls#, serviceAt, servicesIn, stops#, services#, servicesPlace, used, stopsAt, tableOf, withStop, stopNumberAt, resolved, callSound, legsSound, serviceSound, sizesSound, recordSound, recordsSound, isTable}
+use Rattle.timetable.specs.Table.{callAt, wordCountIn, calls#, serviceAt, servicesIn, stops#, services#, servicesPlace, used, stopsAt, tableOf, withStop, stopNumberAt, resolved, callSound, legsSound, serviceSound, sizesSound, recordSound, recordsSound, isTable}
 use Rattle.timetable.specs.declared.Opening.{Opening}
 use Rattle.timetable.specs.declared.Call.{Call}
 use Rattle.timetable.proofs.Rows.{length-rows}
@@ -324,7 +324,7 @@ unfolding recordsSound servicesIn
 records-are-sound n zero u e = nil
 records-are-sound n (suc v) u e =
     let r = and-true (recordSound n u) _ e in
-    cons (record-is-sound n u (r .0)) (records-are-sound n v (drop (recordWords u) u) (r .1))
+    cons (record-is-sound n u (r .0)) (records-are-sound n v (drop (wordCountIn u) u) (r .1))
 
 resolved-held : (stops : List StopRecord) (n : ℕ) (ss : List Service) → All (Sound n) ss → every serviceWritable (map (resolved stops) ss) ≡ true → All ServiceHeld (map (resolved stops) ss)
 unfolding every

@@ -8,14 +8,14 @@ use lib.Seq.{take-at, drop-at}
 use Rattle.base.specs.Lists.{All, gathered}
 use Rattle.timetable.specs.Delivery.{StopRecord, Service, Delivery}
 use Rattle.timetable.specs.Layout.{headerSize, firstService}
-use Rattle.timetable.specs.Table.{pointing, bitFieldWords, stopWords, interchangeWords, classWords, serviceSize, serviceWords, sections, tableWords, recordWords, services#, servicesPlace}
+use Rattle.timetable.specs.Table.{pointing, bitFieldWords, stopWords, interchangeWords, classWords, serviceSize, serviceWords, sections, tableWords, wordCountIn, services#, servicesPlace}
 use Rattle.timetable.proofs.Records.{twelve, fields-length, stops-length, interchanges-length, classes-length, service-length}
 use Rattle.plan_services.specs.Services.{atLine, renumbered, serviceLines}
 use Rattle.round_trip.specs.Lines.{unlined, exceptLines}
 
 -- ---- the records
 
-first-word : (s : Service) (r : List ℕ) → recordWords (serviceWords s ++ r) ≡ serviceSize s
+first-word : (s : Service) (r : List ℕ) → wordCountIn (serviceWords s ++ r) ≡ serviceSize s
 unfolding serviceWords
 first-word s r = refl
 

@@ -12,7 +12,7 @@ use Rattle.timetable.specs.Ranges.{places, lastPlace, fromPlace, toPlace, legsO
 use Rattle.timetable.specs.Table.{rowsIn}
 use Rattle.timetable.specs.declared.Call.{Call}
 use Rattle.timetable.specs.declared.End.{End}
-use Rattle.draft.specs.Draft.{callsIn}
+use Rattle.draft.specs.Inner.Draft.{callsIn}
 
 abbrev routeR : List Call
 routeR =

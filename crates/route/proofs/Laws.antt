@@ -15,8 +15,8 @@ use Rattle.fields.specs.declared.StopNumber.{StopNumber}
 use Rattle.timetable.specs.Ranges.{places, firstPlace, lastPlace, callsAt}
 use Rattle.timetable.specs.Table.{rowsIn}
 use Rattle.timetable.specs.declared.Call.{Call}
-use Rattle.draft.specs.Draft.{draftCall, callBack, callsIn}
-use Rattle.route.specs.Route.{meets, placeOf}
+use Rattle.draft.specs.Inner.Draft.{draftCall, callBack, callsIn}
+use Rattle.route.specs.Inner.Route.{meets, routePlace}
 use Rattle.route.specs.declared.Sought.{Sought}
 use Rattle.route.specs.declared.Sought.the-variants.{Calling, Departing, Arriving}
 use Rattle.route.specs.declared.Place.the-variants.{At, Nowhere}
@@ -145,11 +145,11 @@ module _ (t : Call → Bool) (w : List ℕ) (c at : ℕ) (i : RouteIndex) (ks : 
   pub first-again : (b : Bool) → i .0 < c → b ≡ t (callBack (drop at w) .1) → b ≡ false → placesFrom t w c (i .0 + 1) (at + draftCall) ≡ ks
   first-again b h e f = sym (places-turn t w c (i .0) at false h (sym f ∙ e)) ∙ v
 
-  pub first-out : (b : Bool) → i .0 < c → b ≡ t (callBack (drop at w) .1) → b ≡ true → At i ≡ placeOf (firstPlace ks)
-  first-out b h e f = ap (λ (l : List ℕ). placeOf (firstPlace l)) (sym (places-turn t w c (i .0) at true h (sym f ∙ e)) ∙ v)
+  pub first-out : (b : Bool) → i .0 < c → b ≡ t (callBack (drop at w) .1) → b ≡ true → At i ≡ routePlace (firstPlace ks)
+  first-out b h e f = ap (λ (l : List ℕ). routePlace (firstPlace l)) (sym (places-turn t w c (i .0) at true h (sym f ∙ e)) ∙ v)
 
-  pub first-done : c ≤ i .0 → Nowhere ≡ placeOf (firstPlace ks)
-  first-done h = ap (λ (l : List ℕ). placeOf (firstPlace l)) (sym (places-none t w c (i .0) at h) ∙ v)
+  pub first-done : c ≤ i .0 → Nowhere ≡ routePlace (firstPlace ks)
+  first-done h = ap (λ (l : List ℕ). routePlace (firstPlace l)) (sym (places-none t w c (i .0) at h) ∙ v)
 
 pub ruleset firsts = (tests, places-all, first-again, first-out, first-done)
 
@@ -164,14 +164,14 @@ module _ (t : Call → Bool) (w : List ℕ) (left at : ℕ) (o : Option ℕ) (v 
   pub last-again : (b : Bool) → 0 < left → at ≡ draftCall * left → b ≡ t (callBack (drop (at - draftCall) w) .1) → b ≡ false → lastPlace (places t 0 (callsIn (left - 1) w)) ≡ o
   last-again b h p e f = back false h p (sym f ∙ e)
 
-  pub last-out : (b : Bool) → 0 < left → at ≡ draftCall * left → b ≡ t (callBack (drop (at - draftCall) w) .1) → b ≡ true → At (record { 0 = left - 1 }) ≡ placeOf o
-  last-out b h p e f = ap placeOf (back true h p (sym f ∙ e))
+  pub last-out : (b : Bool) → 0 < left → at ≡ draftCall * left → b ≡ t (callBack (drop (at - draftCall) w) .1) → b ≡ true → At (record { 0 = left - 1 }) ≡ routePlace o
+  last-out b h p e f = ap routePlace (back true h p (sym f ∙ e))
 
-  pub last-done : left ≤ 0 → Nowhere ≡ placeOf o
+  pub last-done : left ≤ 0 → Nowhere ≡ routePlace o
   unfolding rowsIn places lastPlace
   last-done h =
       let z : 0 ≡ left = omega arith in
-      ap placeOf (ap (λ (k : ℕ). lastPlace (places t 0 (callsIn k w))) z ∙ v)
+      ap routePlace (ap (λ (k : ℕ). lastPlace (places t 0 (callsIn k w))) z ∙ v)
 
 pub ruleset lasts = (tests, last-again, last-out, last-done)
 
@@ -187,11 +187,11 @@ module _ (n : StopNumber) (w : List ℕ) (c at before : ℕ) (i : RouteIndex) (o
     pub nth-again : here ≤ before → getElem? (placesFrom (callsAt n) w c (i .0 + 1) (at + draftCall)) (before - here) ≡ o
     nth-again l = sym (nth-behind (callsAt n call) (i .0) rest here e before l) ∙ turn
 
-    pub nth-out : before < here → At i ≡ placeOf o
-    nth-out l = ap placeOf (sym (nth-front (callsAt n call) (i .0) rest here e before l) ∙ turn)
+    pub nth-out : before < here → At i ≡ routePlace o
+    nth-out l = ap routePlace (sym (nth-front (callsAt n call) (i .0) rest here e before l) ∙ turn)
 
-  pub nth-done : c ≤ i .0 → Nowhere ≡ placeOf o
-  nth-done h = ap placeOf (ap (λ (l : List ℕ). getElem? l before) (sym (places-none (callsAt n) w c (i .0) at h)) ∙ v)
+  pub nth-done : c ≤ i .0 → Nowhere ≡ routePlace o
+  nth-done h = ap routePlace (ap (λ (l : List ℕ). getElem? l before) (sym (places-none (callsAt n) w c (i .0) at h)) ∙ v)
 
 pub nth-start : (n : StopNumber) (k : ℕ) (w : List ℕ) (c : ℕ) → getElem? (placesFrom (callsAt n) w c 0 0) k ≡ getElem? (places (callsAt n) 0 (callsIn c w)) k
 nth-start n k w c = ap (λ (l : List ℕ). getElem? l k) (places-all (callsAt n) w c)

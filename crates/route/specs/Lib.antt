@@ -1,1 +1,1 @@
-pub mod Route
+pub mod Inner

@@ -18,8 +18,8 @@ ghost use lib.Dec.{eqb, ltb};
 ghost use lib.ListN.{length, drop, getElem?};
 ghost use Rattle.timetable.specs.Ranges.{places, callsAt, firstPlace, lastPlace, fromStop, toStop, fromPlace, toPlace, legsOf};
 ghost use Rattle.timetable.specs.Service.{loose as isLoose, legsOn};
-ghost use Rattle.draft.specs.Draft.{draftCall, callBack, callsIn};
-ghost use Rattle.route.specs.Route.{meets, placeOf, foundOf};
+ghost use Rattle.draft.specs.Inner.Draft.{draftCall, callBack, callsIn};
+ghost use Rattle.route.specs.Inner.Route.{meets, routePlace, foundOf};
 
 // Which calls are sought: those at a stop, those that depart there at a time, or those that arrive there at one.
 enum Sought {
@@ -35,7 +35,7 @@ enum Place {
 }
 
 // Both ends of a range in order, or that one is not found or they are not.
-pub enum Found {
+pub enum RangeFound {
     Between(RouteIndex, RouteIndex),
     Missing,
 }
@@ -43,7 +43,7 @@ pub enum Found {
 // ---- a range
 
 // The legs of a range over the c calls of w.
-pub fn legs_on(w: &[u32], c: u32, range: RangeLine) -> Found
+pub fn legs_on(w: &[u32], c: u32, range: RangeLine) -> RangeFound
     requires { ⌜ draftCall * c ≤ length (now w) ⌝ }
     ensures { λ r. ⌜ r ≡ foundOf (legsOn (callsIn c (now (w .entry))) range) ⌝ }
 {
@@ -63,29 +63,29 @@ fn is_loose(part: Part) -> bool
     }
 }
 
-fn legs_of(w: &[u32], c: u32, e: Ends, loose: bool) -> Found
+fn legs_of(w: &[u32], c: u32, e: Ends, loose: bool) -> RangeFound
     requires { ⌜ draftCall * c ≤ length (now w) ⌝ }
     ensures { λ r. ⌜ r ≡ foundOf (legsOf loose (callsIn c (now (w .entry))) e) ⌝ }
 {
     let f = e.from;
     let t = e.to;
     let Place::At(from) = from_place(w, c, f) else {
-        return Found::Missing;
+        return RangeFound::Missing;
     };
     let Place::At(to) = to_place(w, c, t) else {
-        return Found::Missing;
+        return RangeFound::Missing;
     };
     if timetable::in_order(loose, from.0, to.0) {
-        return Found::Between(from, to);
+        return RangeFound::Between(from, to);
     }
-    Found::Missing
+    RangeFound::Missing
 }
 
 // ---- its ends
 
 fn from_place(w: &[u32], c: u32, e: End) -> Place
     requires { ⌜ draftCall * c ≤ length (now w) ⌝ }
-    ensures { λ r. ⌜ r ≡ placeOf (fromPlace (callsIn c (now (w .entry))) e) ⌝ }
+    ensures { λ r. ⌜ r ≡ routePlace (fromPlace (callsIn c (now (w .entry))) e) ⌝ }
 {
     let p = e.place;
     let d = e.detail;
@@ -99,7 +99,7 @@ fn from_place(w: &[u32], c: u32, e: End) -> Place
 
 fn to_place(w: &[u32], c: u32, e: End) -> Place
     requires { ⌜ draftCall * c ≤ length (now w) ⌝ }
-    ensures { λ r. ⌜ r ≡ placeOf (toPlace (callsIn c (now (w .entry))) e) ⌝ }
+    ensures { λ r. ⌜ r ≡ routePlace (toPlace (callsIn c (now (w .entry))) e) ⌝ }
 {
     let p = e.place;
     let d = e.detail;
@@ -113,7 +113,7 @@ fn to_place(w: &[u32], c: u32, e: End) -> Place
 
 // An index that a route of c calls has.
 fn on_route(c: u32, i: RouteIndex) -> Place
-    ensures { λ r. ⌜ r ≡ placeOf (cond (ltb (i .0) c) (some (i .0)) none) ⌝ }
+    ensures { λ r. ⌜ r ≡ routePlace (cond (ltb (i .0) c) (some (i .0)) none) ⌝ }
 {
     if i.0 < c {
         return Place::At(i);
@@ -122,7 +122,7 @@ fn on_route(c: u32, i: RouteIndex) -> Place
 }
 
 fn last_call(c: u32) -> Place
-    ensures { λ r. ⌜ r ≡ placeOf (cond (ltb (c - 1) c) (some (c - 1)) none) ⌝ }
+    ensures { λ r. ⌜ r ≡ routePlace (cond (ltb (c - 1) c) (some (c - 1)) none) ⌝ }
 {
     if c < 1 {
         return Place::Nowhere;
@@ -133,7 +133,7 @@ fn last_call(c: u32) -> Place
 // From a stop: searched from the front.
 fn from_stop(w: &[u32], c: u32, n: StopNumber, d: Detail) -> Place
     requires { ⌜ draftCall * c ≤ length (now w) ⌝ }
-    ensures { λ r. ⌜ r ≡ placeOf (fromStop (callsIn c (now (w .entry))) n d) ⌝ }
+    ensures { λ r. ⌜ r ≡ routePlace (fromStop (callsIn c (now (w .entry))) n d) ⌝ }
 {
     match d {
         Detail::Plain => place_sought(w, c, Sought::Calling(n), false),
@@ -146,7 +146,7 @@ fn from_stop(w: &[u32], c: u32, n: StopNumber, d: Detail) -> Place
 // To a stop: searched from the end, but appearances count from the route's start.
 fn to_stop(w: &[u32], c: u32, n: StopNumber, d: Detail) -> Place
     requires { ⌜ draftCall * c ≤ length (now w) ⌝ }
-    ensures { λ r. ⌜ r ≡ placeOf (toStop (callsIn c (now (w .entry))) n d) ⌝ }
+    ensures { λ r. ⌜ r ≡ routePlace (toStop (callsIn c (now (w .entry))) n d) ⌝ }
 {
     match d {
         Detail::Plain => place_sought(w, c, Sought::Calling(n), true),
@@ -161,7 +161,7 @@ fn to_stop(w: &[u32], c: u32, n: StopNumber, d: Detail) -> Place
 // Of the calls that are sought the last, or the first.
 fn place_sought(w: &[u32], c: u32, s: Sought, last: bool) -> Place
     requires { ⌜ draftCall * c ≤ length (now w) ⌝ }
-    ensures { λ r. ⌜ r ≡ placeOf (cond last lastPlace firstPlace (places (meets s) 0 (callsIn c (now (w .entry))))) ⌝ }
+    ensures { λ r. ⌜ r ≡ routePlace (cond last lastPlace firstPlace (places (meets s) 0 (callsIn c (now (w .entry))))) ⌝ }
 {
     if last {
         return last_place(w, c, s);
@@ -171,7 +171,7 @@ fn place_sought(w: &[u32], c: u32, s: Sought, last: bool) -> Place
 
 fn first_place(w: &[u32], c: u32, s: Sought) -> Place
     requires { ⌜ draftCall * c ≤ length (now w) ⌝ }
-    ensures { λ r. ⌜ r ≡ placeOf (firstPlace (places (meets s) 0 (callsIn c (now (w .entry))))) ⌝ }
+    ensures { λ r. ⌜ r ≡ routePlace (firstPlace (places (meets s) 0 (callsIn c (now (w .entry))))) ⌝ }
 {
     let mut i = RouteIndex(0);
     let mut at: usize = 0;
@@ -188,7 +188,7 @@ fn first_place(w: &[u32], c: u32, s: Sought) -> Place
 // Searched from the end.
 fn last_place(w: &[u32], c: u32, s: Sought) -> Place
     requires { ⌜ draftCall * c ≤ length (now w) ⌝ }
-    ensures { λ r. ⌜ r ≡ placeOf (lastPlace (places (meets s) 0 (callsIn c (now (w .entry))))) ⌝ }
+    ensures { λ r. ⌜ r ≡ routePlace (lastPlace (places (meets s) 0 (callsIn c (now (w .entry))))) ⌝ }
 {
     // past the last call
     let mut i = RouteIndex(c);
@@ -206,7 +206,7 @@ fn last_place(w: &[u32], c: u32, s: Sought) -> Place
 // The k-th call at a stop, from 0.
 fn nth_place(w: &[u32], c: u32, n: StopNumber, k: Appearance) -> Place
     requires { ⌜ draftCall * c ≤ length (now w) ⌝ }
-    ensures { λ r. ⌜ r ≡ placeOf (getElem? (places (callsAt n) 0 (callsIn c (now (w .entry)))) (k .0)) ⌝ }
+    ensures { λ r. ⌜ r ≡ routePlace (getElem? (places (callsAt n) 0 (callsIn c (now (w .entry)))) (k .0)) ⌝ }
 {
     // its appearances from here on that come before the one sought
     let mut before = k;

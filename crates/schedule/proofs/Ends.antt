@@ -8,7 +8,7 @@ use native.Mathlib.Nat.{sub-zero}
 use lib.ListN.{drop}
 use Rattle.base.proofs.Laws.{tests}
 use Rattle.fields.specs.declared.RouteIndex.{RouteIndex}
-use Rattle.draft.specs.Draft.{draftRange, lineBack, rangeBack, rangesOn}
+use Rattle.draft.specs.Inner.Draft.{draftRange, lineBack, rangeBack, rangesOn}
 use Rattle.timetable.specs.Delivery.{Legs}
 use Rattle.timetable.specs.Offences.{offenceAt, given, _<|>_, verdictBy}
 use Rattle.timetable.specs.Service.{legsOn}
@@ -19,13 +19,13 @@ use Rattle.timetable.specs.declared.RangeLine.{RangeLine}
 use Rattle.timetable.specs.declared.Verdict.{Verdict}
 use Rattle.timetable.specs.declared.Verdict.the-variants.{Fine, Offends}
 use Rattle.timetable.proofs.Rows.{rows-turn, rows-none}
-use Rattle.route.specs.Route.{foundOf}
-use Rattle.route.specs.declared.Found.{Found}
-use Rattle.route.specs.declared.Found.the-variants.{Between, Missing}
+use Rattle.route.specs.Inner.Route.{foundOf}
+use Rattle.route.specs.declared.RangeFound.{RangeFound}
+use Rattle.route.specs.declared.RangeFound.the-variants.{Between, Missing}
 
 -- ---- one range, for `search ending`: l are its legs, f what was found
 
-module _ (l : Option Legs) (f : Found) (e : f ≡ foundOf l) where
+module _ (l : Option Legs) (f : RangeFound) (e : f ≡ foundOf l) where
   missing-none : (b : Bool) → (l ≡ none → b ≡ true) → ((g : Legs) → l ≡ some g → b ≡ false) → b ≡ isNone l
   missing-none b p q = go l refl
     where

@@ -8,7 +8,7 @@ use native.Mathlib.Nat.{sub-zero}
 use lib.ListN.{drop}
 use lib.Dec.{eqb}
 use Rattle.base.proofs.Laws.{tests}
-use Rattle.draft.specs.Draft.{draftCall, callBack, callsOn}
+use Rattle.draft.specs.Inner.Draft.{draftCall, callBack, callsOn}
 use Rattle.timetable.specs.Offences.{offenceAt, given, _<|>_, verdictBy}
 use Rattle.timetable.specs.Ranges.{hasArrival, hasDeparture}
 use Rattle.timetable.specs.Checks.{timesStated, notBelow, later, timesRise, lastStated, timesFirst}

@@ -1,7 +1,7 @@
 // The checks of a service by line, on its draft: the times of its calls (15) and the ends of its ranges (16).
 use draft::DRAFT_CALL_WORDS;
 use draft::DRAFT_RANGE_WORDS;
-use route::Found;
+use route::RangeFound;
 use timetable::Call;
 use timetable::RangeLine;
 use timetable::Verdict;
@@ -13,7 +13,7 @@ ghost use Rattle.timetable.specs.Offences.{verdictBy};
 ghost use Rattle.timetable.specs.Ranges.{hasArrival, hasDeparture};
 ghost use Rattle.timetable.specs.Service.{legsOn};
 ghost use Rattle.timetable.specs.Checks.{timesStated, notBelow, later as laterOf, timesRise, lastStated, timesFirst, isNone, endsFirst};
-ghost use Rattle.draft.specs.Draft.{draftCall, draftRange, callsOn, callsIn, rangesOn};
+ghost use Rattle.draft.specs.Inner.Draft.{draftCall, draftRange, callsOn, callsIn, rangesOn};
 
 // ---- 15
 
@@ -144,7 +144,7 @@ fn ends_missing(range: RangeLine, calls: &[u32], c: u32) -> bool
 {
     let found = route::legs_on(calls, c, range);
     match found {
-        Found::Between(from, to) => false,
-        Found::Missing => true,
+        RangeFound::Between(from, to) => false,
+        RangeFound::Missing => true,
     }
 }

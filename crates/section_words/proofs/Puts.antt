@@ -16,12 +16,12 @@ use Rattle.words.specs.Words.{write}
 use Rattle.words.proofs.Laws.{write-none, write-one, write-write}
 use Rattle.timetable.specs.Layout.{mostFileBytes, bitFieldSize, stopSize, interchangeSize, classSize}
 use Rattle.timetable.specs.Files.{nameLength}
-use Rattle.sections.specs.Sections.{numberOn}
+use Rattle.sections.specs.Inner.Sections.{numberOn}
 use Rattle.sections.specs.declared.Section.{Section}
 use Rattle.sections.specs.declared.Section.the-variants.{BitFields, Stops, Interchanges, Classes}
 use Rattle.sections.specs.declared.Numbered.{Numbered}
 use Rattle.sections.specs.declared.Numbered.the-variants.{Number, Skipped, Broken}
-use Rattle.section_words.specs.Words.{recordWords, wordsOn, sectionWords}
+use Rattle.section_words.specs.Inner.Words.{recordWords, wordsOn, sectionWords}
 use Rattle.section_words.proofs.Words.{words-skipped, words-broken, words-number, sizeOf, length-record}
 
 -- ---- a record

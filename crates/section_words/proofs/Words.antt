@@ -16,13 +16,13 @@ use Rattle.forms.specs.declared.Form.the-variants.{Fits, Broken as BrokenForm}
 use Rattle.timetable.specs.Layout.{bitFieldSize, stopSize, interchangeSize, classSize}
 use Rattle.timetable.specs.Files.{Held, skip, listed, held-in, heldBy, bitFieldOf, stopOf, interchangeOf, classOf}
 use Rattle.timetable.specs.Table.{bitFieldWords, stopWords, interchangeWords, classWords}
-use Rattle.sections.specs.Sections.{numberedBy, numberOn, asNumber, numbers}
+use Rattle.sections.specs.Inner.Sections.{numberedBy, numberOn, asNumber, numbers}
 use Rattle.sections.specs.declared.Section.{Section}
 use Rattle.sections.specs.declared.Section.the-variants.{BitFields, Stops, Interchanges, Classes}
 use Rattle.sections.specs.declared.Numbered.{Numbered}
 use Rattle.sections.specs.declared.Numbered.the-variants.{Number, Skipped, Broken}
 use Rattle.sections.proofs.Files.{count-fields, count-stops, count-interchanges, count-classes}
-use Rattle.section_words.specs.Words.{recordWords, wordsOn, sectionWords}
+use Rattle.section_words.specs.Inner.Words.{recordWords, wordsOn, sectionWords}
 
 -- ---- the words of a section are those of what its lines hold
 

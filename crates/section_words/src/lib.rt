@@ -18,7 +18,7 @@ ghost use Rattle.lines.specs.Lines.{linesOf};
 ghost use Rattle.words.specs.Words.{write};
 ghost use Rattle.timetable.specs.Layout.{mostFileBytes, bitFieldSize, stopSize, interchangeSize, classSize};
 ghost use Rattle.timetable.specs.Files.{nameLength};
-ghost use Rattle.section_words.specs.Words.{wordsOn, sectionWords};
+ghost use Rattle.section_words.specs.Inner.Words.{wordsOn, sectionWords};
 
 // Writes the words of a section from place p on; the place after them.
 pub fn put_section(section: Section, f: &[u8], t: &mut [u32], p: usize) -> usize

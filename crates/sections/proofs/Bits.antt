@@ -19,15 +19,15 @@ use Rattle.forms.specs.Form.{formOf}
 use Rattle.forms.specs.Columns.{bitFieldColumns}
 use Rattle.forms.specs.declared.Form.{Form}
 use Rattle.forms.specs.declared.Form.the-variants.{Fits, Broken as BrokenForm}
-use Rattle.map.specs.Map.{recordWords, Mapped, Finds, Distinct, numbersIn, placesIn}
+use Rattle.map.specs.Inner.Map.{mapRecordSize, Mapped, Finds, Distinct, numbersIn, placesIn}
 use Rattle.map.specs.declared.Found.{Found}
 use Rattle.map.specs.declared.Found.the-variants.{At, Nowhere}
 use Rattle.map.proofs.Columns.{length-column}
 use Rattle.map.proofs.Meaning.{found-inside, found-number, found-room, first-found, getD-column}
 use Rattle.timetable.specs.Delivery.{BitField}
 use Rattle.timetable.specs.Files.{held-in, listed, skip, heldBy, bitFieldOf, hasField}
-use Rattle.sections.specs.Sections.{numberedBy, numberOn, wordsBy, wordsOf}
-use Rattle.sections.specs.SectionMap.{textAt, ifHeld, texts, MapOf}
+use Rattle.sections.specs.Inner.Sections.{numberedBy, numberOn, wordsBy, wordsOf}
+use Rattle.sections.specs.Inner.SectionMap.{textAt, ifHeld, texts, MapOf}
 use Rattle.sections.specs.declared.Section.the-variants.{BitFields}
 use Rattle.sections.specs.declared.Numbered.the-variants.{Skipped}
 use Rattle.sections.proofs.Held.{field-numbers}
@@ -84,7 +84,7 @@ module _ (f m : List ℕ) (w : MapOf BitFields f m) where
         ap wordsBy (sym (find-none (λ (b : BitField). eqb (b .number) k) (held-in bitFieldOf (linesOf f)) (sym q)))
 
     module _ (i : ℕ) (d : r ≡ At i) where
-      pub bits-room : recordWords * i + recordWords ≤ length m
+      pub bits-room : mapRecordSize * i + mapRecordSize ≤ length m
       bits-room = found-room m (w .count) k i r (w .filled .chained) (e .among (w .count) (w .filled .chained)) d
 
       inside : i < w .count
@@ -98,7 +98,7 @@ module _ (f m : List ℕ) (w : MapOf BitFields f m) where
           ∙ ap fieldOf (List·getD-map (textAt f) (placesIn (w .count) m) i 0 ∙ ap (textAt f) (getD-column 2 (w .count) i m inside)))
 
       -- at the place p
-      pub bits-there : (p : ℕ) (t ws : List ℕ) → p ≡ getD m (recordWords * i + 2) 0 → t ≡ textAt f p → ws ≡ bitsIn t → ws ≡ wordsOf k (held-in bitFieldOf (linesOf f))
+      pub bits-there : (p : ℕ) (t ws : List ℕ) → p ≡ getD m (mapRecordSize * i + 2) 0 → t ≡ textAt f p → ws ≡ bitsIn t → ws ≡ wordsOf k (held-in bitFieldOf (linesOf f))
       bits-there p t ws x y z =
           let fields : List BitField = held-in bitFieldOf (linesOf f) in
           let a : numbersIn (w .count) m ≡ map (λ (b : BitField). b .number) fields = w .filled .numbers-held ∙ field-numbers (linesOf f) in

@@ -21,8 +21,8 @@ use Rattle.timetable.specs.declared.Offence.{Offence}
 use Rattle.timetable.specs.declared.Checked.{Checked}
 use Rattle.timetable.specs.declared.Checked.the-variants.{Holds, Refused}
 use Rattle.timetable.proofs.Offences.{first-same, checked-holds, checked-refused}
-use Rattle.sections.specs.Sections.{numbers, numberOn, recordOffence, lineOffence}
-use Rattle.sections.specs.SectionMap.{MapOf, Lent, Ready}
+use Rattle.sections.specs.Inner.Sections.{numbers, numberOn, recordOffence, lineOffence}
+use Rattle.sections.specs.Inner.SectionMap.{MapOf, Lent, Ready}
 use Rattle.sections.specs.declared.Section.the-variants.{BitFields, Stops, Interchanges, Classes}
 use Rattle.sections.proofs.Held.{by-number, field-numbers, stop-numbers, interchange-numbers, class-numbers}
 use Rattle.sections.proofs.Offences.{just}

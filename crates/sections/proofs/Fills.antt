@@ -15,7 +15,7 @@ use Rattle.base.proofs.Lists.{gathered-append}
 use Rattle.lines.specs.Lines.{Line, linesOf, cutAt}
 use Rattle.lines.specs.declared.Cut.{Cut}
 use Rattle.lines.proofs.Laws.{lines-nil}
-use Rattle.map.specs.Map.{recordWords, wordValues, column, Chained, Added, Distinct}
+use Rattle.map.specs.Inner.Map.{mapRecordSize, wordValues, column, Chained, Added, Distinct}
 use Rattle.map.proofs.Puts.{empty-zeros}
 use Rattle.map.proofs.Meaning.{distinct-none, distinct-more}
 use Rattle.timetable.specs.Layout.{mostFileBytes}
@@ -26,8 +26,8 @@ use Rattle.timetable.specs.declared.Verdict.{Verdict}
 use Rattle.timetable.specs.declared.Verdict.the-variants.{Fine}
 use Rattle.timetable.specs.declared.Checked.the-variants.{Holds, Refused}
 use Rattle.timetable.proofs.Offences.{verdict-fine}
-use Rattle.sections.specs.Sections.{numberOn, asNumber, numbers, hasNumber, recordOffence, numberedOffence}
-use Rattle.sections.specs.SectionMap.{ifHeld, texts, Filled, Lent, MapAfter, Ready, Reached, PutReady, Put}
+use Rattle.sections.specs.Inner.Sections.{numberOn, asNumber, numbers, hasNumber, recordOffence, numberedOffence}
+use Rattle.sections.specs.Inner.SectionMap.{ifHeld, texts, Filled, Lent, MapAfter, Ready, Reached, PutReady, Put}
 use Rattle.sections.specs.declared.Section.{Section}
 use Rattle.sections.specs.declared.Numbered.{Numbered}
 use Rattle.sections.specs.declared.Numbered.the-variants.{Number, Skipped, Broken}
@@ -69,7 +69,7 @@ module _ (m m′ : List ℕ) (split : ℕ) where
   pub part-chained : (count at : ℕ) → PutReady count split at m → Chained count (take (length m - split) (drop split m))
   part-chained count at k = rw own-part (k .chained)
 
-  pub part-room : (count at : ℕ) → PutReady count split at m → recordWords * count + recordWords ≤ length (take (length m - split) (drop split m))
+  pub part-room : (count at : ℕ) → PutReady count split at m → mapRecordSize * count + mapRecordSize ≤ length (take (length m - split) (drop split m))
   part-room count at k = rw own-part (k .room)
 
   module _ (count x at : ℕ) (k : PutReady count split at m) (a : Added count x at (take (length m - split) (drop split m)) m′) where

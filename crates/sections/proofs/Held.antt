@@ -17,7 +17,7 @@ use Rattle.forms.specs.declared.Form.the-variants.{Fits, Broken as BrokenForm}
 use Rattle.timetable.specs.Delivery.{BitField, StopRecord, Interchange, CategoryClass}
 use Rattle.timetable.specs.Files.{Held, skip, broken, held, listed, held-in, heldBy, heldOffence, bitFieldOf, stopOf, interchangeOf, classOf}
 use Rattle.timetable.specs.declared.Offence.{Offence}
-use Rattle.sections.specs.Sections.{numberedBy, numberOn, asNumber, numbers, numberedOffence}
+use Rattle.sections.specs.Inner.Sections.{numberedBy, numberOn, asNumber, numbers, numberedOffence}
 use Rattle.sections.specs.declared.Section.{Section}
 use Rattle.sections.specs.declared.Section.the-variants.{BitFields, Stops, Interchanges, Classes}
 use Rattle.sections.specs.declared.Numbered.the-variants.{Skipped}

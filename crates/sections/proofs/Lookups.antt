@@ -15,13 +15,13 @@ use Rattle.forms.specs.Columns.{columnsOf}
 use Rattle.forms.specs.declared.Form.{Form}
 use Rattle.forms.specs.declared.Form.the-variants.{Fits, Broken as BrokenForm}
 use Rattle.forms.specs.declared.LineKind.{LineKind}
-use Rattle.map.specs.Map.{Mapped, Finds, numbersIn}
+use Rattle.map.specs.Inner.Map.{Mapped, Finds, numbersIn}
 use Rattle.map.specs.declared.Found.{Found}
 use Rattle.map.specs.declared.Found.the-variants.{At, Nowhere}
 use Rattle.map.proofs.Meaning.{found-none, found-some}
 use Rattle.timetable.specs.Files.{held-in, bitFieldOf, stopOf, interchangeOf, classOf, hasField, hasStop, hasInterchange, hasClass}
-use Rattle.sections.specs.Sections.{lineKind, keyOn, numberOn, numbers, hasNumber}
-use Rattle.sections.specs.SectionMap.{Seen, MapOf, Reached}
+use Rattle.sections.specs.Inner.Sections.{lineKind, keyOn, numberOn, numbers, hasNumber}
+use Rattle.sections.specs.Inner.SectionMap.{Seen, MapOf, Reached}
 use Rattle.sections.specs.declared.Section.{Section}
 use Rattle.sections.specs.declared.Section.the-variants.{BitFields, Stops, Interchanges, Classes}
 use Rattle.sections.specs.declared.Numbered.the-variants.{Number, Skipped, Broken}

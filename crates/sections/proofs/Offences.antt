@@ -19,8 +19,8 @@ use Rattle.timetable.specs.Files.{held-in, bitFieldOf, bitFieldOffence, hasInte
 use Rattle.timetable.specs.declared.Verdict.{Verdict}
 use Rattle.timetable.specs.declared.Verdict.the-variants.{Fine, Offends}
 use Rattle.timetable.proofs.Offences.{then-none, given-none}
-use Rattle.sections.specs.Sections.{numbers, hasNumber, recordOffence, numberedOffence}
-use Rattle.sections.specs.SectionMap.{Reached}
+use Rattle.sections.specs.Inner.Sections.{numbers, hasNumber, recordOffence, numberedOffence}
+use Rattle.sections.specs.Inner.SectionMap.{Reached}
 use Rattle.sections.specs.declared.Section.{Section}
 use Rattle.sections.specs.declared.Section.the-variants.{BitFields, Stops, Interchanges, Classes}
 use Rattle.sections.specs.declared.Numbered.{Numbered}

@@ -11,38 +11,38 @@ use borrow.Author.Tests.{eq-eqb, eqb-true}
 use Rattle.base.specs.Lists.{some-of}
 use Rattle.base.proofs.Laws.{tests, clash}
 use Rattle.lines.specs.Lines.{linesOf}
-use Rattle.map.specs.Map.{wordValues, Mapped, Finds, Distinct, numbersIn}
+use Rattle.map.specs.Inner.Map.{wordValues, Mapped, Finds, Distinct, numbersIn}
 use Rattle.map.specs.declared.Found.{Found}
 use Rattle.map.specs.declared.Found.the-variants.{At, Nowhere}
 use Rattle.map.proofs.Meaning.{distinct-tail, found-inside, found-number, found-room}
 use Rattle.timetable.specs.Delivery.{StopRecord}
 use Rattle.timetable.specs.Files.{held-in, stopOf, hasStop}
-use Rattle.timetable.specs.Table.{placeFrom, stopPlace}
-use Rattle.sections.specs.SectionMap.{MapOf}
+use Rattle.timetable.specs.Table.{stopPlaceFrom, stopPlace}
+use Rattle.sections.specs.Inner.SectionMap.{MapOf}
 use Rattle.sections.specs.declared.Section.the-variants.{Stops}
 use Rattle.sections.proofs.Held.{stop-numbers}
 use Rattle.sections.proofs.Lookups.{has-stop, seen-not, map-seen}
 
 -- no stop has the number
-place-none : (k n : ℕ) (stops : List StopRecord) → hasStop n stops ≡ false → placeFrom k n stops ≡ 0
-unfolding some-of placeFrom
+place-none : (k n : ℕ) (stops : List StopRecord) → hasStop n stops ≡ false → stopPlaceFrom k n stops ≡ 0
+unfolding some-of stopPlaceFrom
 place-none k n [] e = refl
 place-none k n (s ∷ stops) e = go (eqb (s .number) n) e (place-none (k + 1) n stops)
   where
-    go : (u : Bool) → (u || hasStop n stops) ≡ false → (hasStop n stops ≡ false → placeFrom (k + 1) n stops ≡ 0) → cond u k (placeFrom (k + 1) n stops) ≡ 0
+    go : (u : Bool) → (u || hasStop n stops) ≡ false → (hasStop n stops ≡ false → stopPlaceFrom (k + 1) n stops ≡ 0) → cond u k (stopPlaceFrom (k + 1) n stops) ≡ 0
     go true d h = clash (sym d)
     go false d h = h d
 
 -- where no number stands twice, the stop that has it is the first
 place-at : (k n : ℕ) (stops : List StopRecord) (i : ℕ)
-    → Distinct (map (λ (s : StopRecord). s .number) stops) → i < length stops → getD (map (λ (s : StopRecord). s .number) stops) i 0 ≡ n → placeFrom k n stops ≡ k + i
-unfolding placeFrom
+    → Distinct (map (λ (s : StopRecord). s .number) stops) → i < length stops → getD (map (λ (s : StopRecord). s .number) stops) i 0 ≡ n → stopPlaceFrom k n stops ≡ k + i
+unfolding stopPlaceFrom
 place-at k n [] i d l e = absurd (omega arith)
 place-at k n (s ∷ stops) zero d l e = rw (eq-eqb (s .number) n e) (omega arith)
 place-at k n (s ∷ stops) (suc i) d l e =
     go (eqb (s .number) n) refl (place-at (k + 1) n stops i (distinct-tail (s .number) (map (λ (s : StopRecord). s .number) stops) d) (omega arith) e)
   where
-    go : (u : Bool) → eqb (s .number) n ≡ u → placeFrom (k + 1) n stops ≡ k + 1 + i → cond u k (placeFrom (k + 1) n stops) ≡ k + suc i
+    go : (u : Bool) → eqb (s .number) n ≡ u → stopPlaceFrom (k + 1) n stops ≡ k + 1 + i → cond u k (stopPlaceFrom (k + 1) n stops) ≡ k + suc i
     go true q v = absurd (d .apart-at 0 (suc i) (omega arith) (omega (arith, length-map stops (λ (s : StopRecord). s .number))) (eqb-true (s .number) n q ∙ sym e))
     go false q v = v ∙ omega arith
 

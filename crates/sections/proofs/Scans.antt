@@ -22,7 +22,7 @@ use Rattle.timetable.specs.declared.Verdict.the-variants.{Fine, Offends}
 use Rattle.timetable.specs.declared.Checked.{Checked}
 use Rattle.timetable.specs.declared.Checked.the-variants.{Holds, Refused}
 use Rattle.timetable.proofs.Offences.{verdict-fine, verdict-offends}
-use Rattle.sections.specs.Sections.{numberOn, asNumber, numbers, recordOffence, numberedOffence, lineOffence}
+use Rattle.sections.specs.Inner.Sections.{numberOn, asNumber, numbers, recordOffence, numberedOffence, lineOffence}
 use Rattle.sections.specs.declared.Section.{Section}
 use Rattle.sections.specs.declared.Numbered.{Numbered}
 use Rattle.sections.specs.declared.Numbered.the-variants.{Number, Skipped, Broken}

@@ -28,9 +28,9 @@ ghost use Rattle.timetable.specs.Files.{stopsIn, hasStop, stopOffence, namedSto
 ghost use Rattle.timetable.specs.Files.{interchangesIn, interchangeOffence, interchangesFirst};
 ghost use Rattle.timetable.specs.Plan.{threeBytes};
 ghost use Rattle.timetable.specs.Table.{stopPlace};
-ghost use Rattle.sections.specs.Sections.{lineKind, keyOn, numberOn, asNumber, numbers, hasNumber};
-ghost use Rattle.sections.specs.Sections.{recordOffence, numberedOffence, lineOffence, wordsOf};
-ghost use Rattle.sections.specs.SectionMap.{textAt, Seen, MapOf, Lent, MapAfter, Ready, Reached, PutReady, Put};
+ghost use Rattle.sections.specs.Inner.Sections.{lineKind, keyOn, numberOn, asNumber, numbers, hasNumber};
+ghost use Rattle.sections.specs.Inner.Sections.{recordOffence, numberedOffence, lineOffence, wordsOf};
+ghost use Rattle.sections.specs.Inner.SectionMap.{textAt, Seen, MapOf, Lent, MapAfter, Ready, Reached, PutReady, Put};
 ghost use Rattle.sections.specs.declared.Section.the-variants.{BitFields, Stops, Interchanges};
 
 // The sections of the table that files 2 to 4 and 6 give.

@@ -15,13 +15,13 @@ use Rattle.timetable.specs.declared.Offence.{Offence}
 use Rattle.timetable.specs.declared.RangeLine.{RangeLine}
 use Rattle.timetable.specs.declared.Part.the-variants.{Category, Days, Extra}
 use Rattle.draft.proofs.Drafts.{draft-calls, draft-ranges, draft-service}
-use Rattle.draft.specs.Draft.{DraftOf, partIn}
+use Rattle.draft.specs.Inner.Draft.{DraftOf, partIn}
 use Rattle.draft.specs.declared.Counts.{Counts}
 use Rattle.draft.specs.declared.Drafted.{Drafted}
-use Rattle.reading.specs.Reading.{serviceAt, ServiceRead, ReadAs}
+use Rattle.reading.specs.Inner.Reading.{serviceLinesAt, ServiceRead, ReadAs}
 use Rattle.reading.specs.declared.Read.{Read}
 use Rattle.reading.specs.declared.Read.the-variants.{Service as ReadService, Refused as ReadRefused}
-use Rattle.service.specs.Answers.{CheckedAs, Counted, serviceIn, draftFirst, checkBy}
+use Rattle.service.specs.Inner.Answers.{CheckedAs, Counted, serviceIn, draftFirst, checkBy}
 use Rattle.service.specs.declared.ServiceCheck.{ServiceCheck}
 use Rattle.service.specs.declared.ServiceCheck.the-variants.{Refused}
 
@@ -40,7 +40,7 @@ module _ {ls : List Line} {k : Counts} {calls ranges : List ℕ} (d : DraftOf ls
 
 module _ {f : List ℕ} {at n : ℕ} {d : Drafted} {calls ranges : List ℕ} (r : ServiceRead f at n d calls ranges) where
   abbrev ls : List Line
-  ls = serviceAt f at n
+  ls = serviceLinesAt f at n
 
   own-number : d .line ≡ firstLine ls .no
   own-number = r .line ∙ sym (r .own-line)

@@ -17,9 +17,9 @@ use Rattle.timetable.specs.Table.{rowsIn, callAt, categoryAt, dayAt, calls#, ca
 use Rattle.timetable.specs.declared.Verdict.{Verdict}
 use Rattle.timetable.specs.declared.Verdict.the-variants.{Fine}
 use Rattle.timetable.proofs.Rows.{length-rows, rows-within}
-use Rattle.cover.specs.Cover.{onceIn}
+use Rattle.cover.specs.Inner.Cover.{onceIn}
 use Rattle.cover.proofs.Rows.{categories-once, days-once}
-use Rattle.service.specs.Answers.{rowsTorn, daysFirst}
+use Rattle.service.specs.Inner.Answers.{rowsTorn, daysFirst}
 
 -- ---- a part of the words that holds the rows
 

@@ -13,11 +13,11 @@ use Rattle.timetable.specs.declared.Offence.{Offence}
 use Rattle.timetable.specs.declared.Verdict.{Verdict}
 use Rattle.timetable.specs.declared.Verdict.the-variants.{Fine, Offends}
 use Rattle.timetable.proofs.Offences.{verdict-fine, verdict-offends}
-use Rattle.draft.specs.Draft.{draftCall, draftRange, mostRanges, callsOn, callsIn, rangesOn, ranges#}
+use Rattle.draft.specs.Inner.Draft.{draftCall, draftRange, mostRanges, callsOn, callsIn, rangesOn, ranges#}
 use Rattle.draft.specs.declared.Counts.{Counts}
 use Rattle.draft.proofs.Drafts.{ranges-within}
 use Rattle.draft.specs.declared.Drafted.{Drafted}
-use Rattle.service.specs.Answers.{Counted, serviceIn, draftFirst, checkBy}
+use Rattle.service.specs.Inner.Answers.{Counted, serviceIn, draftFirst, checkBy}
 use Rattle.service.specs.declared.ServiceCheck.{ServiceCheck}
 use Rattle.service.specs.declared.ServiceCheck.the-variants.{Refused}
 

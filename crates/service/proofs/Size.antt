@@ -25,11 +25,11 @@ use Rattle.timetable.specs.declared.Verdict.the-variants.{Fine, Offends}
 use Rattle.timetable.proofs.Offences.{verdict-fine, verdict-offends}
 use Rattle.timetable.proofs.Records.{service-length, service-back}
 use Rattle.timetable.proofs.Rows.{length-rows}
-use Rattle.draft.specs.Draft.{callBack, draftCall, draftRange, callsIn, rangesIn, ranges#, partIn, draftedService}
+use Rattle.draft.specs.Inner.Draft.{callBack, draftCall, draftRange, callsIn, rangesIn, ranges#, partIn, draftedService}
 use Rattle.draft.specs.declared.Drafted.{Drafted}
-use Rattle.service_words.specs.Parts.{sizesOf}
+use Rattle.service_words.specs.Inner.Parts.{sizesOf}
 use Rattle.service_words.specs.declared.Sizes.{Sizes}
-use Rattle.service.specs.Answers.{Counted, serviceIn, checkBy, Sized}
+use Rattle.service.specs.Inner.Answers.{Counted, serviceIn, checkBy, Sized}
 use Rattle.service.specs.declared.ServiceCheck.the-variants.{Takes, Refused}
 
 -- ---- a range is held by its line

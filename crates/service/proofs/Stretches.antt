@@ -21,12 +21,12 @@ use Rattle.timetable.specs.Delivery.{BitField, DayRange}
 use Rattle.timetable.specs.Legs.{covers, covering, runsBy, fieldRuns, operated, stretches}
 use Rattle.timetable.specs.Checks.{eachOnce}
 use Rattle.timetable.specs.Table.{rowsIn, dayAt}
-use Rattle.sections.specs.Sections.{wordsBy, wordsOf}
-use Rattle.cover.specs.Cover.{placeFrom}
+use Rattle.sections.specs.Inner.Sections.{wordsBy, wordsOf}
+use Rattle.cover.specs.Inner.Cover.{coverPlaceFrom}
 use Rattle.cover.specs.declared.FirstRange.{FirstRange}
 use Rattle.cover.specs.declared.FirstRange.the-variants.{At, Nowhere}
 use Rattle.cover.proofs.Rows.{rowAt, first-row, place-fits}
-use Rattle.service.specs.Answers.{rowsBroken, rowsTorn}
+use Rattle.service.specs.Inner.Answers.{rowsBroken, rowsTorn}
 
 -- ---- one day
 
@@ -190,7 +190,7 @@ module _ (fields : List BitField) (b : ℕ) (r : List ℕ) where
 
 -- ---- the first of v ranges (bit field, from, to) in w that covers a leg; x is its place
 
-module _ (w : List ℕ) (v leg : ℕ) (x : FirstRange) (e : x ≡ placeFrom leg daySize 0 v w) where
+module _ (w : List ℕ) (v leg : ℕ) (x : FirstRange) (e : x ≡ coverPlaceFrom leg daySize 0 v w) where
   first-found : find (λ (r : DayRange). covers leg (r .legs)) (rowsIn dayAt daySize v w) ≡ rowAt dayAt (λ (r : DayRange). r .legs) daySize (λ w. refl) w x
   first-found = first-row dayAt (λ (r : DayRange). r .legs) daySize (λ w. refl) leg v w ∙ ap (rowAt dayAt (λ (r : DayRange). r .legs) daySize (λ w. refl) w) (sym e)
 
@@ -257,7 +257,7 @@ module _ (fields : List BitField) (w : List ℕ) (v legs : ℕ) where
         ∙ two-stretches (map (operated fields rs d) (below legs));
   }
 
-  module _ (leg : ℕ) (x : FirstRange) (once : eachOnce (λ (r : DayRange). r .legs) legs (rowsIn dayAt daySize v w) ≡ true) (e : x ≡ placeFrom leg daySize 0 v w) where
+  module _ (leg : ℕ) (x : FirstRange) (once : eachOnce (λ (r : DayRange). r .legs) legs (rowsIn dayAt daySize v w) ≡ true) (e : x ≡ coverPlaceFrom leg daySize 0 v w) where
     -- each leg is covered
     pub sweep-covered : (broken : List ℕ) → leg < legs → x ≡ Nowhere → (d : ℕ) → d < mostPeriodDays → bit broken (d + 2) ≡ rowsBroken fields legs (rowsIn dayAt daySize v w) d
     sweep-covered broken h n d g =

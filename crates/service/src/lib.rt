@@ -25,10 +25,10 @@ ghost use Rattle.timetable.specs.Files.{bitFieldsIn, stopsIn, classesIn};
 ghost use Rattle.timetable.specs.Legs.{fieldRuns};
 ghost use Rattle.timetable.specs.Checks.{eachOnce, legsFirst};
 ghost use Rattle.timetable.specs.Table.{rowsIn, dayAt, serviceAt};
-ghost use Rattle.draft.specs.Draft.{callsLent, rangesLent};
-ghost use Rattle.reading.specs.Maps.{FieldMap, StopMap, ClassIndex};
-ghost use Rattle.reading.specs.Reading.{Boundary};
-ghost use Rattle.service.specs.Answers.{CheckedAs, Counted, serviceIn, draftFirst, checkBy, rowsBroken, rowsTorn, daysFirst, Sized};
+ghost use Rattle.draft.specs.Inner.Draft.{callsLent, rangesLent};
+ghost use Rattle.reading.specs.Inner.Maps.{FieldMap, StopMap, ClassIndex};
+ghost use Rattle.reading.specs.Inner.Reading.{Boundary};
+ghost use Rattle.service.specs.Inner.Answers.{CheckedAs, Counted, serviceIn, draftFirst, checkBy, rowsBroken, rowsTorn, daysFirst, Sized};
 
 // What checking a service answers: the words that it takes and where the next service begins (the place and the number of its opening line, or of
 // the file's end); or its first offence.

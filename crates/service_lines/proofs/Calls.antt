@@ -20,7 +20,7 @@ use Rattle.index.specs.Index.{Ready, viewIn}
 use Rattle.index.proofs.Agrees.{view-plain}
 use Rattle.table.proofs.Says.{head-word, record-says, record-sized, call-says}
 use Rattle.writable.specs.Writable.{callWritable}
-use Rattle.service_lines.specs.Record.{shownCall, callRows, Standing}
+use Rattle.service_lines.specs.Inner.Record.{shownCall, callRows, Standing}
 
 -- a call c was read at p, and n is its stop's number
 module _ (w s : List ℕ) (p : ℕ) (c : Call) (e : c ≡ callAt (drop p s)) where

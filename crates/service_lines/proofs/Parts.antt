@@ -17,7 +17,7 @@ use Rattle.timetable.proofs.Rows.{stride-turn, rows-again, rows-out, rows-done}
 use Rattle.table.specs.JustTable.{recordEnd}
 use Rattle.table.proofs.Says.{sizes-say, head-word}
 use Rattle.writable.specs.Writable.{nameWritable, codeWritable, fieldWritable}
-use Rattle.service_lines.specs.Record.{partSize, partCount, partPlace, here, partRows, rangeWritable}
+use Rattle.service_lines.specs.Inner.Record.{partSize, partCount, partPlace, here, partRows, rangeWritable}
 
 -- ---- where a part stands
 

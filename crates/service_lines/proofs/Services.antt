@@ -13,7 +13,7 @@ use Rattle.base.proofs.Laws.{tests}
 use Rattle.base.proofs.Loops.{and-true}
 use Rattle.timetable.specs.Delivery.{Service}
 use Rattle.timetable.specs.Layout.{serviceHead, callSize, categorySize, daySize, extraSize, mostCalls, mostCategories, mostDays, mostExtras}
-use Rattle.timetable.specs.Table.{rowsIn, callAt, categoryAt, dayAt, extraAt, openingAt, recordWords, calls#, categories#, days#, extras#, categoryPlace, dayPlace, extraPlace, serviceAt, servicesIn, stops#, services#, servicesPlace, stopNumberAt, withStop, resolved, tableOf, countsSound, sizesSound, recordSound, recordsSound}
+use Rattle.timetable.specs.Table.{rowsIn, callAt, categoryAt, dayAt, extraAt, openingAt, wordCountIn, calls#, categories#, days#, extras#, categoryPlace, dayPlace, extraPlace, serviceAt, servicesIn, stops#, services#, servicesPlace, stopNumberAt, withStop, resolved, tableOf, countsSound, sizesSound, recordSound, recordsSound}
 use Rattle.timetable.specs.declared.Opening.{Opening}
 use Rattle.timetable.specs.declared.Part.the-variants.{Category, Days, Extra}
 use Rattle.timetable.proofs.Rows.{length-rows, rows-as}
@@ -23,7 +23,7 @@ use Rattle.table.proofs.JustTable.{just-says, just-word, services-are, services
 use Rattle.table.proofs.Records.{rest-is, one-record, first-word}
 use Rattle.plan_services.specs.Services.{serviceLines, restLines, planLines}
 use Rattle.writable.specs.Writable.{openingWritable, categoryWritable, daysWritable, extraWritable, callWritable, serviceWritable}
-use Rattle.service_lines.specs.Record.{here, partRows, rangeWritable, callRows, shown, Standing}
+use Rattle.service_lines.specs.Inner.Record.{here, partRows, rangeWritable, callRows, shown, Standing}
 
 -- ---- what a record shows, by its rows
 
@@ -99,7 +99,7 @@ shownFrom w k at = map (resolved (tableOf w .stops)) (servicesIn k (drop at w))
 pub shown-all : (w : List ℕ) → JustTable w → (at k : ℕ) → at ≡ servicesPlace w → k ≡ services# w → shownFrom w k at ≡ tableOf w .services
 shown-all w j at k p q = rw (p, q) (sym (services-are w j))
 
-pub one-service : (k : ℕ) (u : List ℕ) → 0 < k → servicesIn k u ≡ serviceAt u ∷ servicesIn (k - 1) (drop (recordWords u) u)
+pub one-service : (k : ℕ) (u : List ℕ) → 0 < k → servicesIn k u ≡ serviceAt u ∷ servicesIn (k - 1) (drop (wordCountIn u) u)
 unfolding servicesIn
 one-service zero u h = absurd (omega arith)
 one-service (suc k) u h =
@@ -112,7 +112,7 @@ no-service zero u h = refl
 no-service (suc k) u h = absurd (omega arith)
 
 module _ (w : List ℕ) (at k : ℕ) (h : 0 < k) (v : recordsSound (stops# w) k (drop at w) ≡ true) where
-  both : (recordSound (stops# w) (drop at w) ≡ true) × (recordsSound (stops# w) (k - 1) (drop (recordWords (drop at w)) (drop at w)) ≡ true)
+  both : (recordSound (stops# w) (drop at w) ≡ true) × (recordsSound (stops# w) (k - 1) (drop (wordCountIn (drop at w)) (drop at w)) ≡ true)
   both = and-true (recordSound (stops# w) (drop at w)) _ (rw (one-record (stops# w) k (drop at w) h) at v)
 
   sizes : Sizes (drop at w)

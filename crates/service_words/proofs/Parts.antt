@@ -24,11 +24,11 @@ use Rattle.timetable.specs.declared.Part.{Part}
 use Rattle.timetable.specs.declared.Part.the-variants.{Category, Days, Extra}
 use Rattle.timetable.specs.declared.RangeLine.{RangeLine}
 use Rattle.timetable.proofs.Rows.{rows-turn, rows-none}
-use Rattle.draft.specs.Draft.{draftCall, draftRange, callBack, lineBack, callsIn, rangesIn}
-use Rattle.route.specs.Route.{foundOf}
-use Rattle.route.specs.declared.Found.{Found}
-use Rattle.route.specs.declared.Found.the-variants.{Between, Missing}
-use Rattle.service_words.specs.Parts.{rowWords, foundWords, rangeGives, partWords, givenWords}
+use Rattle.draft.specs.Inner.Draft.{draftCall, draftRange, callBack, lineBack, callsIn, rangesIn}
+use Rattle.route.specs.Inner.Route.{foundOf}
+use Rattle.route.specs.declared.RangeFound.{RangeFound}
+use Rattle.route.specs.declared.RangeFound.the-variants.{Between, Missing}
+use Rattle.service_words.specs.Inner.Parts.{rangeRowWords, foundWords, rangeGives, partWords, givenWords}
 use Rattle.service_words.specs.declared.Given.{Given}
 use Rattle.service_words.specs.declared.Given.the-variants.{Nothing, Three, Four}
 
@@ -120,11 +120,11 @@ pub ruleset calling = (tests, len-trans, calls-count, calls-start, call-room, ca
 -- ---- what a range gives, for `search gives`
 
 -- the legs that were found are those that the answer says
-unfound : Found → Option Legs
+unfound : RangeFound → Option Legs
 unfound (Between from to) = some (record { from = from .0; to = to .0 })
 unfound Missing = none
 
-found-legs : (f : Found) (o : Option Legs) → f ≡ foundOf o → o ≡ unfound f
+found-legs : (f : RangeFound) (o : Option Legs) → f ≡ foundOf o → o ≡ unfound f
 unfolding unfound
 found-legs f none k = rw k refl
 found-legs f (some g) k = rw k refl
@@ -133,7 +133,7 @@ module _ (part : Part) (cs : List Call) (x : RangeLine) (b : Bool) (e : b ≡ is
   pub gives-other : not b ≡ true → [] ≡ rangeGives part cs x
   gives-other h = rw (← e, not-true b h) refl
 
-  module _ (own : not b ≡ false) (f : Found) (d : f ≡ foundOf (legsOn cs x)) where
+  module _ (own : not b ≡ false) (f : RangeFound) (d : f ≡ foundOf (legsOn cs x)) where
     gives-found : rangeGives part cs x ≡ foundWords part x (legsOn cs x)
     gives-found = rw (← e, not-false b own) refl
 
@@ -141,7 +141,7 @@ module _ (part : Part) (cs : List Call) (x : RangeLine) (b : Bool) (e : b ≡ is
     unfolding unfound
     gives-nothing k = sym (gives-found ∙ ap (foundWords part x) (found-legs f (legsOn cs x) d ∙ ap unfound k))
 
-    pub gives-row : (from to : RouteIndex) (g : Given) → f ≡ Between from to → givenWords g ≡ rowWords part x (from .0) (to .0) → givenWords g ≡ rangeGives part cs x
+    pub gives-row : (from to : RouteIndex) (g : Given) → f ≡ Between from to → givenWords g ≡ rangeRowWords part x (from .0) (to .0) → givenWords g ≡ rangeGives part cs x
     unfolding unfound
     gives-row from to g k v = v ∙ sym (gives-found ∙ ap (foundWords part x) (found-legs f (legsOn cs x) d ∙ ap unfound k))
 
@@ -149,13 +149,13 @@ pub part-same : (part : Part) (x : RangeLine) (a b : ℕ) → a ≡ partNumber (
 part-same part x a b e d = rw (e, d) refl
 
 module _ (part : Part) (x : RangeLine) (from to : ℕ) where
-  pub row-category : part ≡ Category → x .name ∷ from ∷ to ∷ [] ≡ rowWords part x from to
+  pub row-category : part ≡ Category → x .name ∷ from ∷ to ∷ [] ≡ rangeRowWords part x from to
   row-category e = rw e refl
 
-  pub row-days : part ≡ Days → x .field ∷ from ∷ to ∷ [] ≡ rowWords part x from to
+  pub row-days : part ≡ Days → x .field ∷ from ∷ to ∷ [] ≡ rangeRowWords part x from to
   row-days e = rw e refl
 
-  pub row-extra : part ≡ Extra → x .name ∷ x .field ∷ from ∷ to ∷ [] ≡ rowWords part x from to
+  pub row-extra : part ≡ Extra → x .name ∷ x .field ∷ from ∷ to ∷ [] ≡ rangeRowWords part x from to
   row-extra e = rw e refl
 
 pub ruleset gives = (tests, gives-other, gives-nothing, gives-row, part-same, row-category, row-days, row-extra)

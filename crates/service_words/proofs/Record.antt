@@ -22,9 +22,9 @@ use Rattle.timetable.specs.declared.Part.{Part}
 use Rattle.timetable.specs.declared.Part.the-variants.{Category, Days, Extra}
 use Rattle.timetable.specs.declared.RangeLine.{RangeLine}
 use Rattle.timetable.proofs.Rows.{all-any, any, length-gathered}
-use Rattle.draft.specs.Draft.{callsIn, partIn, draftedService}
+use Rattle.draft.specs.Inner.Draft.{callsIn, partIn, draftedService}
 use Rattle.route.proofs.Laws.{length-calls}
-use Rattle.service_words.specs.Parts.{foundWords, partWords, rangeWords, rangeEnds, bodyOf, sizesBy, sizesOf, headBy}
+use Rattle.service_words.specs.Inner.Parts.{foundWords, partWords, rangeWords, rangeEnds, bodyOf, sizesBy, sizesOf, headBy}
 use Rattle.service_words.specs.declared.RangeEnds.{RangeEnds}
 use Rattle.service_words.specs.declared.Sizes.{Sizes}
 

@@ -1,7 +1,7 @@
 // Writes a service's words from its draft: `calls` holds c drafted calls, `ranges` n drafted ranges; the words stand in `table` from `at` on.
 use draft::DRAFT_CALL_WORDS;
 use draft::DRAFT_RANGE_WORDS;
-use route::Found;
+use route::RangeFound;
 use timetable::Call;
 use timetable::Opening;
 use timetable::Part;
@@ -14,8 +14,8 @@ ghost use Rattle.words.specs.Words.{write};
 ghost use Rattle.timetable.specs.Layout.{serviceHead, callSize, categorySize, daySize, extraSize};
 ghost use Rattle.timetable.specs.Plan.{isPart};
 ghost use Rattle.timetable.specs.Table.{callWords, serviceWords};
-ghost use Rattle.draft.specs.Draft.{draftCall, draftRange, callsIn, rangesIn};
-ghost use Rattle.service_words.specs.Parts.{rowWords, rangeGives, partWords, rangeWords, rangeEnds, bodyOf, sizesBy, givenWords, headBy, sizesOf, serviceIn};
+ghost use Rattle.draft.specs.Inner.Draft.{draftCall, draftRange, callsIn, rangesIn};
+ghost use Rattle.service_words.specs.Inner.Parts.{rangeRowWords, rangeGives, partWords, rangeWords, rangeEnds, bodyOf, sizesBy, givenWords, headBy, sizesOf, serviceIn};
 
 // What a range gives to a part of the service's words: nothing, or three or four words.
 enum Given {
@@ -217,7 +217,7 @@ fn given_by(part: Part, range: RangeLine, calls: &[u32], c: u32) -> Given
         return Given::Nothing;
     }
     let found = route::legs_on(calls, c, range);
-    let Found::Between(from, to) = found else {
+    let RangeFound::Between(from, to) = found else {
         return Given::Nothing;
     };
     row_of(part, range, from.0, to.0)
@@ -232,7 +232,7 @@ fn is_part(part: Part, range: RangeLine) -> bool
 
 // The words of a range of a part, from one call to another.
 fn row_of(part: Part, range: RangeLine, from: u32, to: u32) -> Given
-    ensures { λ r. ⌜ givenWords r ≡ rowWords part range from to ⌝ }
+    ensures { λ r. ⌜ givenWords r ≡ rangeRowWords part range from to ⌝ }
 {
     match part {
         Part::Category => Given::Three(range.name, from, to),

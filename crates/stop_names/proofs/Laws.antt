@@ -11,7 +11,7 @@ use lib.ListN.{length, take, drop, length-take, length-drop}
 use borrow.Author.Tests.{le-leb, lt-leb}
 use Rattle.base.proofs.Laws.{tests, apart}
 use Rattle.names.specs.Names.{askable, wantedBy, nameFor}
-use Rattle.names.specs.Answers.{chosenBy, askedBy}
+use Rattle.names.specs.Inner.Answers.{chosenBy, askedBy}
 use Rattle.names.specs.declared.Name.{Name}
 use Rattle.names.specs.declared.Wanted.{Wanted}
 use Rattle.names.specs.declared.Asked.{Asked}

@@ -15,7 +15,7 @@ use Rattle.timetable.specs.Delivery.{StopRecord, Service}
 use Rattle.timetable.specs.Table.{stopPlace, withStop, pointing, callWords, categoryWords, dayWords, extraWords, headWords, serviceWords, callAt, rowsIn}
 use Rattle.timetable.specs.declared.Call.{Call}
 use Rattle.timetable.proofs.Records.{calls-back, calls-length, service-length}
-use Rattle.stop_places.specs.Pointed.{pointedCalls}
+use Rattle.stop_places.specs.Inner.Pointed.{pointedCalls}
 
 -- ---- one call
 

@@ -1,1 +1,1 @@
-pub mod Pointed
+pub mod Inner

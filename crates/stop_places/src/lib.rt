@@ -6,8 +6,8 @@ ghost use lib.ListN.{length, drop};
 ghost use Rattle.words.specs.Words.{write};
 ghost use Rattle.timetable.specs.Layout.{callSize};
 ghost use Rattle.timetable.specs.Files.{stopsIn};
-ghost use Rattle.reading.specs.Maps.{StopMap};
-ghost use Rattle.stop_places.specs.Pointed.{pointedCalls};
+ghost use Rattle.reading.specs.Inner.Maps.{StopMap};
+ghost use Rattle.stop_places.specs.Inner.Pointed.{pointedCalls};
 
 // Puts the place of its stop into the first word of each of the c calls that stand in the table from place `at` on, where its number is. `stops` is the
 // map of BAHNHOF.

@@ -14,7 +14,7 @@ use Rattle.chains.proofs.Follow.{first-le, next-le}
 use Rattle.index.specs.Index.{stopsFrom, interchangesFrom, stopSection}
 use Rattle.index.specs.declared.Section.{Section}
 use Rattle.index.proofs.Sections.{sections-fit}
-use Rattle.stops_numbered.specs.Numbered.{firstStop, nextStop}
+use Rattle.stops_numbered.specs.Inner.Numbered.{firstStop, nextStop}
 
 -- ---- n stops whose records begin at `at`; k is n as a count
 

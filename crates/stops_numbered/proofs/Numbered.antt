@@ -20,7 +20,7 @@ use Rattle.index.specs.Index.{stopsFrom, fieldSection, stopSection, interchange
 use Rattle.index.proofs.Agrees.{length-of}
 use Rattle.calls.specs.Calls.{callIndexOf}
 use Rattle.whole_index.specs.Whole.{wholeIndexOf}
-use Rattle.stops_numbered.specs.Numbered.{numberAt, stopsWith, stopFrom, firstStop, nextStop}
+use Rattle.stops_numbered.specs.Inner.Numbered.{numberAt, stopsWith, stopFrom, firstStop, nextStop}
 
 -- the record e from the end is the stop at place S - e
 key-number : (w : List ℕ) (e p : ℕ) → p + e ≡ stops# w → keyOf w (interchangesPlace w) stopSize e ≡ numberAt w p

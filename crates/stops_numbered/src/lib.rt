@@ -10,7 +10,7 @@ ghost use Rattle.timetable.specs.Table.{stops#};
 ghost use Rattle.table.specs.JustTable.{headerSound};
 ghost use Rattle.chains.specs.Chains.{firstBy, nextBy};
 ghost use Rattle.index.specs.Index.{interchangesFrom};
-ghost use Rattle.stops_numbered.specs.Numbered.{firstStop, nextStop};
+ghost use Rattle.stops_numbered.specs.Inner.Numbered.{firstStop, nextStop};
 
 // The first place with the number, as the index finds it, counted from 0; as many as there are stops where there is none.
 pub fn first_stop(w: &[u32], x: &[u32], number: u32) -> u32

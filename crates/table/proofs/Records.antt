@@ -13,7 +13,7 @@ use Rattle.base.specs.Lists.{every}
 use Rattle.base.proofs.Laws.{tests, by-eqb}
 use Rattle.timetable.specs.Layout.{headerSize, classSize, serviceHead, callSize, categorySize, daySize, extraSize, mostClass}
 use Rattle.timetable.specs.Runs.{openingSound}
-use Rattle.timetable.specs.Table.{rowsIn, openingAt, callAt, legsAt, recordWords, calls#, categories#, days#, extras#, categoryPlace, dayPlace, extraPlace, serviceAt, classAt, usedWords, stops#, services#, servicesPlace, classes#, used, tableOf, classSound, callSound, legsSound, serviceSound, countsSound, sizesSound, recordSound, recordsSound, isTable}
+use Rattle.timetable.specs.Table.{rowsIn, openingAt, callAt, legsAt, wordCountIn, calls#, categories#, days#, extras#, categoryPlace, dayPlace, extraPlace, serviceAt, classAt, usedWords, stops#, services#, servicesPlace, classes#, used, tableOf, classSound, callSound, legsSound, serviceSound, countsSound, sizesSound, recordSound, recordsSound, isTable}
 use Rattle.timetable.specs.declared.Opening.{Opening}
 use Rattle.timetable.proofs.Rows.{rows-again, rows-out, rows-done}
 use Rattle.table.specs.JustTable.{recordEnd, headerSound, classesPlace}
@@ -21,11 +21,11 @@ use Rattle.table.proofs.Says.{Sizes, sizes-say, record-says, service-pa
 
 -- ---- the length of a record: said is its first word, y what its counts make it
 
-module _ (w : List ℕ) (said y : ℕ) (a : said ≡ recordWords w) (b : y ≡ recordEnd w) where
-  pub length-differs : (said ≡ y → ⊥) → false ≡ (eqb (recordWords w) (recordEnd w) && leb (recordWords w) (length w))
+module _ (w : List ℕ) (said y : ℕ) (a : said ≡ wordCountIn w) (b : y ≡ recordEnd w) where
+  pub length-differs : (said ≡ y → ⊥) → false ≡ (eqb (wordCountIn w) (recordEnd w) && leb (wordCountIn w) (length w))
   length-differs d = rw (← a, ← b, ne-eqb said y d)
 
-  pub length-end : said ≡ y → leb said (length w) ≡ (eqb (recordWords w) (recordEnd w) && leb (recordWords w) (length w))
+  pub length-end : said ≡ y → leb said (length w) ≡ (eqb (wordCountIn w) (recordEnd w) && leb (wordCountIn w) (length w))
   length-end d = rw (← a, ← b, eq-eqb said y d)
 
 -- its sizes; x says whether its counts are in their bounds, y whether its length is right
@@ -33,7 +33,7 @@ module _ (w : List ℕ) (h : serviceHead ≤ length w) (x : Bool) (e : x ≡ cou
   pub sizes-counts : not x ≡ true → false ≡ sizesSound w
   sizes-counts n = rw (le-leb serviceHead (length w) h, sym e ∙ not-true x n)
 
-  pub sizes-length : not x ≡ false → (y : Bool) → y ≡ (eqb (recordWords w) (recordEnd w) && leb (recordWords w) (length w)) → y ≡ sizesSound w
+  pub sizes-length : not x ≡ false → (y : Bool) → y ≡ (eqb (wordCountIn w) (recordEnd w) && leb (wordCountIn w) (length w)) → y ≡ sizesSound w
   sizes-length n y f = f ∙ rw (le-leb serviceHead (length w) h, sym e ∙ not-false x n)
 
 pub ruleset sizes = (tests, length-differs, length-end, sizes-counts, sizes-length)
@@ -108,7 +108,7 @@ part-is (suc a) (suc b) (x ∷ l) =
 
 -- ---- records one after the other; x says whether the record at `at` is sound
 
-pub one-record : (stops k : ℕ) (u : List ℕ) → 0 < k → recordsSound stops k u ≡ (recordSound stops u && recordsSound stops (k - 1) (drop (recordWords u) u))
+pub one-record : (stops k : ℕ) (u : List ℕ) → 0 < k → recordsSound stops k u ≡ (recordSound stops u && recordsSound stops (k - 1) (drop (wordCountIn u) u))
 unfolding recordsSound
 one-record stops zero u h = absurd (omega arith)
 one-record stops (suc k) u h =

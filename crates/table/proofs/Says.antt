@@ -16,7 +16,7 @@ use Rattle.calendar.specs.Calendar.{lastDay}
 use Rattle.timetable.specs.Layout.{headerSize, serviceHead, callSize, categorySize, daySize, extraSize, firstService, mostPeriodDays, mostCalls, mostCategories, mostDays, latestTime, allFlags}
 use Rattle.timetable.specs.Delivery.{CategoryRange, DayRange, ExtraRange}
 use Rattle.timetable.specs.Runs.{openingSound}
-use Rattle.timetable.specs.Table.{rowsIn, openingAt, callAt, legsAt, categoryAt, dayAt, extraAt, recordWords, calls#, categories#, days#, extras#, categoryPlace, dayPlace, extraPlace, serviceAt, usedWords, firstDay, periodDays, bitFields#, stops#, interchanges#, services#, servicesPlace, classes#, used, tableOf, classSound, callSound, legsSound, serviceSound, countsSound, sizesSound, recordSound, recordsSound, headSound, isTable}
+use Rattle.timetable.specs.Table.{rowsIn, openingAt, callAt, legsAt, categoryAt, dayAt, extraAt, wordCountIn, calls#, categories#, days#, extras#, categoryPlace, dayPlace, extraPlace, serviceAt, usedWords, firstDay, periodDays, bitFields#, stops#, interchanges#, services#, servicesPlace, classes#, used, tableOf, classSound, callSound, legsSound, serviceSound, countsSound, sizesSound, recordSound, recordsSound, headSound, isTable}
 use Rattle.timetable.specs.declared.Call.{Call}
 use Rattle.timetable.proofs.Rows.{length-rows, rows-as, every-row}
 use Rattle.table.specs.JustTable.{recordEnd, headerSound}
@@ -28,14 +28,14 @@ pub record Sizes (w : List ℕ) : Type 0 where
   pub calls-low : 2 ≤ calls# w
   pub calls-high : calls# w ≤ mostCalls
   pub days-high : days# w ≤ mostDays
-  pub said : recordWords w ≡ recordEnd w
+  pub said : wordCountIn w ≡ recordEnd w
   pub inside : recordEnd w ≤ length w
 
 pub sizes-say : (w : List ℕ) → sizesSound w ≡ true → Sizes w
 sizes-say w e =
     let (h, e1) = and-true (leb serviceHead (length w)) _ e in
     let (counts, e2) = and-true (countsSound (calls# w) (categories# w) (days# w) (extras# w)) _ e1 in
-    let (said, room) = and-true (eqb (recordWords w) (recordEnd w)) _ e2 in
+    let (said, room) = and-true (eqb (wordCountIn w) (recordEnd w)) _ e2 in
     let (low, r1) = and-true (leb 2 (calls# w)) _ counts in
     let (high, r2) = and-true (leb (calls# w) mostCalls) _ r1 in
     let r3 = and-true (leb (categories# w) mostCategories) _ r2 .1 in
@@ -45,8 +45,8 @@ sizes-say w e =
       calls-low = leb-true 2 (calls# w) low;
       calls-high = leb-true (calls# w) mostCalls high;
       days-high = leb-true (days# w) mostDays v;
-      said = eqb-true (recordWords w) (recordEnd w) said;
-      inside = omega (arith, eqb-true (recordWords w) (recordEnd w) said, leb-true (recordWords w) (length w) room);
+      said = eqb-true (wordCountIn w) (recordEnd w) said;
+      inside = omega (arith, eqb-true (wordCountIn w) (recordEnd w) said, leb-true (wordCountIn w) (length w) room);
     }
 
 -- the words of its head are there

@@ -47,7 +47,7 @@ ghost use lib.ListN.{length, drop};
 ghost use lib.Dec.{leb, eqb};
 ghost use Rattle.base.specs.Lists.{every};
 ghost use Rattle.timetable.specs.Layout.{headerSize, classSize, serviceHead, callSize, recordSize, firstService};
-ghost use Rattle.timetable.specs.Table.{recordWords, rowsIn, legsAt, classAt, callAt, openingAt, serviceAt, categoryPlace, dayPlace, extraPlace, used, tableOf, classSound, callSound, legsSound, serviceSound, countsSound, sizesSound, recordSound, recordsSound, headSound, isTable};
+ghost use Rattle.timetable.specs.Table.{wordCountIn, rowsIn, legsAt, classAt, callAt, openingAt, serviceAt, categoryPlace, dayPlace, extraPlace, used, tableOf, classSound, callSound, legsSound, serviceSound, countsSound, sizesSound, recordSound, recordsSound, headSound, isTable};
 ghost use Rattle.table.specs.JustTable.{recordEnd, headerSound, classesPlace};
 
 // The day after 31.12.2199.
@@ -243,7 +243,7 @@ fn sizes_sound(w: &[u32]) -> bool
 // Whether its first word says how long its counts make it, and is within the words.
 fn length_sound(w: &[u32]) -> bool
     requires { ⌜ serviceHead ≤ length (now w) ⌝ }
-    ensures { λ r. ⌜ r ≡ (eqb (recordWords (now (w .entry))) (recordEnd (now (w .entry))) && leb (recordWords (now (w .entry))) (length (now (w .entry)))) ⌝ }
+    ensures { λ r. ⌜ r ≡ (eqb (wordCountIn (now (w .entry))) (recordEnd (now (w .entry))) && leb (wordCountIn (now (w .entry))) (length (now (w .entry)))) ⌝ }
 {
     let said = size(w[SIZE_AT]);
     if said as u64 != record_end(w) {

@@ -10,9 +10,9 @@ use Rattle.words.specs.Words.{write}
 use Rattle.words.proofs.Laws.{write-write}
 use Rattle.timetable.specs.Layout.{headerSize}
 use Rattle.sections.specs.declared.Section.the-variants.{BitFields, Stops, Interchanges, Classes}
-use Rattle.section_words.specs.Words.{sectionWords}
+use Rattle.section_words.specs.Inner.Words.{sectionWords}
 use Rattle.table_words.specs.declared.Header.{Header}
-use Rattle.table_words.specs.Words.{headerWords, sectionsWords}
+use Rattle.table_words.specs.Inner.Words.{headerWords, sectionsWords}
 
 -- ---- the header, for `search heading`
 

@@ -12,9 +12,9 @@ ghost use Rattle.words.specs.Words.{write};
 ghost use Rattle.timetable.specs.Layout.{headerSize, mostFileBytes};
 ghost use Rattle.timetable.specs.Service.{blocks};
 ghost use Rattle.timetable.specs.Checks.{headFirst};
-ghost use Rattle.reading.specs.Maps.{StopMap};
-ghost use Rattle.plan.specs.Services.{withinLimits};
-ghost use Rattle.table_words.specs.Words.{headerWords, sectionsWords, bodyWords};
+ghost use Rattle.reading.specs.Inner.Maps.{StopMap};
+ghost use Rattle.plan.specs.Inner.Services.{withinLimits};
+ghost use Rattle.table_words.specs.Inner.Words.{headerWords, sectionsWords, bodyWords};
 
 // The table's header: the words used, the period, how many records each section has, and the place of the first service. "The last being the count of
 // categories".

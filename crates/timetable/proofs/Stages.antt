@@ -24,14 +24,14 @@ abbrev pub stretchJourney : View → Service → ℕ → Stretch → Journey
 stretchJourney v s delay t =
     journeyBy (callsRefusal s (t .start) (t .legs) 0 0 (stretchCalls s t)) (rows (rowsOf v s (t .start) (t .legs) delay 0 (stretchCalls s t)))
 
-abbrev pub onDay : View → Service → ℕ → List Bool → Journey
-onDay v s delay bs =
+abbrev pub journeyOnDay : View → Service → ℕ → List Bool → Journey
+journeyOnDay v s delay bs =
     cond (eqb (stretches false bs) 0) idle (cond (leb 2 (stretches false bs)) (refused 35) (stretchJourney v s delay (stretchOf bs)))
 
 abbrev pub serviceJourney : View → Service → ℕ → ℕ → Journey
 serviceJourney v s r k =
     cond (not (hasRun (s .opening) r)) (refused 25)
-    (journeyBy (firstRefusal (legRefusal v s) (below (legCount s))) (onDay v s (lateness (s .opening) r) (operatedLegsBy (v .runs) s k)))
+    (journeyBy (firstRefusal (legRefusal v s) (below (legCount s))) (journeyOnDay v s (lateness (s .opening) r) (operatedLegsBy (v .runs) s k)))
 
 abbrev pub indexed : View → ServiceFound → ℕ → ℕ → Journey
 indexed v (noService number) r k = refused number
@@ -56,7 +56,7 @@ module _ (v : View) (s : Service) (late : ℕ) where
   by-stretches false true c = refl
   by-stretches false false c = refl
 
-  pub legs-stages : (bs : List Bool) → onDay v s late bs ≡ along (legsCourse s bs)
+  pub legs-stages : (bs : List Bool) → journeyOnDay v s late bs ≡ along (legsCourse s bs)
   unfolding stretchCourse
   legs-stages bs =
       ap (λ j. cond (eqb (stretches false bs) 0) (along NotRunning) (cond (leb 2 (stretches false bs)) (along (Refused 35)) j))
@@ -77,10 +77,10 @@ service-stages v s r k =
     bs : List Bool
     bs = operatedLegsBy (v .runs) s k
 
-    inner : journeyBy legs (onDay v s late bs) ≡ along v s late (courseBy legs (legsCourse s bs))
+    inner : journeyBy legs (journeyOnDay v s late bs) ≡ along v s late (courseBy legs (legsCourse s bs))
     inner = ap (journeyBy legs) (legs-stages v s late bs) ∙ by-option v s late legs (legsCourse s bs)
 
-    go : (t : Bool) → cond t (along v s late (Refused 25)) (journeyBy legs (onDay v s late bs)) ≡ along v s late (cond t (Refused 25) (courseBy legs (legsCourse s bs)))
+    go : (t : Bool) → cond t (along v s late (Refused 25)) (journeyBy legs (journeyOnDay v s late bs)) ≡ along v s late (cond t (Refused 25) (courseBy legs (legsCourse s bs)))
     go true = refl
     go false = inner
 

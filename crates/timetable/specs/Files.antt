@@ -13,10 +13,10 @@ use Rattle.lines.specs.Lines.{Line, linesOf, skipped}
 use Rattle.calendar.specs.Calendar.{dateIn, periodOf}
 use Rattle.calendar.specs.declared.Date.{Date}
 use Rattle.calendar.specs.declared.Date.the-variants.{Day, NoSuchDate}
-use Rattle.calendar.specs.declared.Period.{Period as PeriodOf}
-use Rattle.calendar.specs.declared.Period.the-variants.{Days, NoPeriod}
+use Rattle.calendar.specs.declared.PeriodLength.{PeriodLength as PeriodOf}
+use Rattle.calendar.specs.declared.PeriodLength.the-variants.{OfDays, NoPeriod}
 use Rattle.bitfield.specs.BitField.{bitsIn, framed}
-use Rattle.forms.specs.Form.{Row, formOf}
+use Rattle.forms.specs.Form.{FieldRule, formOf}
 use Rattle.forms.specs.declared.Form.{Form}
 use Rattle.forms.specs.declared.Form.the-variants.{Fits, Broken}
 use Rattle.forms.specs.Columns.{dateColumns, bitFieldColumns, stopColumns, interchangeColumns, classColumns}
@@ -48,7 +48,7 @@ heldBy Fits x = held x
 heldBy (Broken c) x = broken c
 
 -- a line that is not skipped holds what `read` says, if it has the form
-abbrev pub heldLine : {X : Type 0} → List Row → (Line → X) → Line → Held X
+abbrev pub heldLine : {X : Type 0} → List FieldRule → (Line → X) → Line → Held X
 heldLine rows read l = cond (skipped (l .text)) skip (heldBy (formOf rows (l .text)) (read l))
 
 -- the offence of a line by its number: 4, then its record's own
@@ -69,7 +69,7 @@ noDate (Day d) = false
 noDate NoSuchDate = true
 
 abbrev pub noPeriod : PeriodOf → Bool
-noPeriod (Days n) = false
+noPeriod (OfDays n) = false
 noPeriod NoPeriod = true
 
 -- 4, then "5 no such date"
@@ -90,7 +90,7 @@ unfoldable pub periodFirst : List Line → Option Offence
 periodFirst ls = first periodLineOffence [] ls <|> given (ltb (length ls) 3) 2 (length ls + 1)
 
 abbrev pub daysIn : PeriodOf → ℕ
-daysIn (Days n) = n
+daysIn (OfDays n) = n
 daysIn NoPeriod = 0
 
 -- the period of the first two lines; with fewer the delivery is refused (2)

@@ -143,8 +143,8 @@ isOpening Attribute = false
 isOpening Schedule = false
 isOpening OtherKind = false
 
-unfoldable pub opens : Line → Bool
-opens l = isOpening (kindOf (l .text))
+unfoldable pub opensService : Line → Bool
+opensService l = isOpening (kindOf (l .text))
 
 -- what lines say, in order
 unfoldable pub tolds : List Line → List Told

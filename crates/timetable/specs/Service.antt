@@ -6,7 +6,7 @@ use mathlib.Core.Option.{Option, none, some}
 use Rattle.base.specs.Lists.{gathered}
 use Rattle.lines.specs.Lines.{Line}
 use Rattle.timetable.specs.Delivery.{Legs, CategoryRange, DayRange, ExtraRange, Service}
-use Rattle.timetable.specs.Plan.{toldIn, opens, asCall, asOpening, partLines, saidOn}
+use Rattle.timetable.specs.Plan.{toldIn, opensService, asCall, asOpening, partLines, saidOn}
 use Rattle.timetable.specs.Ranges.{legsOf}
 use Rattle.timetable.specs.declared.Opening.{Opening}
 use Rattle.timetable.specs.declared.Announced.{Announced}
@@ -19,12 +19,12 @@ use Rattle.timetable.specs.declared.RangeLine.{RangeLine}
 -- the lines before the first that opens a service
 unfoldable pub headLines : List Line → List Line
 headLines [] = []
-headLines (l ∷ ls) = cond (opens l) [] (l ∷ headLines ls)
+headLines (l ∷ ls) = cond (opensService l) [] (l ∷ headLines ls)
 
 -- the lines of each service: from a *Z line, or (document 02, No. 8) a *T line, to the next of either
 unfoldable pub blocks : List Line → List (List Line)
 blocks [] = []
-blocks (l ∷ ls) = cond (opens l) ((l ∷ headLines ls) ∷ blocks ls) (blocks ls)
+blocks (l ∷ ls) = cond (opensService l) ((l ∷ headLines ls) ∷ blocks ls) (blocks ls)
 
 -- the line that opens a service (a service always has one)
 abbrev pub firstLine : List Line → Line

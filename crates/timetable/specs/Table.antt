@@ -20,12 +20,12 @@ use Rattle.timetable.specs.declared.Opening.{Opening}
 -- calls the stop is such a place: a delivery's calls point at its stops when they are written, and are resolved when they are read back.
 
 -- the place of the first stop with a number, where the first of these stands at place k (0 where there is none: such a delivery is refused, 9)
-unfoldable pub placeFrom : ℕ → ℕ → List StopRecord → ℕ
-placeFrom k n [] = 0
-placeFrom k n (s ∷ stops) = cond (eqb (s .number) n) k (placeFrom (k + 1) n stops)
+unfoldable pub stopPlaceFrom : ℕ → ℕ → List StopRecord → ℕ
+stopPlaceFrom k n [] = 0
+stopPlaceFrom k n (s ∷ stops) = cond (eqb (s .number) n) k (stopPlaceFrom (k + 1) n stops)
 
 abbrev pub stopPlace : ℕ → List StopRecord → ℕ
-stopPlace n stops = placeFrom 0 n stops
+stopPlace n stops = stopPlaceFrom 0 n stops
 
 abbrev pub numberBy : Option StopRecord → ℕ
 numberBy none = 0
@@ -160,8 +160,8 @@ abbrev pub extraAt : List ℕ → ExtraRange
 extraAt w = record { code = word w 0; field = word w 1; legs = legsAt 2 w }
 
 -- the head of a service's words, by its names: its word count, and the counts c, g, v, a
-abbrev pub recordWords : List ℕ → ℕ
-recordWords w = word w 0
+abbrev pub wordCountIn : List ℕ → ℕ
+wordCountIn w = word w 0
 
 abbrev pub calls# : List ℕ → ℕ
 calls# w = word w 6
@@ -203,7 +203,7 @@ serviceAt w = record {
 -- V records, each as long as its first word says; their calls' stops are places, unresolved
 unfoldable pub servicesIn : ℕ → List ℕ → List Service
 servicesIn zero w = []
-servicesIn (suc v) w = serviceAt w ∷ servicesIn v (drop (recordWords w) w)
+servicesIn (suc v) w = serviceAt w ∷ servicesIn v (drop (wordCountIn w) w)
 
 -- the header's words, by their names
 abbrev pub usedWords : List ℕ → ℕ
@@ -279,7 +279,7 @@ countsSound c g v a = leb 2 c && (leb c mostCalls && (leb g mostCategories && (l
 abbrev pub sizesSound : List ℕ → Bool
 sizesSound w =
     leb serviceHead (length w) && (countsSound (calls# w) (categories# w) (days# w) (extras# w)
-    && (eqb (recordWords w) (recordSize (calls# w) (categories# w) (days# w) (extras# w)) && leb (recordWords w) (length w)))
+    && (eqb (wordCountIn w) (recordSize (calls# w) (categories# w) (days# w) (extras# w)) && leb (wordCountIn w) (length w)))
 
 unfoldable pub recordSound : ℕ → List ℕ → Bool
 recordSound stops w = sizesSound w && serviceSound stops (serviceAt w)
@@ -287,7 +287,7 @@ recordSound stops w = sizesSound w && serviceSound stops (serviceAt w)
 -- "the V records do not end exactly at words used"
 unfoldable pub recordsSound : ℕ → ℕ → List ℕ → Bool
 recordsSound stops zero w = eqb (length w) 0
-recordsSound stops (suc v) w = recordSound stops w && recordsSound stops v (drop (recordWords w) w)
+recordsSound stops (suc v) w = recordSound stops w && recordsSound stops v (drop (wordCountIn w) w)
 
 -- "fewer than 8, or words used under 8 or over those lent; n not 1 to 380, or last day after 31.12.2199; U is 0;
 -- word 7 is not 8 + 13B + 3S + 3U or is beyond words used" (document 02, No. 1: "21 reads the new sizes": 9 for 8, and 9 + 13B + 3S + 3U + 2K): of the

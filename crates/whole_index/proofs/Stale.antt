@@ -14,8 +14,8 @@ use borrow.Author.Tests.{eq-eqb, eqb-true}
 use Rattle.base.proofs.Laws.{apart}
 use Rattle.timetable.specs.Table.{word}
 use Rattle.lookups.specs.Lookups.{placeOf}
-use Rattle.lookups.specs.declared.Found.{Found}
-use Rattle.lookups.specs.declared.Found.the-variants.{At, Nothing}
+use Rattle.lookups.specs.declared.RecordFound.{RecordFound}
+use Rattle.lookups.specs.declared.RecordFound.the-variants.{At, Nothing}
 use Rattle.chains.specs.Chains.{keyOf, firstBy}
 use Rattle.chains.proofs.Follow.{first-le, first-key}
 use Rattle.index.specs.Index.{sectionEnd, placeBy, placeIn}
@@ -25,7 +25,7 @@ use Rattle.whole_index.specs.Stale.{Numbered, Once}
 abbrev part : ℕ → ℕ → ℕ → ℕ → Section
 part at n size from = record { at = at; n = n; size = size; from = from }
 
-abbrev placeAt : Found → ℕ
+abbrev placeAt : RecordFound → ℕ
 placeAt (At p) = p
 placeAt Nothing = 0
 
@@ -85,10 +85,10 @@ found-numbered w x s number p e = go (eqb (length x) 0) e
 pub found-or-missed : (w x : List ℕ) (s : Section) (number : ℕ) → Once w s → (placeIn w x s number ≡ Nothing) ⊎ (placeIn w x s number ≡ placeOf w number (s .size) (s .at) (s .n))
 found-or-missed w x s number o = go (placeIn w x s number) refl
   where
-    plain : Found
+    plain : RecordFound
     plain = placeOf w number (s .size) (s .at) (s .n)
 
-    go : (f : Found) → placeIn w x s number ≡ f → (f ≡ Nothing) ⊎ (f ≡ plain)
+    go : (f : RecordFound) → placeIn w x s number ≡ f → (f ≡ Nothing) ⊎ (f ≡ plain)
     go Nothing e = inl refl
     go (At p) e =
         let m : Numbered w s number p = found-numbered w x s number p e in

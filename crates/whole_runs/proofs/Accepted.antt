@@ -20,7 +20,7 @@ use Rattle.timetable.specs.Offences.{_<|>_}
 use Rattle.timetable.specs.Load.{Where, delivered, lengthOffence, contentOffence, offence, onto, helperNeeded, refusedOr, shortOr, loaded, writtenBy, written}
 use Rattle.timetable.specs.Layout.{headerSize, serviceHead, firstService, mostPeriodDays, mostCalls, mostCategories, mostDays, mostExtras}
 use Rattle.timetable.specs.Table.{stopPlace, withStop, pointing, serviceSize, serviceWords, tableWords}
-use Rattle.timetable.specs.Table.{recordWords, calls#, categories#, days#, extras#, usedWords, firstDay, periodDays, bitFields#, stops#, interchanges#, services#, servicesPlace, classes#}
+use Rattle.timetable.specs.Table.{wordCountIn, calls#, categories#, days#, extras#, usedWords, firstDay, periodDays, bitFields#, stops#, interchanges#, services#, servicesPlace, classes#}
 use Rattle.timetable.specs.Table.{tableOf, headSound, classSound, isTable}
 use Rattle.timetable.specs.View.{View, viewOf}
 use Rattle.timetable.specs.Questions.{asked, dayIn, dayAsked, interchangeIn, interchangeAsked, refused, journey, walkOf}
@@ -41,7 +41,7 @@ use Rattle.whole_runs.proofs.Right.{Right, services-right}
 
 -- ---- the services are the records of a table
 
-head-words : (s : Service) (r : List ℕ) → (recordWords (serviceWords s ++ r) ≡ serviceSize s) × (calls# (serviceWords s ++ r) ≡ length (s .calls)) × (categories# (serviceWords s ++ r) ≡ length (s .categories)) × (days# (serviceWords s ++ r) ≡ length (s .days)) × (extras# (serviceWords s ++ r) ≡ length (s .extras))
+head-words : (s : Service) (r : List ℕ) → (wordCountIn (serviceWords s ++ r) ≡ serviceSize s) × (calls# (serviceWords s ++ r) ≡ length (s .calls)) × (categories# (serviceWords s ++ r) ≡ length (s .categories)) × (days# (serviceWords s ++ r) ≡ length (s .days)) × (extras# (serviceWords s ++ r) ≡ length (s .extras))
 unfolding serviceWords
 head-words s r = (refl, refl, refl, refl, refl)
 

@@ -21,7 +21,7 @@ use Rattle.timetable.specs.Run.{refuse, legRefusal, firstRefusal, idleLegs, lea
 use Rattle.timetable.specs.View.{viewOf, serviceBy}
 use Rattle.timetable.specs.Questions.{Dated, undated, dated, datedBy, dateOf}
 use Rattle.timetable.specs.Questions.{Journey, refused, idle, rows, journey, walkOf, walkedBy, walked}
-use Rattle.timetable.proofs.Stages.{journeyBy, stretchJourney, onDay, serviceJourney, indexed, datedJourney, journey-stages}
+use Rattle.timetable.proofs.Stages.{journeyBy, stretchJourney, journeyOnDay, serviceJourney, indexed, datedJourney, journey-stages}
 use Rattle.timetable.specs.declared.Call.{Call}
 use Rattle.timetable.specs.declared.Walked.{Walked}
 use Rattle.timetable.specs.declared.Walked.the-variants.{Listed, Refused}
@@ -112,7 +112,7 @@ module _ (d : Delivery) (i : ℕ) (on : Dated) where
         after (callsRefusal s a n 0 0 (stretchCalls s (stretchOf bs))) (by-call d s a n 0 0 (stretchCalls s (stretchOf bs)))
         (a-stretch found day (one-unbroken d s r k a n one) (rows-size d s a n (lateness (s .opening) r) 0 (stretchCalls s (stretchOf bs)) ∙ ap (λ (m : ℕ). rowSize * m) l))
 
-    day-meant : Meant d i on (onDay (viewOf d) s (lateness (s .opening) r) (operatedLegs (d .fields) s k))
+    day-meant : Meant d i on (journeyOnDay (viewOf d) s (lateness (s .opening) r) (operatedLegs (d .fields) s k))
     unfolding bs isWalkRefusal some-of
     day-meant =
         let t = stretches false bs in
@@ -127,7 +127,7 @@ module _ (d : Delivery) (i : ℕ) (on : Dated) where
     service-meant =
         go (not (hasRun (s .opening) r))
       where
-        go : (t : Bool) → Meant d i on (cond t (refused 25) (journeyBy (firstRefusal (legRefusal (viewOf d) s) (below (legCount s))) (onDay (viewOf d) s (lateness (s .opening) r) (operatedLegs (d .fields) s k))))
+        go : (t : Bool) → Meant d i on (cond t (refused 25) (journeyBy (firstRefusal (legRefusal (viewOf d) s) (below (legCount s))) (journeyOnDay (viewOf d) s (lateness (s .opening) r) (operatedLegs (d .fields) s k))))
         go true = not-given 25 refl
         go false = after (firstRefusal (legRefusal (viewOf d) s) (below (legCount s))) (by-leg d s (below (legCount s))) day-meant
 

@@ -28,7 +28,7 @@ use Rattle.forms.specs.declared.Form.the-variants.{Fits, Broken as BrokenForm}
 use Rattle.lines.specs.Lines.{Line, skipped}
 use Rattle.timetable.specs.Layout.{kindZ, kindT}
 use Rattle.timetable.specs.Delivery.{Legs}
-use Rattle.timetable.specs.Plan.{openingIn, frequencyIn, formed, toldBy, toldIn, isOpening, opens, tolds, asCall, asOpening, saidOn}
+use Rattle.timetable.specs.Plan.{openingIn, frequencyIn, formed, toldBy, toldIn, isOpening, opensService, tolds, asCall, asOpening, saidOn}
 use Rattle.timetable.specs.Ranges.{places, lastPlace, callsAt, inOrder, legsBy, fromPlace, toPlace, legsOf}
 use Rattle.timetable.specs.Service.{headLines, blocks, firstOpening, openingOf, opened, announced, callBy, holding, calledOn, callsOf, withLegs, loose, legsOn}
 use Rattle.timetable.specs.declared.Opening.{Opening}
@@ -43,12 +43,12 @@ use Rattle.whole_runs.specs.Text.{Opened, callSays, lineSays, LastThere,
 
 -- ---- the line that opens it
 
-no-opening : (ls : List Line) → All (λ (l : Line). opens l ≡ false) (headLines ls)
+no-opening : (ls : List Line) → All (λ (l : Line). opensService l ≡ false) (headLines ls)
 unfolding headLines
 no-opening [] = nil
-no-opening (l ∷ ls) = go (opens l) refl (no-opening ls)
+no-opening (l ∷ ls) = go (opensService l) refl (no-opening ls)
   where
-    go : (t : Bool) → opens l ≡ t → All (λ (l : Line). opens l ≡ false) (headLines ls) → All (λ (l : Line). opens l ≡ false) (cond t [] (l ∷ headLines ls))
+    go : (t : Bool) → opensService l ≡ t → All (λ (l : Line). opensService l ≡ false) (headLines ls) → All (λ (l : Line). opensService l ≡ false) (cond t [] (l ∷ headLines ls))
     go true e r = nil
     go false e r = cons {x = l} e r
 
@@ -71,9 +71,9 @@ opening-star text e = go (eqb (column 1 text) 42) refl (starred (column 2 text) 
     go false q k e = absurd (other (isDigit (column 1 text)) e)
 
 module _ (l : Line) (others : List Line) where
-  of-kind : opens l ≡ true → ((c : ℕ) → toldIn (l .text) ≡ Broken c → ⊥)
+  of-kind : opensService l ≡ true → ((c : ℕ) → toldIn (l .text) ≡ Broken c → ⊥)
       → ((kindOf (l .text) ≡ OpeningKind) × (openingOf (l ∷ others) .kind ≡ kindZ)) ⊎ ((kindOf (l .text) ≡ Frequency) × (openingOf (l ∷ others) .kind ≡ kindT))
-  unfolding opens toldIn
+  unfolding opensService toldIn
   of-kind o whole = go (kindOf (l .text)) refl
     where
       read : skipped (l .text) ≡ false
@@ -103,9 +103,9 @@ first-whole l others (cons h t) = h .1
 pub block-opened : (ls : List Line) (i : ℕ) (b : List Line) → getElem? (blocks ls) i ≡ some b → Whole b → Opened b (openingOf b .kind)
 unfolding blocks
 block-opened [] i b e read = apart (cc)
-block-opened (l ∷ ls) i b e read = go (opens l) refl (λ i e. block-opened ls i b e read) i e
+block-opened (l ∷ ls) i b e read = go (opensService l) refl (λ i e. block-opened ls i b e read) i e
   where
-    go : (t : Bool) → opens l ≡ t → ((i : ℕ) → getElem? (blocks ls) i ≡ some b → Opened b (openingOf b .kind)) → (i : ℕ) → getElem? (cond t ((l ∷ headLines ls) ∷ blocks ls) (blocks ls)) i ≡ some b → Opened b (openingOf b .kind)
+    go : (t : Bool) → opensService l ≡ t → ((i : ℕ) → getElem? (blocks ls) i ≡ some b → Opened b (openingOf b .kind)) → (i : ℕ) → getElem? (cond t ((l ∷ headLines ls) ∷ blocks ls) (blocks ls)) i ≡ some b → Opened b (openingOf b .kind)
     go true o r zero e =
         let q : l ∷ headLines ls ≡ b = cc in
         subst (λ (c : List Line). Opened c (openingOf c .kind)) q

@@ -24,7 +24,7 @@ use Rattle.timetable.specs.Table.{tableOf, isTable}
 use Rattle.timetable.specs.Run.{legRefusal, firstRefusal, idleLegs, leadingLegs, stretchOf, stretchCalls, callsRefusal}
 use Rattle.timetable.specs.View.{viewOf, serviceBy}
 use Rattle.timetable.specs.Questions.{dated, datedBy, rowsOf, Journey, refused, idle, rows, journey, walkOf, walkedBy, walked, rowsBy, walkRows}
-use Rattle.timetable.proofs.Stages.{journeyBy, stretchJourney, onDay, serviceJourney, indexed, datedJourney, journey-stages}
+use Rattle.timetable.proofs.Stages.{journeyBy, stretchJourney, journeyOnDay, serviceJourney, indexed, datedJourney, journey-stages}
 use Rattle.timetable.specs.Layout.{rowSize}
 use Rattle.timetable.specs.declared.Loaded.{Loaded}
 use Rattle.timetable.specs.declared.Loaded.the-variants.{Accepted}
@@ -55,7 +55,7 @@ goes-on P false (some o) j x p q h = apart (cc)
 goes-on P true o j x p q h = clash (sym p)
 
 module _ (d : Delivery) (s : Service) (h : Right d s) (known : Interchanges d) (r k : ℕ) where
-  day-outcome : k < d .period .n → Outcome d s r k (onDay (viewOf d) s (lateness (s .opening) r) (operatedLegs (d .fields) s k))
+  day-outcome : k < d .period .n → Outcome d s r k (journeyOnDay (viewOf d) s (lateness (s .opening) r) (operatedLegs (d .fields) s k))
   day-outcome l = go (eqb (stretches false bs) 0) refl
     where
       bs : List Bool
@@ -81,7 +81,7 @@ module _ (d : Delivery) (s : Service) (h : Right d s) (known : Interchanges d) (
 
   service-outcome : hasRun (s .opening) r ≡ true → k < d .period .n → Outcome d s r k (serviceJourney (viewOf d) s r k)
   service-outcome l m =
-      goes-on (Outcome d s r k) (not (hasRun (s .opening) r)) (firstRefusal (legRefusal (viewOf d) s) (below (legCount s))) (onDay (viewOf d) s (lateness (s .opening) r) (operatedLegs (d .fields) s k)) (refused 25)
+      goes-on (Outcome d s r k) (not (hasRun (s .opening) r)) (firstRefusal (legRefusal (viewOf d) s) (below (legCount s))) (journeyOnDay (viewOf d) s (lateness (s .opening) r) (operatedLegs (d .fields) s k)) (refused 25)
       (ap not l) (legs-resolved d s h) (day-outcome m)
 
 -- ---- what an outcome excludes

@@ -10,11 +10,11 @@ use Rattle.base.proofs.Laws.{apart, clash, by-ltb}
 use Rattle.calendar.specs.Calendar.{lastDay, dateIn, periodOf}
 use Rattle.calendar.specs.declared.Date.{Date}
 use Rattle.calendar.specs.declared.Date.the-variants.{Day, NoSuchDate}
-use Rattle.calendar.specs.declared.Period.{Period as PeriodOf}
-use Rattle.calendar.specs.declared.Period.the-variants.{NoPeriod}
+use Rattle.calendar.specs.declared.PeriodLength.{PeriodLength as PeriodOf}
+use Rattle.calendar.specs.declared.PeriodLength.the-variants.{NoPeriod}
 use Rattle.calendar.proofs.Bounds.{date-le-last}
 use Rattle.calendar.proofs.Laws.{none-before, days-in, days-over}
-use Rattle.forms.specs.Form.{formOf, isFit, fits}
+use Rattle.forms.specs.Form.{formOf, isFit, hasForm}
 use Rattle.forms.specs.Columns.{dateColumns}
 use Rattle.lines.specs.Lines.{Line}
 use Rattle.timetable.specs.Layout.{mostPeriodDays}
@@ -79,7 +79,7 @@ date-is (Day k) e = refl
 date-is NoSuchDate e = clash (sym e)
 
 -- 4 and "no such date" do not stand at this line
-date-line : (l : Line) → dateLineOffence l ≡ none → (fits dateColumns (l .text) ≡ true) × (dateIn (l .text) ≡ Day (dayNumber (dateIn (l .text))))
+date-line : (l : Line) → dateLineOffence l ≡ none → (hasForm dateColumns (l .text) ≡ true) × (dateIn (l .text) ≡ Day (dayNumber (dateIn (l .text))))
 date-line l e =
     let o = then-none _ _ e in
     (ap isFit (form-none (formOf dateColumns (l .text)) (l .no) (o .0)), date-is (dateIn (l .text)) (given-none _ 5 (l .no) (o .1)))

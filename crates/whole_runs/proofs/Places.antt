@@ -16,8 +16,8 @@ use Rattle.timetable.specs.Layout.{headerSize}
 use Rattle.timetable.specs.Delivery.{StopRecord, CategoryRange, DayRange, ExtraRange, Service, Delivery}
 use Rattle.timetable.specs.Files.{hasStop}
 use Rattle.timetable.specs.Runs.{openingSound}
-use Rattle.timetable.specs.Table.{placeFrom, stopPlace, numberBy, stopNumberAt, withStop, pointing, resolved, tableWords}
-use Rattle.timetable.specs.Table.{recordWords, usedWords, firstDay, periodDays, bitFields#, stops#, interchanges#, services#, servicesPlace, classes#, used, serviceAt, servicesIn, stopsAt, tableOf}
+use Rattle.timetable.specs.Table.{stopPlaceFrom, stopPlace, numberBy, stopNumberAt, withStop, pointing, resolved, tableWords}
+use Rattle.timetable.specs.Table.{wordCountIn, usedWords, firstDay, periodDays, bitFields#, stops#, interchanges#, services#, servicesPlace, classes#, used, serviceAt, servicesIn, stopsAt, tableOf}
 use Rattle.timetable.specs.Table.{legsSound, sizesSound, serviceSound, recordSound, recordsSound, headSound, classSound, isTable}
 use Rattle.timetable.specs.declared.Call.{Call}
 use Rattle.whole_runs.specs.OldTable.{oldTableWords, oldTableOf, oldCallSound, oldServiceSound, oldRecordSound, oldRecordsSound, oldIsTable, pointsBelow}
@@ -25,29 +25,29 @@ use Rattle.whole_runs.proofs.Lists.{or-second}
 
 -- ---- a place
 
-place-from : (k n : ℕ) (stops : List StopRecord) → hasStop n stops ≡ true → (k ≤ placeFrom k n stops) × (placeFrom k n stops < k + length stops)
-unfolding placeFrom some-of
+place-from : (k n : ℕ) (stops : List StopRecord) → hasStop n stops ≡ true → (k ≤ stopPlaceFrom k n stops) × (stopPlaceFrom k n stops < k + length stops)
+unfolding stopPlaceFrom some-of
 place-from k n [] e = clash e
 place-from k n (s ∷ stops) e = go (eqb (s .number) n) e (place-from (k + 1) n stops)
   where
     go : (t : Bool) → t || hasStop n stops ≡ true
-        → (hasStop n stops ≡ true → (k + 1 ≤ placeFrom (k + 1) n stops) × (placeFrom (k + 1) n stops < k + 1 + length stops))
-        → (k ≤ cond t k (placeFrom (k + 1) n stops)) × (cond t k (placeFrom (k + 1) n stops) < k + length (s ∷ stops))
+        → (hasStop n stops ≡ true → (k + 1 ≤ stopPlaceFrom (k + 1) n stops) × (stopPlaceFrom (k + 1) n stops < k + 1 + length stops))
+        → (k ≤ cond t k (stopPlaceFrom (k + 1) n stops)) × (cond t k (stopPlaceFrom (k + 1) n stops) < k + length (s ∷ stops))
     go true e more = (omega arith, omega arith)
     go false e more = let a = more e in (omega (arith, a .0), omega (arith, a .1))
 
-number-from : (k n : ℕ) (stops : List StopRecord) → hasStop n stops ≡ true → numberBy (getElem? stops (placeFrom k n stops - k)) ≡ n
-unfolding placeFrom some-of
+number-from : (k n : ℕ) (stops : List StopRecord) → hasStop n stops ≡ true → numberBy (getElem? stops (stopPlaceFrom k n stops - k)) ≡ n
+unfolding stopPlaceFrom some-of
 number-from k n [] e = clash e
 number-from k n (s ∷ stops) e = go (eqb (s .number) n) refl e (number-from (k + 1) n stops)
   where
     go : (t : Bool) → eqb (s .number) n ≡ t → t || hasStop n stops ≡ true
-        → (hasStop n stops ≡ true → numberBy (getElem? stops (placeFrom (k + 1) n stops - (k + 1))) ≡ n)
-        → numberBy (getElem? (s ∷ stops) (cond t k (placeFrom (k + 1) n stops) - k)) ≡ n
+        → (hasStop n stops ≡ true → numberBy (getElem? stops (stopPlaceFrom (k + 1) n stops - (k + 1))) ≡ n)
+        → numberBy (getElem? (s ∷ stops) (cond t k (stopPlaceFrom (k + 1) n stops) - k)) ≡ n
     go true q e more = let z : k - k ≡ 0 = omega arith in rw z (eqb-true (s .number) n q)
     go false q e more =
         let l = place-from (k + 1) n stops e .0 in
-        let z : placeFrom (k + 1) n stops - k ≡ suc (placeFrom (k + 1) n stops - (k + 1)) = omega (arith, l) in
+        let z : stopPlaceFrom (k + 1) n stops - k ≡ suc (stopPlaceFrom (k + 1) n stops - (k + 1)) = omega (arith, l) in
         rw z (more e)
 
 module _ (n : ℕ) (stops : List StopRecord) (known : hasStop n stops ≡ true) where
@@ -56,7 +56,7 @@ module _ (n : ℕ) (stops : List StopRecord) (known : hasStop n stops ≡ true) 
 
   pub place-back : stopNumberAt stops (stopPlace n stops) ≡ n
   unfolding stopNumberAt
-  place-back = let z : placeFrom 0 n stops - 0 ≡ placeFrom 0 n stops = omega arith in rw z at (number-from 0 n stops known)
+  place-back = let z : stopPlaceFrom 0 n stops - 0 ≡ stopPlaceFrom 0 n stops = omega arith in rw z at (number-from 0 n stops known)
 
 -- the number at a place below S is that of a stop
 pub number-found : (stops : List StopRecord) (k : ℕ) → k < length stops → hasStop (stopNumberAt stops k) stops ≡ true
@@ -193,8 +193,8 @@ records-places : (n v : ℕ) (w : List ℕ) → recordsSound n v w ≡ oldRecord
 unfolding recordsSound oldRecordsSound servicesIn every
 records-places n zero w = sym (and-all (eqb (length w) 0))
 records-places n (suc v) w =
-    rw (record-places n w, records-places n v (drop (recordWords w) w))
-    (exchange (oldRecordSound w) (pointsBelow n (serviceAt w)) (oldRecordsSound v (drop (recordWords w) w)) (every (pointsBelow n) (servicesIn v (drop (recordWords w) w))))
+    rw (record-places n w, records-places n v (drop (wordCountIn w) w))
+    (exchange (oldRecordSound w) (pointsBelow n (serviceAt w)) (oldRecordsSound v (drop (wordCountIn w) w)) (every (pointsBelow n) (servicesIn v (drop (wordCountIn w) w))))
 
 pub table-by-places : (w : List ℕ) → isTable w ≡ oldIsTable w && every (pointsBelow (stops# w)) (oldTableOf w .services)
 unfolding isTable oldIsTable tableOf oldTableOf

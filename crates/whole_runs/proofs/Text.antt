@@ -9,14 +9,14 @@ use lib.ListN.{length-map}
 use borrow.Author.Tests.{not-false}
 use Rattle.base.specs.Lists.{All, nil, cons, gathered}
 use Rattle.base.proofs.Laws.{apart}
-use Rattle.forms.specs.Form.{Row, formOf}
+use Rattle.forms.specs.Form.{FieldRule, formOf}
 use Rattle.forms.specs.declared.Form.{Form}
 use Rattle.forms.specs.declared.Form.the-variants.{Fits, Broken}
 use Rattle.lines.specs.Lines.{Line, linesOf, skipped}
 use Rattle.timetable.specs.Delivery.{Files, BitField}
 use Rattle.timetable.specs.Offences.{given, first}
 use Rattle.timetable.specs.Files.{Held, skip, broken, listed, held-in, heldBy, heldLine, heldOffence, bitFieldsFirst, stopsFirst, interchangesFirst, classesFirst}
-use Rattle.timetable.specs.Plan.{opens}
+use Rattle.timetable.specs.Plan.{opensService}
 use Rattle.timetable.specs.Service.{headLines, blocks, serviceOf}
 use Rattle.timetable.specs.Legs.{fieldRuns}
 use Rattle.timetable.specs.Load.{delivered}
@@ -34,7 +34,7 @@ use Rattle.whole_runs.proofs.Once.{fields-run, stops-own, interchanges-
 whole-line : {X : Type 0} (own : X → Option Offence) (line : ℕ) (h : Held X) → heldOffence own line h ≡ none → (c : ℕ) → h ≡ broken c → ⊥
 whole-line own line h e c q = let z = form-none (Broken c) line (sym (ap (heldOffence own line) q) ∙ e) in apart (cc)
 
-module _ {X : Type 0} (rows : List Row) (read : Line → X) where
+module _ {X : Type 0} (rows : List FieldRule) (read : Line → X) where
   one-line : (l : Line) → ((c : ℕ) → heldLine rows read l ≡ broken c → ⊥) → {ls : List Line} {xs : List X} → Records (heldLine rows read) ls xs
       → Records (heldLine rows read) (l ∷ ls) (listed (heldLine rows read l) ++ xs)
   one-line l unbroken {ls} {xs} rest = go (skipped (l .text)) refl (formOf rows (l .text)) refl
@@ -58,7 +58,7 @@ module _ {X : Type 0} (rows : List Row) (read : Line → X) where
 pub blocks-whole : (ls : List Line) → headLines ls ++ gathered (λ (b : List Line). b) (blocks ls) ≡ ls
 unfolding headLines blocks gathered
 blocks-whole [] = refl
-blocks-whole (l ∷ ls) = go (opens l) (blocks-whole ls)
+blocks-whole (l ∷ ls) = go (opensService l) (blocks-whole ls)
   where
     go : (t : Bool) → headLines ls ++ gathered (λ (b : List Line). b) (blocks ls) ≡ ls
         → cond t [] (l ∷ headLines ls) ++ gathered (λ (b : List Line). b) (cond t ((l ∷ headLines ls) ∷ blocks ls) (blocks ls)) ≡ l ∷ ls

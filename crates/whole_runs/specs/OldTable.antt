@@ -19,7 +19,7 @@ use Rattle.timetable.specs.Files.{hasStop, hasClass}
 use Rattle.timetable.specs.Legs.{stretches, legCount, operatedLegs}
 use Rattle.timetable.specs.Runs.{openingSound, hasRun, lateness}
 use Rattle.timetable.specs.Table.{bitFieldWords, stopWords, interchangeWords, classWords, serviceWords, tableWords, rowsIn, bitFieldAt, stopAt, interchangeAt, classAt, serviceAt, servicesIn}
-use Rattle.timetable.specs.Table.{recordWords, usedWords, firstDay, periodDays, bitFields#, stops#, interchanges#, services#, servicesPlace, classes#, used}
+use Rattle.timetable.specs.Table.{wordCountIn, usedWords, firstDay, periodDays, bitFields#, stops#, interchanges#, services#, servicesPlace, classes#, used}
 use Rattle.timetable.specs.Table.{legsSound, sizesSound, headSound, classSound, tableOf, isTable}
 use Rattle.timetable.specs.Load.{lengthOffence, contentOffence, helperNeeded, refusedOr, shortOr, loaded, writtenBy, written, delivered}
 use Rattle.timetable.specs.View.{View, viewOf}
@@ -93,7 +93,7 @@ oldRecordSound w = sizesSound w && oldServiceSound (serviceAt w)
 
 unfoldable pub oldRecordsSound : ℕ → List ℕ → Bool
 oldRecordsSound zero w = eqb (length w) 0
-oldRecordsSound (suc v) w = oldRecordSound w && oldRecordsSound v (drop (recordWords w) w)
+oldRecordsSound (suc v) w = oldRecordSound w && oldRecordsSound v (drop (wordCountIn w) w)
 
 unfoldable pub oldIsTable : List ℕ → Bool
 oldIsTable w =

@@ -18,13 +18,13 @@ use Rattle.fields.specs.declared.RangeEnd.the-variants.{Stop}
 use Rattle.fields.specs.declared.Detail.the-variants.{Plain}
 use Rattle.forms.specs.Kinds.{kindOf}
 use Rattle.forms.specs.declared.Kind.the-variants.{Opening as OpeningKind, Frequency}
-use Rattle.forms.specs.Form.{fits}
+use Rattle.forms.specs.Form.{hasForm}
 use Rattle.forms.specs.Columns.{dateColumns}
 use Rattle.lines.specs.Lines.{Line, linesOf, skipped}
 use Rattle.timetable.specs.Layout.{kindZ, kindT}
 use Rattle.timetable.specs.Delivery.{Files, Period, BitField, StopRecord, Interchange, CategoryClass, Legs, CategoryRange, DayRange, ExtraRange, Service}
 use Rattle.timetable.specs.Files.{Held, held, bitFieldOf, stopOf, interchangeOf, classOf}
-use Rattle.timetable.specs.Plan.{opens, tolds, asCall, partLines}
+use Rattle.timetable.specs.Plan.{opensService, tolds, asCall, partLines}
 use Rattle.timetable.specs.Service.{headLines, blocks, openingOf, serviceOf}
 use Rattle.timetable.specs.Legs.{fieldRuns}
 use Rattle.timetable.specs.Load.{delivered}
@@ -41,7 +41,7 @@ pub record ThreeLines (ls : List Line) (p : Period) : Type 0 where
   pub second : Line
   pub third : Line
   pub exactly : ls ≡ first ∷ second ∷ third ∷ []
-  pub forms : (fits dateColumns (first .text) ≡ true) × (fits dateColumns (second .text) ≡ true)
+  pub forms : (hasForm dateColumns (first .text) ≡ true) × (hasForm dateColumns (second .text) ≡ true)
   -- the first day of the period, and the last
   pub start : dateIn (first .text) ≡ Day (p .start)
   pub end : dateIn (second .text) ≡ Day (p .start + p .n - 1)
@@ -57,7 +57,7 @@ pub record Opened (lines : List Line) (kind : ℕ) : Type 0 where
   pub first : Line
   pub others : List Line
   pub are : lines ≡ first ∷ others
-  pub no-other : All (λ (l : Line). opens l ≡ false) others
+  pub no-other : All (λ (l : Line). opensService l ≡ false) others
   pub of-kind : ((kindOf (first .text) ≡ OpeningKind) × (kind ≡ kindZ)) ⊎ ((kindOf (first .text) ≡ Frequency) × (kind ≡ kindT))
 
 -- what a call holds of its own schedule line: stop, times and flags (the number and the administration that hold there: `Announces`)

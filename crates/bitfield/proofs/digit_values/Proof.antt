@@ -1,5 +1,5 @@
 use Prim.Native.Nat.{_-_}
-use Rattle.bitfield.specs.Digits.{Digits}
+use Rattle.bitfield.specs.Inner.Digits.{Digits}
 use Rattle.bitfield.proofs.Pack.{packing}
 use Rattle.bitfield.proofs.digit_values.Statement.{statement}
 use Rattle.bitfield.proofs.digit_values.Tie as tie

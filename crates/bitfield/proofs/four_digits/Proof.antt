@@ -1,4 +1,4 @@
-use Rattle.bitfield.specs.Digits.{fourDigits}
+use Rattle.bitfield.specs.Inner.Digits.{fourDigits}
 use Rattle.bitfield.proofs.Pack.{packing}
 use Rattle.bitfield.proofs.four_digits.Statement.{statement}
 use Rattle.bitfield.proofs.four_digits.Tie as tie

@@ -4,7 +4,7 @@ use Prim.Native.Nat.{_+_, _-_, _*_}
 use lib.ListN.{length}
 use Rattle.base.specs.Lists.{gathered, upto}
 use Rattle.words.specs.Words.{write}
-use Rattle.sort.specs.Rows.{rowWords}
+use Rattle.sort.specs.Rows.{boardRowWords}
 use Rattle.board.specs.Board.{departureOf}
 use Rattle.board_runs.proofs.Needs.{rows}
 use Rattle.board_runs.proofs.put_rows.Statement.{statement}
@@ -14,7 +14,7 @@ abbrev Inv-loop : tie.InvT-loop
 Inv-loop list₀ at i opening p departure low high to₀ r₀ list to r =
     (length list ≡ length list₀)
     × (to + 4 * (high - r) ≡ at + 4 * (high - low))
-    × (write list to (gathered rowWords (map (departureOf i opening p departure) (upto (high - r) r))) ≡ write list₀ at (gathered rowWords (map (departureOf i opening p departure) (upto (high - low) low))))
+    × (write list to (gathered boardRowWords (map (departureOf i opening p departure) (upto (high - r) r))) ≡ write list₀ at (gathered boardRowWords (map (departureOf i opening p departure) (upto (high - low) low))))
 
 abbrev μ-loop : tie.MeasureT-loop
 μ-loop list₀ at i opening p departure low high to₀ r₀ list to r = high - r

@@ -4,7 +4,7 @@ use mathlib.Core.Bool.{true}
 use Prim.Native.Nat.{_-_, _≤_}
 use lib.ListN.{length}
 use Rattle.sections.proofs.Walk.{Walked}
-use Rattle.classes.specs.Passes.{before, codes, sound}
+use Rattle.classes.specs.Inner.Passes.{before, codes, sound}
 use Rattle.classes.proofs.Check.{forming}
 use Rattle.classes.proofs.Lines.{walking}
 use Rattle.classes.proofs.formed_lines.Statement.{statement}

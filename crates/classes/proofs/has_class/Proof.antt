@@ -5,7 +5,7 @@ use Prim.Native.Nat.{_+_, _-_, _≤_}
 use lib.ListN.{length, drop}
 use Rattle.lines.specs.Lines.{linesFrom}
 use Rattle.timetable.specs.Files.{held-in, classOf, hasClass}
-use Rattle.classes.specs.Passes.{sound}
+use Rattle.classes.specs.Inner.Passes.{sound}
 use Rattle.classes.proofs.Slots.{seeking}
 use Rattle.classes.proofs.has_class.Statement.{statement}
 use Rattle.classes.proofs.has_class.Tie as tie

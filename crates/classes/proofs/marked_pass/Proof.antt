@@ -2,7 +2,7 @@
 use Prim.Native.Nat.{_-_, _≤_}
 use lib.ListN.{length}
 use Rattle.sections.proofs.Walk.{Walked}
-use Rattle.classes.specs.Passes.{codes}
+use Rattle.classes.specs.Inner.Passes.{codes}
 use Rattle.classes.proofs.Once.{Passing, passing}
 use Rattle.classes.proofs.Lines.{walking}
 use Rattle.classes.proofs.marked_pass.Statement.{statement}

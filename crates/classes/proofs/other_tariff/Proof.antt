@@ -7,7 +7,7 @@ use lib.ListN.{length}
 use Rattle.timetable.specs.Offences.{first}
 use Rattle.timetable.specs.Files.{held-in, tariffOf}
 use Rattle.sections.proofs.Walk.{Walked}
-use Rattle.classes.specs.Passes.{before, groupOf, tariffOffenceOn}
+use Rattle.classes.specs.Inner.Passes.{before, groupOf, tariffOffenceOn}
 use Rattle.classes.proofs.Check.{tariffs}
 use Rattle.classes.proofs.Lines.{walking}
 use Rattle.classes.proofs.other_tariff.Statement.{statement}

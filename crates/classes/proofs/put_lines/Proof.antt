@@ -3,7 +3,7 @@ use mathlib.Core.Path.{_≡_}
 use Prim.Native.Nat.{_-_, _≤_}
 use lib.ListN.{length}
 use Rattle.sections.proofs.Walk.{Walked}
-use Rattle.classes.specs.Index.{Entered}
+use Rattle.classes.specs.Inner.Index.{Entered}
 use Rattle.classes.proofs.Slots.{filling}
 use Rattle.classes.proofs.Lines.{walking}
 use Rattle.classes.proofs.put_lines.Statement.{statement}

@@ -4,7 +4,7 @@ use native.Mathlib.Omega.{arith}
 use lib.ListN.{length, drop}
 use Rattle.base.specs.Lists.{countIf}
 use Rattle.timetable.specs.Legs.{covers}
-use Rattle.cover.specs.Cover.{legsIn}
+use Rattle.cover.specs.Inner.Cover.{legsIn}
 use Rattle.cover.proofs.Ranges.{ranges}
 use Rattle.cover.proofs.covering.Statement.{statement}
 use Rattle.cover.proofs.covering.Tie as tie

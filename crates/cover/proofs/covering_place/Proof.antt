@@ -1,13 +1,13 @@
 use mathlib.Core.Path.{_≡_}
 use Prim.Native.Nat.{_+_, _*_, _≤_}
 use lib.ListN.{length, drop}
-use Rattle.cover.specs.Cover.{placeFrom}
+use Rattle.cover.specs.Inner.Cover.{coverPlaceFrom}
 use Rattle.cover.proofs.Ranges.{ranges}
 use Rattle.cover.proofs.covering_place.Statement.{statement}
 use Rattle.cover.proofs.covering_place.Tie as tie
 
 abbrev Inv-loop : tie.InvT-loop
-Inv-loop w n width leg left₀ at₀ left at = (at + left * width ≤ length w) × (placeFrom leg width at left (drop at w) ≡ placeFrom leg width 0 n w)
+Inv-loop w n width leg left₀ at₀ left at = (at + left * width ≤ length w) × (coverPlaceFrom leg width at left (drop at w) ≡ coverPlaceFrom leg width 0 n w)
 
 abbrev μ-loop : tie.MeasureT-loop
 μ-loop w n width leg left₀ at₀ left at = left

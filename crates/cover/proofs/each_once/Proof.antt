@@ -1,7 +1,7 @@
 use mathlib.Core.Path.{_≡_}
 use Prim.Native.Nat.{_-_}
 use Rattle.base.specs.Lists.{every, upto, below}
-use Rattle.cover.specs.Cover.{onceIn}
+use Rattle.cover.specs.Inner.Cover.{onceIn}
 use Rattle.base.proofs.Laws.{tests}
 use Rattle.base.proofs.Loops.{counting}
 use Rattle.cover.proofs.each_once.Statement.{statement}

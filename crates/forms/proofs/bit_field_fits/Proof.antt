@@ -1,4 +1,4 @@
-use Rattle.forms.specs.Usual.{bitFieldFits}
+use Rattle.forms.specs.Inner.Usual.{bitFieldFits}
 use Rattle.forms.proofs.Straight.{chained}
 use Rattle.forms.proofs.bit_field_fits.Statement.{statement}
 use Rattle.forms.proofs.bit_field_fits.Tie as tie

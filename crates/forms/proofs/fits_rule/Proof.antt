@@ -1,5 +1,5 @@
 use Rattle.base.proofs.Laws.{tests}
-use Rattle.forms.specs.Rows.{ruleOf}
+use Rattle.forms.specs.Inner.Rows.{ruleOf}
 use Rattle.forms.proofs.Rules.{time-rule, end-rule}
 use Rattle.forms.proofs.fits_rule.Statement.{statement}
 use Rattle.forms.proofs.fits_rule.Tie as tie

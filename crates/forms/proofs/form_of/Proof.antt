@@ -2,7 +2,7 @@ use mathlib.Core.Path.{_≡_}
 use Prim.Native.Nat.{_-_}
 use lib.ListN.{length, drop}
 use Rattle.forms.specs.Form.{formFrom}
-use Rattle.forms.specs.Rows.{rowsOf}
+use Rattle.forms.specs.Inner.Rows.{rowsOf}
 use Rattle.forms.proofs.Laws.{forms}
 use Rattle.forms.proofs.form_of.Statement.{statement}
 use Rattle.forms.proofs.form_of.Tie as tie

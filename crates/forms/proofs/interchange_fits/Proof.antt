@@ -1,4 +1,4 @@
-use Rattle.forms.specs.Usual.{interchangeFits}
+use Rattle.forms.specs.Inner.Usual.{interchangeFits}
 use Rattle.forms.proofs.Straight.{chained}
 use Rattle.forms.proofs.interchange_fits.Statement.{statement}
 use Rattle.forms.proofs.interchange_fits.Tie as tie

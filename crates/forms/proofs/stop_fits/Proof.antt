@@ -1,4 +1,4 @@
-use Rattle.forms.specs.Usual.{stopFits}
+use Rattle.forms.specs.Inner.Usual.{stopFits}
 use Rattle.forms.proofs.Straight.{chained}
 use Rattle.forms.proofs.stop_fits.Statement.{statement}
 use Rattle.forms.proofs.stop_fits.Tie as tie

@@ -1,4 +1,4 @@
-use Rattle.forms.specs.Rows.{ruleOf, rowsOf}
+use Rattle.forms.specs.Inner.Rows.{ruleOf, rowsOf}
 use Rattle.forms.proofs.Laws.{of-kind}
 use Rattle.base.proofs.Laws.{tests}
 use Rattle.forms.proofs.tabled_form.Statement.{statement}

@@ -4,7 +4,7 @@ use native.Mathlib.Omega.{arith}
 use lib.ListN.{length, drop}
 use Rattle.chain_check.specs.Tally.{same}
 use Rattle.index.specs.Index.{placesFrom, placesOf}
-use Rattle.indexing.specs.Onward.{Onward}
+use Rattle.indexing.specs.Inner.Onward.{Onward}
 use Rattle.index_check.proofs.Places.{places}
 use Rattle.index_check.proofs.places_right.Statement.{statement}
 use Rattle.index_check.proofs.places_right.Tie as tie

@@ -1,4 +1,4 @@
-use Rattle.map.specs.Map.{bucketOf}
+use Rattle.map.specs.Inner.Map.{bucketOf}
 use Rattle.map.proofs.Finds.{spreads}
 use Rattle.map.proofs.bucket.Statement.{statement}
 use Rattle.map.proofs.bucket.Tie as tie

@@ -2,7 +2,7 @@ use mathlib.Core.Path.{_≡_}
 use Prim.Native.Nat.{_+_, _-_}
 use lib.ListN.{length, drop}
 use Rattle.names.specs.Names.{span}
-use Rattle.names.specs.Answers.{isOf}
+use Rattle.names.specs.Inner.Answers.{isOf}
 use Rattle.names.proofs.Laws.{loops}
 use Rattle.names.proofs.span_end.Statement.{statement}
 use Rattle.names.proofs.span_end.Tie as tie

@@ -5,11 +5,11 @@ use Rattle.lines.specs.Lines.{linesAt}
 use Rattle.timetable.specs.Files.{bitFieldsIn, stopsIn, classesIn}
 use Rattle.timetable.specs.Service.{blocks}
 use Rattle.timetable.specs.Checks.{servicesFirst}
-use Rattle.draft.specs.Draft.{callsLent, rangesLent}
+use Rattle.draft.specs.Inner.Draft.{callsLent, rangesLent}
 use Rattle.base.proofs.Laws.{tests}
-use Rattle.reading.specs.Maps.{FieldMap, StopMap, ClassIndex}
-use Rattle.reading.specs.Reading.{Boundary}
-use Rattle.plan.specs.Services.{blockWords}
+use Rattle.reading.specs.Inner.Maps.{FieldMap, StopMap, ClassIndex}
+use Rattle.reading.specs.Inner.Reading.{Boundary}
+use Rattle.plan.specs.Inner.Services.{blockWords}
 use Rattle.plan.proofs.Checking.{checking}
 use Rattle.plan.proofs.check_services.Statement.{statement}
 use Rattle.plan.proofs.check_services.Tie as tie

@@ -6,9 +6,9 @@ use Rattle.lines.specs.Lines.{linesAt}
 use Rattle.words.specs.Words.{write}
 use Rattle.timetable.specs.Files.{stopsIn}
 use Rattle.timetable.specs.Service.{blocks}
-use Rattle.draft.specs.Draft.{callsLent, rangesLent}
-use Rattle.reading.specs.Reading.{Boundary}
-use Rattle.plan.specs.Services.{blockWords, placedWords, withinLimits}
+use Rattle.draft.specs.Inner.Draft.{callsLent, rangesLent}
+use Rattle.reading.specs.Inner.Reading.{Boundary}
+use Rattle.plan.specs.Inner.Services.{blockWords, placedWords, withinLimits}
 use Rattle.plan.proofs.Putting.{putting}
 use Rattle.plan.proofs.put_services.Statement.{statement}
 use Rattle.plan.proofs.put_services.Tie as tie

@@ -1,5 +1,5 @@
-use Rattle.plan_writing.specs.Record.{callsText}
-use Rattle.service_lines.specs.Record.{shownCall}
+use Rattle.plan_writing.specs.Inner.Record.{callsText}
+use Rattle.service_lines.specs.Inner.Record.{shownCall}
 use Rattle.plan_text.specs.PlanText.{callText}
 use Rattle.line_text.specs.Laid.{textOf}
 use Rattle.words.specs.Words.{write}

@@ -1,5 +1,5 @@
-use Rattle.plan_writing.specs.Record.{rangeText, partText}
-use Rattle.service_lines.specs.Record.{partSize, partCount, here}
+use Rattle.plan_writing.specs.Inner.Record.{rangeText, partText}
+use Rattle.service_lines.specs.Inner.Record.{partSize, partCount, here}
 use Rattle.line_text.specs.Laid.{textOf}
 use Rattle.words.specs.Words.{write}
 use Rattle.timetable.specs.Table.{rowsIn}

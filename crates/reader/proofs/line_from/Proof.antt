@@ -40,7 +40,7 @@ use denote.Exit.{yes}
 use denote.Triple.Clauses.{ensured}
 use Rattle.reader.proofs.Asked.{needs-both}
 use Rattle.reader.proofs.Lent.{Own, Cell, found, NextLine, lent, to, Left, lends, told, back}
-use Rattle.reader.specs.Past.{past}
+use Rattle.reader.specs.Inner.Past.{past}
 use Rattle.reader.specs.declared.Reader.{Reader}
 use Rattle.lines.specs.declared.Cut.{Cut}
 use Rattle.reader.proofs.Reader as T

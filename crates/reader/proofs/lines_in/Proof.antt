@@ -53,7 +53,7 @@ use Rattle.lines.specs.declared.Cut.{Cut}
 use Rattle.lines.proofs.Laws.{cut-less}
 use Rattle.reader.proofs.Count.{Kept, kept-first, kept-next, kept-last, kept-small}
 use Rattle.reader.proofs.Lent.{Own, Cell, found, NextLine, lent, to, Left, lends, told, back}
-use Rattle.reader.specs.Past.{past}
+use Rattle.reader.specs.Inner.Past.{past}
 use Rattle.reader.specs.declared.Reader.{Reader}
 use Rattle.reader.proofs.Reader as T
 use Rattle.reader.proofs.Reader.Laws as T′

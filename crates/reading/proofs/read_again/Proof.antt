@@ -1,15 +1,15 @@
 use mathlib.Core.Path.{_≡_}
 use Prim.Native.Nat.{_-_}
 use lib.ListN.{length}
-use Rattle.draft.specs.Draft.{countsOf, Within}
-use Rattle.reading.specs.Reading.{serviceAt}
+use Rattle.draft.specs.Inner.Draft.{countsOf, Within}
+use Rattle.reading.specs.Inner.Reading.{serviceLinesAt}
 use Rattle.reading.proofs.Passing.{Passed, passing}
 use Rattle.reading.proofs.read_again.Statement.{statement}
 use Rattle.reading.proofs.read_again.Tie as tie
 
 abbrev Inv-loop : tie.InvT-loop
 Inv-loop fplan at no' calls₀ ranges₀ stop opening counts₀ end₀ line₀ calls ranges counts end line =
-    (length calls ≡ length calls₀) × (length ranges ≡ length ranges₀) × Within (countsOf (serviceAt fplan at no')) × Passed fplan at no' opening end line counts calls ranges
+    (length calls ≡ length calls₀) × (length ranges ≡ length ranges₀) × Within (countsOf (serviceLinesAt fplan at no')) × Passed fplan at no' opening end line counts calls ranges
 
 abbrev μ-loop : tie.MeasureT-loop
 μ-loop fplan at no' calls₀ ranges₀ stop opening counts₀ end₀ line₀ calls ranges counts end line = length fplan - end

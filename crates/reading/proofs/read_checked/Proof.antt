@@ -6,7 +6,7 @@ use Rattle.base.proofs.Laws.{tests}
 use Rattle.timetable.specs.Files.{bitFieldsIn, stopsIn, classesIn}
 use Rattle.reading.proofs.Passing.{pass-less}
 use Rattle.reading.proofs.Checking.{Clean, clean-first, refused-first, clean-within, clean-more, checking}
-use Rattle.reading.specs.Maps.{FieldMap, StopMap, ClassIndex}
+use Rattle.reading.specs.Inner.Maps.{FieldMap, StopMap, ClassIndex}
 use Rattle.reading.proofs.read_checked.Statement.{statement}
 use Rattle.reading.proofs.read_checked.Tie as tie
 

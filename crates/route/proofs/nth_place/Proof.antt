@@ -3,7 +3,7 @@ use mathlib.Core.Path.{_≡_}
 use Prim.Native.Nat.{_*_, _-_}
 use lib.ListN.{getElem?}
 use Rattle.timetable.specs.Ranges.{places, callsAt}
-use Rattle.draft.specs.Draft.{draftCall, callsIn}
+use Rattle.draft.specs.Inner.Draft.{draftCall, callsIn}
 use Rattle.route.proofs.Laws.{placesFrom, nths}
 use Rattle.route.proofs.nth_place.Statement.{statement}
 use Rattle.route.proofs.nth_place.Tie as tie

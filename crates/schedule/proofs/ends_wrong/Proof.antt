@@ -1,7 +1,7 @@
 use mathlib.Core.Path.{_≡_}
 use Prim.Native.Nat.{_*_, _-_}
 use lib.ListN.{drop}
-use Rattle.draft.specs.Draft.{draftRange, rangeBack, callsIn, rangesOn}
+use Rattle.draft.specs.Inner.Draft.{draftRange, rangeBack, callsIn, rangesOn}
 use Rattle.timetable.specs.Offences.{verdictBy}
 use Rattle.timetable.specs.Checks.{endsFirst}
 use Rattle.timetable.specs.Table.{rowsIn}

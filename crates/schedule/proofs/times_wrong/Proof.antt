@@ -1,7 +1,7 @@
 use mathlib.Core.Path.{_≡_}
 use Prim.Native.Nat.{_*_, _-_}
 use lib.ListN.{drop}
-use Rattle.draft.specs.Draft.{draftCall, callBack, callsOn}
+use Rattle.draft.specs.Inner.Draft.{draftCall, callBack, callsOn}
 use Rattle.timetable.specs.Offences.{verdictBy}
 use Rattle.timetable.specs.Checks.{timesFirst}
 use Rattle.timetable.specs.Table.{rowsIn}

@@ -5,7 +5,7 @@ use Prim.Native.Nat.{_+_, _-_, _≤_}
 use lib.ListN.{length, drop}
 use Rattle.lines.specs.Lines.{linesFrom, linesOf}
 use Rattle.words.specs.Words.{write}
-use Rattle.section_words.specs.Words.{sectionWords}
+use Rattle.section_words.specs.Inner.Words.{sectionWords}
 use Rattle.section_words.proofs.Puts.{section-puts}
 use Rattle.section_words.proofs.put_section.Statement.{statement}
 use Rattle.section_words.proofs.put_section.Tie as tie

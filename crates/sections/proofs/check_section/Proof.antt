@@ -7,7 +7,7 @@ use lib.ListN.{length, take, drop}
 use Rattle.lines.specs.Lines.{linesFrom, linesOf}
 use Rattle.timetable.specs.Offences.{first, checkedBy}
 use Rattle.timetable.specs.Files.{held-in, stopOf}
-use Rattle.sections.specs.Sections.{numbers, lineOffence}
+use Rattle.sections.specs.Inner.Sections.{numbers, lineOffence}
 use Rattle.sections.proofs.Walk.{Walked}
 use Rattle.sections.proofs.Scans.{scanFrom, scans}
 use Rattle.sections.proofs.Fills.{Filling, fills}

@@ -2,7 +2,7 @@ use Prim.Native.Nat.{_-_}
 use Rattle.timetable.specs.Files.{bitFieldsIn}
 use Rattle.service.proofs.Stretches.{Swept, swept-next, sweeps}
 use Rattle.base.proofs.Laws.{tests}
-use Rattle.reading.specs.Maps.{FieldMap}
+use Rattle.reading.specs.Inner.Maps.{FieldMap}
 use Rattle.service.proofs.torn_days.Statement.{statement}
 use Rattle.service.proofs.torn_days.Tie as tie
 

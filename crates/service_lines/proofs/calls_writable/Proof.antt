@@ -1,5 +1,5 @@
 use native.Mathlib.Omega.{arith}
-use Rattle.service_lines.specs.Record.{shownCall, callRows}
+use Rattle.service_lines.specs.Inner.Record.{shownCall, callRows}
 use Rattle.writable.specs.Writable.{callWritable}
 use Rattle.timetable.specs.Table.{rowsIn, callAt, stops#, tableOf, callSound}
 use Rattle.timetable.specs.Layout.{callSize}

@@ -1,4 +1,4 @@
-use Rattle.service_lines.specs.Record.{partSize, here, partRows, rangeWritable}
+use Rattle.service_lines.specs.Inner.Record.{partSize, here, partRows, rangeWritable}
 use Rattle.timetable.specs.Table.{rowsIn}
 use Rattle.base.specs.Lists.{every}
 use lib.ListN.{length, drop}

@@ -4,7 +4,7 @@ use lib.ListN.{length}
 use Rattle.base.specs.Lists.{gathered}
 use Rattle.words.specs.Words.{write}
 use Rattle.timetable.specs.Table.{callWords}
-use Rattle.draft.specs.Draft.{draftCall, callsIn}
+use Rattle.draft.specs.Inner.Draft.{draftCall, callsIn}
 use Rattle.service_words.proofs.Parts.{callsLeft, calling}
 use Rattle.service_words.proofs.calls_into.Statement.{statement}
 use Rattle.service_words.proofs.calls_into.Tie as tie

@@ -2,8 +2,8 @@ use mathlib.Core.Path.{_≡_}
 use Prim.Native.Nat.{_+_, _*_, _-_}
 use lib.ListN.{length}
 use Rattle.words.specs.Words.{write}
-use Rattle.draft.specs.Draft.{draftRange, callsIn, rangesIn}
-use Rattle.service_words.specs.Parts.{partWords}
+use Rattle.draft.specs.Inner.Draft.{draftRange, callsIn, rangesIn}
+use Rattle.service_words.specs.Inner.Parts.{partWords}
 use Rattle.service_words.proofs.Parts.{partLeft, puts}
 use Rattle.service_words.proofs.part_into.Statement.{statement}
 use Rattle.service_words.proofs.part_into.Tie as tie

@@ -1,5 +1,5 @@
 use native.Mathlib.Omega.{arith}
-use Rattle.draft.specs.Draft.{callsIn, rangesIn}
+use Rattle.draft.specs.Inner.Draft.{callsIn, rangesIn}
 use Rattle.service_words.proofs.Record.{ranging, range-count}
 use Rattle.service_words.proofs.ranges_into.Statement.{statement}
 use Rattle.service_words.proofs.ranges_into.Tie as tie

@@ -4,8 +4,8 @@ use lib.ListN.{length, drop}
 use Rattle.words.specs.Words.{write}
 use Rattle.timetable.specs.Layout.{callSize}
 use Rattle.timetable.specs.Files.{stopsIn}
-use Rattle.reading.specs.Maps.{StopMap}
-use Rattle.stop_places.specs.Pointed.{pointedCalls}
+use Rattle.reading.specs.Inner.Maps.{StopMap}
+use Rattle.stop_places.specs.Inner.Pointed.{pointedCalls}
 use Rattle.stop_places.proofs.Laws.{points}
 use Rattle.stop_places.proofs.point_calls.Statement.{statement}
 use Rattle.stop_places.proofs.point_calls.Tie as tie

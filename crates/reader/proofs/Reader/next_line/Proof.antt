@@ -47,7 +47,7 @@ use denote.Triple.Clauses.{ensured, lasts}
 use Rattle.reader.proofs.Asked.{needs-both, says-both}
 use Rattle.lines.specs.Lines.{cutAt}
 use Rattle.lines.specs.declared.Cut.{Cut}
-use Rattle.reader.specs.Past.{past}
+use Rattle.reader.specs.Inner.Past.{past}
 use Rattle.reader.specs.declared.Reader.{Reader}
 use Rattle.reader.proofs.Reader as T
 use Rattle.reader.proofs.Reader.Laws as T′

@@ -1,0 +1,2 @@
+pub mod SectionMap
+pub mod Sections

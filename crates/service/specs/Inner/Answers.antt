@@ -1,0 +1,89 @@
+-- What the checks of one service answer, by the definitions of the crate timetable. Nobody has to believe this file. Assumes nothing.
+use Prim.Native.Nat.{ℕ, _≤_, _<_}
+use mathlib.Core.Path.{_≡_}
+use mathlib.Core.List.{List, _∷_, map}
+use mathlib.Core.Bool.{Bool, false, not}
+use mathlib.Core.Option.{Option, none, some}
+use lib.ListN.{length}
+use lib.Dec.{leb, ltb}
+use Rattle.base.specs.Lists.{some-of, below}
+use Rattle.lines.specs.Lines.{linesAt}
+use Rattle.timetable.specs.Layout.{mostCalls, mostCategories, mostDays}
+use Rattle.timetable.specs.Delivery.{BitField, StopRecord, CategoryClass, DayRange, Service}
+use Rattle.timetable.specs.Offences.{_<|>_, given}
+use Rattle.timetable.specs.Service.{blocks, serviceOf}
+use Rattle.timetable.specs.Legs.{operated, stretches}
+use Rattle.timetable.specs.Checks.{eachOnce, timesFirst, endsFirst, legsFirst, serviceFirst}
+use Rattle.timetable.specs.Table.{serviceWords, calls#, categories#, days#, extraPlace}
+use Rattle.timetable.specs.declared.Offence.{Offence}
+use Rattle.timetable.specs.declared.Part.the-variants.{Category, Days, Extra}
+use Rattle.draft.specs.Inner.Draft.{callsLent, rangesLent, callsOn, callsIn, rangesOn, rangesIn, ranges#, Within, partIn, draftedService}
+use Rattle.draft.specs.declared.Counts.{Counts}
+use Rattle.draft.specs.declared.Drafted.{Drafted}
+use Rattle.reading.specs.Inner.Reading.{serviceLinesAt, Boundary}
+use Rattle.service.specs.declared.ServiceCheck.{ServiceCheck}
+use Rattle.service.specs.declared.ServiceCheck.the-variants.{Takes, Refused}
+
+-- ---- the answer for a service of a file
+
+-- the service that begins at a place takes so many words, and the next begins at the place `end`, with line m
+pub record ServiceTaken (f : List ℕ) (at n words end m : ℕ) : Type 0 where
+  pub size : words ≡ length (serviceWords (serviceOf (serviceLinesAt f at n)))
+  pub services : blocks (linesAt f at n) ≡ serviceLinesAt f at n ∷ blocks (linesAt f end m)
+  pub past : at < end
+  pub next : Boundary f end m
+
+-- "every line's own checks, then the service's checks": its first offence, or its words
+abbrev pub CheckedAs : List BitField → List StopRecord → List CategoryClass → ℕ → List ℕ → ℕ → ℕ → ServiceCheck → Type 0
+CheckedAs fields stops classes days f at n (Refused o) = serviceFirst fields stops classes days (serviceLinesAt f at n) ≡ some o
+CheckedAs fields stops classes days f at n (Takes words end m) = (serviceFirst fields stops classes days (serviceLinesAt f at n) ≡ none) × ServiceTaken f at n words end m
+
+-- ---- the same for a draft
+
+-- the words lent hold as many calls, and ranges of each kind, as the counts say
+pub record Counted (k : Counts) (calls ranges : List ℕ) : Type 0 where
+  pub within : Within k
+  pub calls-lent : callsLent ≤ length calls
+  pub ranges-lent : rangesLent ≤ length ranges
+  pub categories : length (partIn Category (rangesIn (ranges# k) ranges)) ≡ k .categories
+  pub days : length (partIn Days (rangesIn (ranges# k) ranges)) ≡ k .days
+  pub extras : length (partIn Extra (rangesIn (ranges# k) ranges)) ≡ k .extras
+
+-- the service that the words hold
+abbrev pub serviceIn : Drafted → List ℕ → List ℕ → Service
+serviceIn d calls ranges = draftedService (d .opening) (d .line) (callsIn (d .counts .calls) calls) (rangesIn (ranges# (d .counts)) ranges)
+
+-- 14, 15, 16, then 17 to 19
+abbrev pub draftFirst : List BitField → ℕ → Drafted → List ℕ → List ℕ → Option Offence
+draftFirst fields days d calls ranges =
+    given (ltb (d .counts .calls) 2) 14 (d .line)
+    <|> timesFirst (d .counts .calls) 0 0 (callsOn (d .counts .calls) calls)
+    <|> endsFirst (callsIn (d .counts .calls) calls) (rangesOn (ranges# (d .counts)) ranges)
+    <|> legsFirst fields days (d .line) (serviceIn d calls ranges)
+
+abbrev pub checkBy : Option Offence → Service → Drafted → ServiceCheck
+checkBy none s d = Takes (length (serviceWords s)) (d .end) (d .no)
+checkBy (some o) s d = Refused o
+
+-- ---- 18 and 19 of operating-day ranges over so many legs
+
+-- on a day the operated legs form two or more separate stretches
+abbrev pub rowsBroken : List BitField → ℕ → List DayRange → ℕ → Bool
+rowsBroken fields legs rs d = leb 2 (stretches false (map (operated fields rs d) (below legs)))
+
+-- on some day of n days they do
+abbrev pub rowsTorn : List BitField → ℕ → ℕ → List DayRange → Bool
+rowsTorn fields n legs rs = some-of (rowsBroken fields legs rs) (below n)
+
+abbrev pub daysFirst : List BitField → ℕ → ℕ → ℕ → List DayRange → Option Offence
+daysFirst fields n line legs rs = given (not (eachOnce (λ (r : DayRange). r .legs) legs rs)) 18 line <|> given (rowsTorn fields n legs rs) 19 line
+
+-- ---- the words of a service
+
+-- its calls are there, no more than it may have, and so are its ranges
+pub record Sized (w : List ℕ) : Type 0 where
+  pub some-calls : 1 ≤ calls# w
+  pub calls : calls# w ≤ mostCalls
+  pub categories : categories# w ≤ mostCategories
+  pub days : days# w ≤ mostDays
+  pub ranges-lie : extraPlace w ≤ length w

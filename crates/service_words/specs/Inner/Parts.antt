@@ -1,0 +1,88 @@
+-- A service's words as they are written from its draft: what each range gives to a part of them, by the definitions of the crate timetable.
+-- Nobody has to believe this file. Assumes nothing.
+use Prim.Native.Nat.{ℕ, _+_, _/_}
+use mathlib.Core.List.{List, [], _∷_, _++_}
+use mathlib.Core.Bool.{cond}
+use mathlib.Core.Option.{Option, none, some}
+use lib.ListN.{length}
+use Rattle.base.specs.Lists.{gathered}
+use Rattle.timetable.specs.Layout.{serviceHead, categorySize, daySize, extraSize}
+use Rattle.timetable.specs.Delivery.{Legs, Service}
+use Rattle.timetable.specs.Plan.{isPart}
+use Rattle.timetable.specs.Service.{legsOn}
+use Rattle.timetable.specs.Table.{callWords, serviceWords}
+use Rattle.timetable.specs.declared.Call.{Call}
+use Rattle.timetable.specs.declared.Opening.{Opening}
+use Rattle.timetable.specs.declared.Part.{Part}
+use Rattle.timetable.specs.declared.Part.the-variants.{Category, Days, Extra}
+use Rattle.timetable.specs.declared.RangeLine.{RangeLine}
+use Rattle.draft.specs.Inner.Draft.{callsIn, rangesIn, draftedService}
+use Rattle.service_words.specs.declared.Given.{Given}
+use Rattle.service_words.specs.declared.Given.the-variants.{Nothing, Three, Four}
+use Rattle.service_words.specs.declared.RangeEnds.{RangeEnds}
+use Rattle.service_words.specs.declared.Sizes.{Sizes}
+
+-- ---- one part
+
+-- the words of a range of a part, from one call to another
+abbrev pub rangeRowWords : Part → RangeLine → ℕ → ℕ → List ℕ
+rangeRowWords Category r from to = r .name ∷ from ∷ to ∷ []
+rangeRowWords Days r from to = r .field ∷ from ∷ to ∷ []
+rangeRowWords Extra r from to = r .name ∷ r .field ∷ from ∷ to ∷ []
+
+abbrev pub foundWords : Part → RangeLine → Option Legs → List ℕ
+foundWords p r none = []
+foundWords p r (some g) = rangeRowWords p r (g .from) (g .to)
+
+-- the words that a range gives to a part, where cs are the service's calls
+abbrev pub rangeGives : Part → List Call → RangeLine → List ℕ
+rangeGives p cs r = cond (isPart p r) (foundWords p r (legsOn cs r)) []
+
+-- the words of a part
+abbrev pub partWords : Part → List Call → List RangeLine → List ℕ
+partWords p cs rs = gathered (rangeGives p cs) rs
+
+-- what the code hands on for a range
+abbrev pub givenWords : Given → List ℕ
+givenWords Nothing = []
+givenWords (Three x y z) = x ∷ y ∷ z ∷ []
+givenWords (Four x y z u) = x ∷ y ∷ z ∷ u ∷ []
+
+-- ---- all parts
+
+-- their words, and where each ends if they begin at place q
+abbrev pub rangeWords : List Call → List RangeLine → List ℕ
+rangeWords cs rs = partWords Category cs rs ++ (partWords Days cs rs ++ partWords Extra cs rs)
+
+abbrev pub rangeEnds : ℕ → List Call → List RangeLine → RangeEnds
+rangeEnds q cs rs = record {
+  categories = q + length (partWords Category cs rs);
+  «day_ranges» = q + length (partWords Category cs rs) + length (partWords Days cs rs);
+  extras = q + length (partWords Category cs rs) + length (partWords Days cs rs) + length (partWords Extra cs rs);
+}
+
+-- all words after the head, and the sizes told by them
+abbrev pub bodyOf : List Call → List RangeLine → List ℕ
+bodyOf cs rs = gathered callWords cs ++ rangeWords cs rs
+
+abbrev pub sizesBy : List Call → List RangeLine → Sizes
+sizesBy cs rs = record {
+  calls = length cs;
+  categories = length (partWords Category cs rs) / categorySize;
+  «day_ranges» = length (partWords Days cs rs) / daySize;
+  extras = length (partWords Extra cs rs) / extraSize;
+  words = serviceHead + length (bodyOf cs rs);
+}
+
+-- ---- a whole service
+
+-- the service that c drafted calls and n drafted ranges are
+abbrev pub serviceIn : Opening → ℕ → ℕ → List ℕ → ℕ → List ℕ → Service
+serviceIn o line c calls n ranges = draftedService o line (callsIn c calls) (rangesIn n ranges)
+
+abbrev pub sizesOf : Service → Sizes
+sizesOf s = record { calls = length (s .calls); categories = length (s .categories); «day_ranges» = length (s .days); extras = length (s .extras); words = length (serviceWords s) }
+
+abbrev pub headBy : Sizes → Opening → ℕ → List ℕ
+headBy z o line =
+    z .words ∷ o .number ∷ o .high ∷ o .low ∷ o .repeats ∷ o .offset ∷ z .calls ∷ z .categories ∷ z .«day_ranges» ∷ z .extras ∷ line ∷ o .kind ∷ []

@@ -1,0 +1,21 @@
+-- The words of a table: its header's, and those that its files give. Assumes nothing.
+use Prim.Native.Nat.{ℕ}
+use mathlib.Core.List.{List, [], _∷_, _++_}
+use Rattle.lines.specs.Lines.{linesOf}
+use Rattle.timetable.specs.Files.{stopsIn}
+use Rattle.timetable.specs.Service.{blocks}
+use Rattle.sections.specs.declared.Section.the-variants.{BitFields, Stops, Interchanges, Classes}
+use Rattle.section_words.specs.Inner.Words.{sectionWords}
+use Rattle.plan.specs.Inner.Services.{placedWords}
+use Rattle.table_words.specs.declared.Header.{Header}
+
+abbrev pub headerWords : Header → List ℕ
+headerWords h = h .words ∷ h .start ∷ h .n ∷ h .fields ∷ h .stops ∷ h .interchanges ∷ h .services ∷ h .first ∷ h .classes ∷ []
+
+-- those of BITFELD, BAHNHOF, UMSTEIGB and ZUGART
+unfoldable pub sectionsWords : List ℕ → List ℕ → List ℕ → List ℕ → List ℕ
+sectionsWords b s u z = sectionWords BitFields (linesOf b) ++ (sectionWords Stops (linesOf s) ++ (sectionWords Interchanges (linesOf u) ++ sectionWords Classes (linesOf z)))
+
+-- and of FPLAN, whose calls point at the stops of BAHNHOF
+abbrev pub bodyWords : List ℕ → List ℕ → List ℕ → List ℕ → List ℕ → List ℕ
+bodyWords b s u z p = sectionsWords b s u z ++ placedWords (stopsIn s) (blocks (linesOf p))
