@@ -4,6 +4,8 @@
 # By text: include/estelunya.h, planner/sys/src/raw.rs and planner/sys/src/layout.rs are what boundary.sh writes from the Rattle source and the header's comments;
 # the limits of the header are the loader's; and what the ordinary loader names as the header does has the header's value.
 #
+# The fields of lines: the desk's tables have the columns of crates/columns/specs/LineFields, row by row as in crates/forms/specs/Columns.
+#
 # By the compilers: a C side and a Rust side, both written from the Rattle source (drift/sides.awk) and linked with the archive, agree on layouts, prototypes and
 # answers. The refusals' texts: those of include/estelunya_texts.h are the crate's.
 set -eu
@@ -34,6 +36,33 @@ held() {
 held header loader '_WORDS$|^MOST_|^KIND_' all
 held ordinary header .
 echo "drift: the limits are the loader's, and the ordinary loader has the header's constants"
+
+# ---- the fields of lines, by text: a line "TABLE FIRST LAST" for each row of the table of forms, and of the desk's tables, which have no row for what says the
+# kind of a line of FPLAN and none for what follows its "%"
+
+fields_rattle() {
+    awk 'FNR == NR { if ($2 == "=" && $3 ~ /^[0-9]+$/) { first[$1] = $3; last[$1] = NF == 5 ? $5 : "end" } next }
+        /^[A-Za-z]*Columns =$/ { table = $1 }
+        $1 == "∷" { $1 = ""; $0 = $0 }
+        $1 == "restRule" { $1 = $2; $2 = "is" }
+        $2 == "is" && $1 != "planKind" && $1 != "planRest" { print table, first[$1], last[$1] }' crates/columns/specs/LineFields.antt crates/forms/specs/Columns.antt
+}
+
+fields_desk() {
+    awk '/^const [A-Z_]*: &\[Field\]/ { table = $2; sub(":", "", table) }
+        { while (match($0, /\([0-9]+, ([0-9]+|usize::MAX), "/)) {
+            split(substr($0, RSTART + 1, RLENGTH - 2), field, ", "); $0 = substr($0, RSTART + RLENGTH)
+            print table, field[1], field[2] ~ /MAX/ ? "end" : field[2] + 0 } }' "$1" |
+        sed -e 's/^DATES /dateColumns /; s/^BIT_FIELDS /bitFieldColumns /; s/^STOPS /stopColumns /; s/^RECORDS /interchangeColumns /; s/^CATEGORIES /classColumns /' \
+            -e 's/^Z /serviceColumns /; s/^T /frequencyColumns /; s/^G /categoryColumns /; s/^A /attributeColumns /; s/^CALL /callColumns /'
+}
+
+desk=desk/src/lines.rs
+fields_rattle >"$said/fields"
+fields_desk "$desk" >"$said/desk"
+[ -s "$said/fields" ] || die "no fields are seen in crates/columns and crates/forms"
+diff -u "$said/fields" "$said/desk" || die "the fields of crates/columns and of $desk differ"
+echo "drift: $(grep -c . "$said/fields") fields of lines agree"
 
 # ---- by the compilers
 
