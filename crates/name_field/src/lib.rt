@@ -14,15 +14,15 @@ pub fn is_named(text: &[u8]) -> bool
     names::is_name_list(&name[0..size])
 }
 
-// The columns of the name field.
-const MOST_NAME_BYTES: u32 = (stop::NAMES_END - (stop::NAMES - 1)) as u32;
+// As many columns as a name list may have bytes.
+const NAME_COLUMNS: u32 = names::MOST_NAME_BYTES as u32;
 
 // The length of the name field without trailing blanks.
 pub fn name_length(text: &[u8]) -> u32
     ensures { λ r. ⌜ r ≡ nameLength (fieldIn stopNames (now (text .entry))) ⌝ }
 {
     let name = columns::part(text, stop::NAMES, stop::NAMES_END);
-    let mut k: u32 = MOST_NAME_BYTES;
+    let mut k: u32 = NAME_COLUMNS;
     while 0 < k {
         if columns::byte_at(name, k as usize - 1) != b' ' {
             return k;

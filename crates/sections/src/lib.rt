@@ -361,11 +361,14 @@ fn stop_verdict(number: u32, before: &[u8], seen: &[u32], no: u32) -> Verdict
     Verdict::Fine
 }
 
+// In UMSTEIGB the number that stands for all stops; no stop has it.
+const ALL_STOPS: u32 = 9999999;
+
 // Whether no stop has this number: 9999999, or ending 00000.
 fn is_barred(number: u32) -> bool
     ensures { λ r. ⌜ r ≡ (eqb number 9999999 || eqb (number % 100000) 0) ⌝ }
 {
-    if number == 9999999 {
+    if number == ALL_STOPS {
         return true;
     }
     number % 100000 == 0
@@ -387,7 +390,7 @@ fn interchange_verdict(
     ensures { λ r. ⌜ r ≡ verdictBy (interchangeOffence (stopsIn (now (bahnhof .entry))) (interchangesIn (now (before .entry))) no (record { number = number; firstTime = 0; secondTime = 0 })) ⌝ }
 {
     if count == 0 {
-        if number == 9999999 {
+        if number == ALL_STOPS {
             return Verdict::Fine;
         }
         return timetable::offends(7, no);
