@@ -1,4 +1,5 @@
 pub mod Pieces
 pub mod Laws
+pub mod Counts
 pub mod Parts
 pub mod Examples

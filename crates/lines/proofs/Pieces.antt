@@ -159,7 +159,13 @@ module _ (f : List ℕ) (at : ℕ) where
   pub block-again : (n m : ℕ) (t : Bool) → t ≡ leb n (toLF (drop at f)) → t ≡ true → at + toLF (drop at f) ≡ m → at + n + toLF (drop (at + n) f) ≡ m
   block-again n m t e v w = past-block n t e v ∙ w
 
-pub ruleset blocks = (tests, none-first, none-again, none-done, past-block, block-again)
+  -- of a usual line: its whole blocks, the bytes behind them, and the LF
+  pub usual-end : (t u : Bool) (b : ℕ) → 59 < length f - at → b ≡ getD f (at + 59) 0 → b ≡ 10 → t ≡ leb 48 (toLF (drop at f)) → t ≡ true
+      → u ≡ leb 11 (toLF (drop (at + 48) f)) → u ≡ true → at + 59 ≡ at + toLF (drop at f)
+  usual-end t u b h e k d v d′ v′ =
+      omega (arith, past-block 48 t d v, leb-true 11 (toLF (drop (at + 48) f)) (sym d′ ∙ v′), toLF-before (drop at f) 59 (simp length-drop (omega arith)) (getD-drop at f 59 0 ∙ sym e ∙ k))
+
+pub ruleset blocks = (tests, none-first, none-again, none-done, past-block, block-again, usual-end)
 
 -- ---- the needs of `first_lf`, `before_cr` and `line_at`, for `search cuts`
 

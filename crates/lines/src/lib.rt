@@ -1,10 +1,10 @@
 // Walks a file line by line, by place and line number, without copying: a line is the part of its file from a place to a stop.
 ghost use mathlib.Core.Path.{_≡_};
-ghost use mathlib.Core.Bool.{not, _&&_};
+ghost use mathlib.Core.Bool.{cond, not, _&&_};
 ghost use Prim.Native.Nat.{_+_, _-_, _≤_, _<_};
 ghost use lib.ListN.{length, take, drop};
 ghost use lib.Dec.{eqb, leb};
-ghost use Rattle.lines.specs.Lines.{noCR, toLF, pastLF, cutAt, skipped};
+ghost use Rattle.lines.specs.Lines.{linesOf, noCR, toLF, pastLF, cutAt, skipped};
 use columns::ByteClass;
 
 // The line that starts at a known place: where its text stops, where the next line starts, and the next line's number.
@@ -20,7 +20,7 @@ pub fn line_at(file: &[u8], at: usize, no: u32) -> Cut
     requires { ⌜ no < 4294967295 ⌝ }
     ensures { λ r. ⌜ r ≡ cutAt (now (file .entry)) at no ⌝ }
 {
-    let end = piece_end(file, at);
+    let end = line_end(file, at);
     let stop = before_cr(file, at, end);
     let next = past_lf(file, end);
     Cut {
@@ -46,7 +46,29 @@ const BLOCK: usize = 16;
 
 const HALF_BLOCK: usize = 8;
 
-// The place of the first LF at or after `at`, or the file's length.
+// How wide most lines of FPLAN are: whole blocks, and the bytes behind them.
+const USUAL_WIDTH: usize = 59;
+
+const USUAL_BLOCKS: usize = 48;
+
+// The place of the first LF at or after `at`, or the file's length. A usual line's LF is seen at once.
+fn line_end(file: &[u8], at: usize) -> usize
+    requires { ⌜ at ≤ length (now file) ⌝ }
+    ensures { λ r. ⌜ r ≡ at + toLF (drop at (now (file .entry))) ⌝ }
+{
+    if USUAL_WIDTH < file.len() - at {
+        if file[at + USUAL_WIDTH] == b'\n' {
+            if no_lf(file, at, USUAL_BLOCKS) {
+                if no_lf(file, at + USUAL_BLOCKS, USUAL_WIDTH - USUAL_BLOCKS) {
+                    return at + USUAL_WIDTH;
+                }
+            }
+        }
+    }
+    piece_end(file, at)
+}
+
+// The same for a line of any width.
 fn piece_end(file: &[u8], at: usize) -> usize
     requires { ⌜ at ≤ length (now file) ⌝ }
     ensures { λ r. ⌜ r ≡ at + toLF (drop at (now (file .entry))) ⌝ }
@@ -123,6 +145,35 @@ fn first_lf(file: &[u8], at: usize) -> usize
     }
     i
 }
+
+// ---- how many LF: a file's lines are counted without being cut
+
+// How many bytes are counted at once: so few that a byte holds their number.
+pub const COUNTED: usize = 128;
+
+// How many lines end within the bytes from `at` on that are counted at once. The file goes on behind them.
+pub fn lines_ended(file: &[u8], at: usize) -> u32
+    requires { ⌜ at + 128 < length (now file) ⌝ }
+    ensures { λ r. ⌜ r + length (linesOf (drop (at + 128) (now (file .entry)))) ≡ length (linesOf (drop at (now (file .entry)))) ⌝ }
+    ensures { λ r. ⌜ r ≤ 128 ⌝ }
+{
+    let mut ended: u8 = 0;
+    let mut i = 0;
+    while i < COUNTED {
+        ended += one_lf(file[at + i]);
+        i += 1;
+    }
+    ended as u32
+}
+
+// 1 for an LF, else 0.
+fn one_lf(b: u8) -> u8
+    ensures { λ r. ⌜ r ≡ cond (eqb b 10) 1 0 ⌝ }
+{
+    if b == b'\n' { 1 } else { 0 }
+}
+
+// ---- what stands around a line
 
 // The end of the line whose piece is `at` to `end`: before one CR.
 fn before_cr(file: &[u8], at: usize, end: usize) -> usize

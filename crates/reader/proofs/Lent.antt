@@ -1,4 +1,4 @@
--- A reader in a local is lent to `next_line` for the call, and comes back behind the line: what `line_from` does once, and `lines_in` at each turn.
+-- A reader in a local is lent to `next_line` for the call, and comes back behind the line: what `line_from` does once, and `lines_passed` at each turn.
 --     lends    the local's cell, what the reader owns and a token of its file's lifetime κ give what `next_line` asks, for a lifetime ν ∷ κ that ends with the call; the lender keeps `Left`
 --     told     what `next_line` ensures: the cut, and the reader behind it as the borrow's last value
 --     back     the tokens, `Left` and that last value give the local's cell, what the reader behind the line owns, and κ's token

@@ -37,17 +37,31 @@ pub fn line_from(file: &[u8], at: usize, no: u32) -> Cut
     reader.next_line()
 }
 
-// How many lines a file has: one reader passes them all, and its line number counts them from 1.
+// How many lines a file has, without cutting them: those that end within its first bytes, and those that a reader passes in the rest.
 pub fn lines_in(f: &[u8]) -> u32
     requires { ⌜ length (now f) + 1 < 2 ^ 32 ⌝ }
     ensures { λ r. ⌜ r ≡ length (linesOf (now (f .entry))) ⌝ }
 {
+    let mut at: usize = 0;
+    let mut ended: u32 = 0;
+    while lines::COUNTED < f.len() - at {
+        ended += lines::lines_ended(f, at);
+        at += lines::COUNTED;
+    }
+    ended + lines_passed(&f[at..f.len()])
+}
+
+// How many lines a text has: one reader passes them all, and its line number counts them from 1.
+fn lines_passed(text: &[u8]) -> u32
+    requires { ⌜ length (now text) + 1 < 2 ^ 32 ⌝ }
+    ensures { λ r. ⌜ r ≡ length (linesOf (now (text .entry))) ⌝ }
+{
     let mut reader = Reader {
-        file: f,
+        file: text,
         at: 0,
         no: 1,
     };
-    while reader.at < f.len() {
+    while reader.at < text.len() {
         reader.next_line();
     }
     reader.no - 1

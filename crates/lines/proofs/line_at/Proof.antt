@@ -2,8 +2,8 @@ use Rattle.lines.proofs.Pieces.{cuts}
 use Rattle.lines.proofs.line_at.Statement.{statement}
 use Rattle.lines.proofs.line_at.Tie as tie
 
-piece-end-requires : tie.Need-piece-end-requires
-piece-end-requires c κs = search cuts
+line-end-requires : tie.Need-line-end-requires
+line-end-requires c κs = search cuts
 
 before-cr-requires : tie.Need-before-cr-requires
 before-cr-requires c κs = search cuts
@@ -19,4 +19,4 @@ returns c = search cuts
 
 pub line-at-spec : {M : Type 1} → statement M
 line-at-spec =
-    tie.close (tie.spec piece-end-requires before-cr-requires past-lf-requires add-t7 returns)
+    tie.close (tie.spec line-end-requires before-cr-requires past-lf-requires add-t7 returns)
