@@ -1,74 +1,105 @@
--- 17 and 18 on the words of a service, for `search parting`: its ranges stand in the words where its counts say. Assumes nothing.
+-- 17 and 18 on the words of a service's ranges, which are read back as its ranges. Assumes nothing.
 use mathlib.Core.Path.{_≡_, refl, sym, ap, _∙_}
-use mathlib.Core.List.{List}
-use mathlib.Core.Bool.{Bool, true, false, not}
+use mathlib.Core.List.{List, _++_}
+use mathlib.Core.Bool.{Bool, true, false}
 use mathlib.Core.Option.{some}
 use Prim.Native.Nat.{ℕ, _+_, _-_, _*_, _≤_}
 use native.Mathlib.Omega.{arith}
-use lib.ListN.{length, take, drop}
-use lib.Seq.{getD-take}
-use Rattle.base.specs.Lists.{every, below}
+use lib.ListN.{length, drop}
+use Rattle.base.specs.Lists.{every, below, gathered}
 use Rattle.base.proofs.Laws.{tests}
-use Rattle.timetable.specs.Layout.{serviceHead, callSize, categorySize, daySize}
-use Rattle.timetable.specs.Delivery.{BitField, CategoryRange, DayRange}
-use Rattle.timetable.specs.Offences.{_<|>_, given, offenceAt, verdictBy}
+use Rattle.words.specs.Words.{write}
+use Rattle.words.proofs.Laws.{write-front}
+use Rattle.timetable.specs.Layout.{categorySize, daySize, mostCategories, mostDays}
+use Rattle.timetable.specs.Delivery.{BitField, CategoryRange, DayRange, Service}
+use Rattle.timetable.specs.Offences.{_<|>_, offenceAt, verdictBy}
+use Rattle.timetable.specs.Legs.{legCount}
 use Rattle.timetable.specs.Checks.{eachOnce, legsFirst}
-use Rattle.timetable.specs.Table.{rowsIn, callAt, categoryAt, dayAt, calls#, categories#, days#, categoryPlace, dayPlace, extraPlace, serviceAt}
+use Rattle.timetable.specs.Table.{rowsIn, categoryAt, dayAt, categoryWords, dayWords}
+use Rattle.timetable.specs.declared.Call.{Call}
+use Rattle.timetable.specs.declared.Part.the-variants.{Category, Days}
+use Rattle.timetable.specs.declared.RangeLine.{RangeLine}
 use Rattle.timetable.specs.declared.Verdict.{Verdict}
 use Rattle.timetable.specs.declared.Verdict.the-variants.{Fine}
-use Rattle.timetable.proofs.Rows.{length-rows, rows-within}
+use Rattle.timetable.proofs.Records.{categories-back, categories-length, days-back, days-length}
 use Rattle.cover.specs.Inner.Cover.{onceIn}
 use Rattle.cover.proofs.Rows.{categories-once, days-once}
-use Rattle.service.specs.Inner.Answers.{rowsTorn, daysFirst}
+use Rattle.draft.specs.Inner.Draft.{draftCall, draftRange, callsIn, rangesIn, ranges#, draftedService}
+use Rattle.draft.specs.declared.Drafted.{Drafted}
+use Rattle.service_words.specs.Inner.Parts.{partWords}
+use Rattle.service_words.proofs.Record.{categories-part, days-part}
+use Rattle.service.specs.Inner.Answers.{Counted, EndsFound, serviceIn, rowsTorn, daysFirst}
+use Rattle.service.proofs.Size.{calls-are, categories-are, days-are}
 
--- ---- a part of the words that holds the rows
+-- ---- the words of the *G ranges and of the *A VE ranges, at the front of some words t
 
--- what is read from three words
-module _ (w : List ℕ) (k : ℕ) (h : 3 ≤ k) where
-  category-own : categoryAt (take k w) ≡ categoryAt w
-  category-own = rw (getD-take k w 0 0 (omega arith), getD-take k w 1 0 (omega arith), getD-take k w 2 0 (omega arith)) refl
+module _ (d : Drafted) (calls ranges : List ℕ) (h : Counted (d .counts) calls ranges) (f : EndsFound d calls ranges) (n : ℕ) (m : n ≡ ranges# (d .counts)) where
+  abbrev cs : List Call
+  cs = callsIn (d .counts .calls) calls
 
-  day-own : dayAt (take k w) ≡ dayAt w
-  day-own = rw (getD-take k w 0 0 (omega arith), getD-take k w 1 0 (omega arith), getD-take k w 2 0 (omega arith)) refl
+  abbrev rs : List RangeLine
+  rs = rangesIn n ranges
 
--- the part of some words from place p on, n rows of three words long
-part-rows : {X : Type 0} (f : List ℕ → X) → ((w : List ℕ) (k : ℕ) → 3 ≤ k → f (take k w) ≡ f w) → (w : List ℕ) (p n : ℕ) → rowsIn f 3 n (take (p + 3 * n - p) (drop p w)) ≡ rowsIn f 3 n (drop p w)
-part-rows f own w p n = rows-within f 3 own n (p + 3 * n - p) (drop p w) (omega arith)
+  abbrev s : Service
+  s = serviceIn d calls ranges
 
--- ---- the needs of `legs_wrong`: t is what `each_once` said of the *G ranges, r what is answered
+  categories-written : partWords Category cs rs ≡ gathered categoryWords (s .categories)
+  unfolding draftedService
+  categories-written = rw m (sym (categories-part cs (rangesIn (ranges# (d .counts)) ranges)))
 
-module _ (w : List ℕ) (fields : List BitField) (days line : ℕ) (t : Bool) (r : Verdict)
-    (e : t ≡ every (onceIn categorySize (categories# w) (take (dayPlace w - categoryPlace w) (drop (categoryPlace w) w))) (below (calls# w - 1))) where
-  abbrev namesIn : List CategoryRange
-  namesIn = rowsIn categoryAt categorySize (categories# w) (drop (categoryPlace w) w)
+  days-written : partWords Days cs rs ≡ gathered dayWords (s .days)
+  unfolding draftedService
+  days-written = rw m (sym (days-part cs (rangesIn (ranges# (d .counts)) ranges)))
 
-  abbrev daysIn : List DayRange
-  daysIn = rowsIn dayAt daySize (days# w) (drop (dayPlace w) w)
+  pub calls-lie : draftCall * d .counts .calls ≤ length calls
+  calls-lie = omega (arith, h .within .calls, h .calls-lent)
 
-  legs-are : legsFirst fields days line (serviceAt w) ≡ (given (not (eachOnce (λ (r : CategoryRange). r .legs) (calls# w - 1) namesIn)) 17 line <|> daysFirst fields days line (calls# w - 1) daysIn)
-  unfolding serviceAt
-  legs-are =
-      let l : length (rowsIn callAt callSize (calls# w) (drop serviceHead w)) ≡ calls# w = length-rows callAt callSize (calls# w) (drop serviceHead w) in
-      rw l refl
+  pub ranges-lie : draftRange * n ≤ length ranges
+  ranges-lie = omega (arith, m, h .within .categories, h .within .days, h .within .extras, h .ranges-lent)
 
-  named : t ≡ eachOnce (λ (r : CategoryRange). r .legs) (calls# w - 1) namesIn
-  named =
-      e ∙ categories-once (categories# w) (calls# w - 1) (take (dayPlace w - categoryPlace w) (drop (categoryPlace w) w))
-      ∙ ap (eachOnce (λ (r : CategoryRange). r .legs) (calls# w - 1)) (part-rows categoryAt category-own w (categoryPlace w) (categories# w))
+  module _ (t : List ℕ) where
+    pub categories-room : length t ≡ categorySize * mostCategories → 0 + length (partWords Category cs rs) ≤ length t
+    categories-room l = omega (arith, ap length categories-written, categories-length (s .categories), categories-are d calls ranges h f, h .within .categories)
 
-  pub legs-then : t ≡ true
-      → r ≡ verdictBy (daysFirst fields days line (calls# w - 1) (rowsIn dayAt daySize (days# w) (take (extraPlace w - dayPlace w) (drop (dayPlace w) w))))
-      → r ≡ verdictBy (legsFirst fields days line (serviceAt w))
-  unfolding _<|>_
-  legs-then y k =
-      k ∙ ap (λ (rs : List DayRange). verdictBy (daysFirst fields days line (calls# w - 1) rs)) (part-rows dayAt day-own w (dayPlace w) (days# w))
-      ∙ rw (legs-are, sym named ∙ y) refl
+    pub days-room : length t ≡ daySize * mostDays → 0 + length (partWords Days cs rs) ≤ length t
+    days-room l = omega (arith, ap length days-written, days-length (s .days), days-are d calls ranges h f, h .within .days)
 
-  pub legs-not : t ≡ false → r ≡ verdictBy (some (offenceAt 17 line)) → r ≡ verdictBy (legsFirst fields days line (serviceAt w))
-  unfolding _<|>_
-  legs-not y k = k ∙ rw (legs-are, sym named ∙ y) refl
+    module _ (w : List ℕ) (fields : List BitField) (days : ℕ) (r : Verdict) where
+      -- ---- the needs of `legs_wrong`, for `search parting`: b is what `each_once` said, r what is answered
 
-pub ruleset parting = (tests, legs-then, legs-not)
+      module _ (e : w ≡ write t 0 (partWords Category cs rs)) (b : Bool) (k : b ≡ every (onceIn categorySize (d .counts .categories) w) (below (d .counts .calls - 1))) where
+        rows-are : rowsIn categoryAt categorySize (d .counts .categories) w ≡ s .categories
+        rows-are =
+            ap (rowsIn categoryAt categorySize (d .counts .categories)) (e ∙ write-front t (partWords Category cs rs) ∙ ap (λ (vs : List ℕ). vs ++ drop (length (partWords Category cs rs)) t) categories-written)
+            ∙ ap (λ (g : ℕ). rowsIn categoryAt categorySize g (gathered categoryWords (s .categories) ++ drop (length (partWords Category cs rs)) t)) (sym (categories-are d calls ranges h f))
+            ∙ categories-back (s .categories) (drop (length (partWords Category cs rs)) t)
+
+        named : b ≡ eachOnce (λ (r : CategoryRange). r .legs) (legCount s) (s .categories)
+        named =
+            k ∙ categories-once (d .counts .categories) (d .counts .calls - 1) w
+            ∙ rw (rows-are, calls-are d calls ranges h f) refl
+
+        pub legs-then : b ≡ true → r ≡ verdictBy (daysFirst fields days (d .line) (d .counts .calls - 1) (s .days)) → r ≡ verdictBy (legsFirst fields days (d .line) (serviceIn d calls ranges))
+        unfolding _<|>_
+        legs-then y z = z ∙ rw (sym named ∙ y, calls-are d calls ranges h f) refl
+
+        pub legs-not : b ≡ false → r ≡ verdictBy (some (offenceAt 17 (d .line))) → r ≡ verdictBy (legsFirst fields days (d .line) (serviceIn d calls ranges))
+        unfolding _<|>_
+        legs-not y z = z ∙ rw (sym named ∙ y) refl
+
+      -- ---- the need of `operating_wrong`, for `search operating`
+
+      pub days-then : w ≡ write t 0 (partWords Days cs rs) → r ≡ verdictBy (daysFirst fields days (d .line) (d .counts .calls - 1) (rowsIn dayAt daySize (d .counts .days) w))
+          → r ≡ verdictBy (daysFirst fields days (d .line) (d .counts .calls - 1) (serviceIn d calls ranges .days))
+      days-then e z =
+          z ∙ ap (λ (rs : List DayRange). verdictBy (daysFirst fields days (d .line) (d .counts .calls - 1) rs)) (
+          ap (rowsIn dayAt daySize (d .counts .days)) (e ∙ write-front t (partWords Days cs rs) ∙ ap (λ (vs : List ℕ). vs ++ drop (length (partWords Days cs rs)) t) days-written)
+          ∙ ap (λ (g : ℕ). rowsIn dayAt daySize g (gathered dayWords (s .days) ++ drop (length (partWords Days cs rs)) t)) (sym (days-are d calls ranges h f))
+          ∙ days-back (s .days) (drop (length (partWords Days cs rs)) t))
+
+pub ruleset parting = (tests, calls-lie, ranges-lie, categories-room, legs-then, legs-not)
+
+pub ruleset operating = (tests, calls-lie, ranges-lie, days-room, days-then)
 
 -- ---- the needs of `days_wrong`, for `search tearing`: t is what `each_once` said of the *A VE ranges, s what `two_stretches` said
 

@@ -1,5 +1,5 @@
 pub mod Stretches
 pub mod Drafts
-pub mod Legs
 pub mod Size
+pub mod Legs
 pub mod Order

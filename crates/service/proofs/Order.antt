@@ -17,7 +17,7 @@ use Rattle.draft.specs.Inner.Draft.{draftCall, draftRange, mostRanges, callsOn,
 use Rattle.draft.specs.declared.Counts.{Counts}
 use Rattle.draft.proofs.Drafts.{ranges-within}
 use Rattle.draft.specs.declared.Drafted.{Drafted}
-use Rattle.service.specs.Inner.Answers.{Counted, serviceIn, draftFirst, checkBy}
+use Rattle.service.specs.Inner.Answers.{Counted, EndsFound, serviceIn, draftFirst, checkBy}
 use Rattle.service.specs.declared.ServiceCheck.{ServiceCheck}
 use Rattle.service.specs.declared.ServiceCheck.the-variants.{Refused}
 
@@ -68,4 +68,8 @@ module _ (fields : List BitField) (days : ℕ) (d : Drafted) (calls ranges : Lis
             verdict-fine (endsFirst (callsIn (d .counts .calls) calls) (rangesOn (ranges# (d .counts)) ranges)) u ends-said z,
           ) k
 
-pub ruleset drafting = (tests, ranges-most, calls-room, ranges-room, draft-short, draft-times, draft-ends, draft-legs)
+-- u is the verdict of 16
+pub draft-ended : (d : Drafted) (calls ranges : List ℕ) (n : ℕ) (u : Verdict) → n ≡ ranges# (d .counts) → u ≡ verdictBy (endsFirst (callsIn (d .counts .calls) calls) (rangesOn n ranges)) → u ≡ Fine → EndsFound d calls ranges
+draft-ended d calls ranges n u g f z = verdict-fine (endsFirst (callsIn (d .counts .calls) calls) (rangesOn (ranges# (d .counts)) ranges)) u (f ∙ rw g refl) z
+
+pub ruleset drafting = (tests, ranges-most, calls-room, ranges-room, draft-short, draft-times, draft-ends, draft-ended, draft-legs)

@@ -1,34 +1,36 @@
-// The checks of one service of FPLAN: every line's own checks as it is read, then the service's on its draft, the last of them on its words.
+// The checks of one service of FPLAN: every line's own checks as it is read, then the service's on its draft, the last of them on the words of its
+// ranges.
 use cover::FirstRange;
+use draft::Counts;
 use draft::Drafted;
 use reading::Read;
 use timetable::BIT_WORDS;
 use timetable::CALL_WORDS;
-use timetable::CALLS_AT;
-use timetable::CATEGORIES_AT;
 use timetable::CATEGORY_WORDS;
-use timetable::DAYS_AT;
 use timetable::DAYS_WORDS;
-use timetable::MOST_SERVICE_WORDS;
+use timetable::EXTRA_WORDS;
+use timetable::MOST_CATEGORIES;
+use timetable::MOST_DAYS;
 use timetable::Offence;
+use timetable::Part;
 use timetable::SERVICE_WORDS;
 use timetable::Verdict;
 ghost use mathlib.Core.Path.{_≡_};
 ghost use mathlib.Core.Bool.{true};
-ghost use Prim.Native.Nat.{ℕ, _+_, _*_, _≤_, _<_};
+ghost use Prim.Native.Nat.{ℕ, _+_, _-_, _*_, _≤_, _<_};
 ghost use lib.ListN.{length};
 ghost use Rattle.bitfield.specs.BitField.{runsOn};
-ghost use Rattle.timetable.specs.Layout.{daySize, mostPeriodDays};
+ghost use Rattle.timetable.specs.Layout.{daySize, mostPeriodDays, recordSize};
 ghost use Rattle.timetable.specs.Delivery.{DayRange};
 ghost use Rattle.timetable.specs.Offences.{verdictBy};
 ghost use Rattle.timetable.specs.Files.{bitFieldsIn, stopsIn, classesIn};
 ghost use Rattle.timetable.specs.Legs.{fieldRuns};
 ghost use Rattle.timetable.specs.Checks.{eachOnce, legsFirst};
-ghost use Rattle.timetable.specs.Table.{rowsIn, dayAt, serviceAt};
-ghost use Rattle.draft.specs.Inner.Draft.{callsLent, rangesLent};
+ghost use Rattle.timetable.specs.Table.{rowsIn, dayAt};
+ghost use Rattle.draft.specs.Inner.Draft.{callsLent, rangesLent, Within};
 ghost use Rattle.reading.specs.Inner.Maps.{FieldMap, StopMap, ClassIndex};
 ghost use Rattle.reading.specs.Inner.Reading.{Boundary};
-ghost use Rattle.service.specs.Inner.Answers.{CheckedAs, Counted, serviceIn, draftFirst, checkBy, rowsBroken, rowsTorn, daysFirst, Sized};
+ghost use Rattle.service.specs.Inner.Answers.{CheckedAs, Counted, EndsFound, serviceIn, draftFirst, checkBy, rowsBroken, rowsTorn, daysFirst};
 
 // What checking a service answers: the words that it takes and where the next service begins (the place and the number of its opening line, or of
 // the file's end); or its first offence.
@@ -107,7 +109,7 @@ fn draft_checks(
     leg_checks(d, calls, ranges, bitfeld, fields, days)
 }
 
-// 17 to 19, on the words of the service.
+// 17 to 19, and the words that the service takes, where every range's ends are found.
 fn leg_checks(
     d: Drafted,
     calls: &[u32],
@@ -117,60 +119,81 @@ fn leg_checks(
     days: u32,
 ) -> ServiceCheck
     requires { ⌜ Counted (d .counts) (now calls) (now ranges) ⌝ }
+    requires { ⌜ EndsFound d (now calls) (now ranges) ⌝ }
     requires { ⌜ (2 ≤ d .counts .calls) × (days ≤ mostPeriodDays) ⌝ }
     requires { ⌜ FieldMap (now bitfeld) (now fields) ⌝ }
     ensures { λ r. ⌜ r ≡ checkBy (legsFirst (bitFieldsIn (now (bitfeld .entry))) days (d .line) (serviceIn d (now (calls .entry)) (now (ranges .entry)))) (serviceIn d (now (calls .entry)) (now (ranges .entry))) d ⌝ }
 {
-    let opening = d.opening;
-    let counts = d.counts;
-    let n = draft::range_count(counts);
-    let mut words = [0u32; MOST_SERVICE_WORDS];
-    let sizes = service_words::service_into(
-        opening,
-        d.line,
-        calls,
-        counts.calls,
-        ranges,
-        n,
-        &mut words,
-        0,
-    );
-    if let Verdict::Offends(offence) = legs_wrong(&words, d.line, bitfeld, fields, days) {
+    if let Verdict::Offends(offence) = legs_wrong(d, calls, ranges, bitfeld, fields, days) {
         return ServiceCheck::Refused(offence);
     }
+    let counts = d.counts;
     ServiceCheck::Takes {
-        words: sizes.words,
+        words: words_of(counts),
         end: d.end,
         no: d.no,
     }
 }
 
-// ---- 17 to 19 of a service whose words are at the front of `words`, and its opening line's number is `line`
-
-fn legs_wrong(words: &[u32], line: u32, bitfeld: &[u8], fields: &[u32], days: u32) -> Verdict
-    requires { ⌜ Sized (now words) ⌝ }
-    requires { ⌜ days ≤ mostPeriodDays ⌝ }
-    requires { ⌜ FieldMap (now bitfeld) (now fields) ⌝ }
-    ensures { λ r. ⌜ r ≡ verdictBy (legsFirst (bitFieldsIn (now (bitfeld .entry))) days line (serviceAt (now (words .entry)))) ⌝ }
+// The words that so many calls and ranges take.
+fn words_of(counts: Counts) -> u32
+    requires { ⌜ Within counts ⌝ }
+    ensures { λ r. ⌜ r ≡ recordSize (counts .calls) (counts .categories) (counts .days) (counts .extras) ⌝ }
 {
-    let c = words[CALLS_AT];
-    let g = words[CATEGORIES_AT];
-    let v = words[DAYS_AT];
-    let categories = SERVICE_WORDS + CALL_WORDS * c as usize;
-    let operating = categories + CATEGORY_WORDS * g as usize;
-    let end = operating + DAYS_WORDS * v as usize;
-    if cover::each_once(&words[categories..operating], g, CATEGORY_WORDS, c - 1) {
-        return days_wrong(
-            &words[operating..end],
-            v,
-            c - 1,
-            line,
-            bitfeld,
-            fields,
-            days,
-        );
+    let ranges = CATEGORY_WORDS as u32 * counts.categories
+        + DAYS_WORDS as u32 * counts.days
+        + EXTRA_WORDS as u32 * counts.extras;
+    SERVICE_WORDS as u32 + CALL_WORDS as u32 * counts.calls + ranges
+}
+
+// ---- 17 to 19 of such a service, on the words of its *G ranges and of its *A VE ranges
+
+fn legs_wrong(
+    d: Drafted,
+    calls: &[u32],
+    ranges: &[u32],
+    bitfeld: &[u8],
+    fields: &[u32],
+    days: u32,
+) -> Verdict
+    requires { ⌜ Counted (d .counts) (now calls) (now ranges) ⌝ }
+    requires { ⌜ EndsFound d (now calls) (now ranges) ⌝ }
+    requires { ⌜ (2 ≤ d .counts .calls) × (days ≤ mostPeriodDays) ⌝ }
+    requires { ⌜ FieldMap (now bitfeld) (now fields) ⌝ }
+    ensures { λ r. ⌜ r ≡ verdictBy (legsFirst (bitFieldsIn (now (bitfeld .entry))) days (d .line) (serviceIn d (now (calls .entry)) (now (ranges .entry)))) ⌝ }
+{
+    let counts = d.counts;
+    let c = counts.calls;
+    let n = draft::range_count(counts);
+    let mut words = [0u32; CATEGORY_WORDS * MOST_CATEGORIES as usize];
+    service_words::part_into(Part::Category, ranges, n, calls, c, &mut words, 0);
+    if cover::each_once(&words, counts.categories, CATEGORY_WORDS, c - 1) {
+        return operating_wrong(d, calls, ranges, bitfeld, fields, days);
     }
-    timetable::offends(17, line)
+    timetable::offends(17, d.line)
+}
+
+// 18 and 19.
+fn operating_wrong(
+    d: Drafted,
+    calls: &[u32],
+    ranges: &[u32],
+    bitfeld: &[u8],
+    fields: &[u32],
+    days: u32,
+) -> Verdict
+    requires { ⌜ Counted (d .counts) (now calls) (now ranges) ⌝ }
+    requires { ⌜ EndsFound d (now calls) (now ranges) ⌝ }
+    requires { ⌜ (2 ≤ d .counts .calls) × (days ≤ mostPeriodDays) ⌝ }
+    requires { ⌜ FieldMap (now bitfeld) (now fields) ⌝ }
+    ensures { λ r. ⌜ r ≡ verdictBy (daysFirst (bitFieldsIn (now (bitfeld .entry))) days (d .line) (d .counts .calls - 1) (serviceIn d (now (calls .entry)) (now (ranges .entry)) .days)) ⌝ }
+{
+    let counts = d.counts;
+    let c = counts.calls;
+    let n = draft::range_count(counts);
+    let mut words = [0u32; DAYS_WORDS * MOST_DAYS as usize];
+    service_words::part_into(Part::Days, ranges, n, calls, c, &mut words, 0);
+    days_wrong(&words, counts.days, c - 1, d.line, bitfeld, fields, days)
 }
 
 // 18 and 19, where `ranges` holds v *A VE ranges.

@@ -46,7 +46,7 @@ module _ {X : Type 0} (p : Part) (cs : List Call) (made : RangeLine → List X) 
       go false = refl
 
 module _ (cs : List Call) (rs : List RangeLine) where
-  categories-part : gathered categoryWords (gathered (categoryRange cs) (partIn Category rs)) ≡ partWords Category cs rs
+  pub categories-part : gathered categoryWords (gathered (categoryRange cs) (partIn Category rs)) ≡ partWords Category cs rs
   unfolding gathered
   categories-part = part-of Category cs (categoryRange cs) categoryWords (λ r. go r (legsOn cs r)) rs
     where
@@ -54,7 +54,7 @@ module _ (cs : List Call) (rs : List RangeLine) where
       go r none = refl
       go r (some g) = refl
 
-  days-part : gathered dayWords (gathered (dayRange cs) (partIn Days rs)) ≡ partWords Days cs rs
+  pub days-part : gathered dayWords (gathered (dayRange cs) (partIn Days rs)) ≡ partWords Days cs rs
   unfolding gathered
   days-part = part-of Days cs (dayRange cs) dayWords (λ r. go r (legsOn cs r)) rs
     where

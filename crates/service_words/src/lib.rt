@@ -183,7 +183,7 @@ fn sizes_of(c: u32, at: usize, start: usize, ends: RangeEnds) -> Sizes
 // ---- one part
 
 // Writes the ranges of one part; the place after them.
-fn part_into(
+pub fn part_into(
     part: Part,
     ranges: &[u32],
     n: u32,

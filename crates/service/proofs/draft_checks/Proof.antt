@@ -36,7 +36,7 @@ enum-told-2 : tie.Need-enum-told-2
 enum-told-2 c = search drafting
 
 leg-checks-requires : tie.Need-leg-checks-requires
-leg-checks-requires c κs = search drafting
+leg-checks-requires c κs = (search drafting, (search drafting, (search drafting, search drafting)))
 
 returns-4 : tie.Need-returns-4
 returns-4 c = search drafting

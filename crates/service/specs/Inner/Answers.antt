@@ -8,13 +8,12 @@ use lib.ListN.{length}
 use lib.Dec.{leb, ltb}
 use Rattle.base.specs.Lists.{some-of, below}
 use Rattle.lines.specs.Lines.{linesAt}
-use Rattle.timetable.specs.Layout.{mostCalls, mostCategories, mostDays}
 use Rattle.timetable.specs.Delivery.{BitField, StopRecord, CategoryClass, DayRange, Service}
 use Rattle.timetable.specs.Offences.{_<|>_, given}
 use Rattle.timetable.specs.Service.{blocks, serviceOf}
 use Rattle.timetable.specs.Legs.{operated, stretches}
 use Rattle.timetable.specs.Checks.{eachOnce, timesFirst, endsFirst, legsFirst, serviceFirst}
-use Rattle.timetable.specs.Table.{serviceWords, calls#, categories#, days#, extraPlace}
+use Rattle.timetable.specs.Table.{serviceWords}
 use Rattle.timetable.specs.declared.Offence.{Offence}
 use Rattle.timetable.specs.declared.Part.the-variants.{Category, Days, Extra}
 use Rattle.draft.specs.Inner.Draft.{callsLent, rangesLent, callsOn, callsIn, rangesOn, rangesIn, ranges#, Within, partIn, draftedService}
@@ -49,6 +48,10 @@ pub record Counted (k : Counts) (calls ranges : List ℕ) : Type 0 where
   pub days : length (partIn Days (rangesIn (ranges# k) ranges)) ≡ k .days
   pub extras : length (partIn Extra (rangesIn (ranges# k) ranges)) ≡ k .extras
 
+-- the ends of every range are found: 16 has no offence
+abbrev pub EndsFound : Drafted → List ℕ → List ℕ → Type 0
+EndsFound d calls ranges = endsFirst (callsIn (d .counts .calls) calls) (rangesOn (ranges# (d .counts)) ranges) ≡ none
+
 -- the service that the words hold
 abbrev pub serviceIn : Drafted → List ℕ → List ℕ → Service
 serviceIn d calls ranges = draftedService (d .opening) (d .line) (callsIn (d .counts .calls) calls) (rangesIn (ranges# (d .counts)) ranges)
@@ -77,13 +80,3 @@ rowsTorn fields n legs rs = some-of (rowsBroken fields legs rs) (below n)
 
 abbrev pub daysFirst : List BitField → ℕ → ℕ → ℕ → List DayRange → Option Offence
 daysFirst fields n line legs rs = given (not (eachOnce (λ (r : DayRange). r .legs) legs rs)) 18 line <|> given (rowsTorn fields n legs rs) 19 line
-
--- ---- the words of a service
-
--- its calls are there, no more than it may have, and so are its ranges
-pub record Sized (w : List ℕ) : Type 0 where
-  pub some-calls : 1 ≤ calls# w
-  pub calls : calls# w ≤ mostCalls
-  pub categories : categories# w ≤ mostCategories
-  pub days : days# w ≤ mostDays
-  pub ranges-lie : extraPlace w ≤ length w
