@@ -1,3 +1,4 @@
 pub mod Ranges
 pub mod Rows
 pub mod Examples
+pub mod Turn

@@ -1,11 +1,12 @@
-// Which ranges of a service cover a leg (17, 18), on the words of the ranges. A range is so many words wide; its last two are from and to.
+// Which ranges of a service cover a leg (17, 18), on the words of the ranges, and whether they follow each other, so that each leg is covered once. A range is so
+// many words wide; its last two are from and to.
 ghost use mathlib.Core.Path.{_≡_};
 ghost use Prim.Native.Nat.{_+_, _-_, _*_, _≤_};
 ghost use lib.ListN.{length, drop};
 ghost use Rattle.base.specs.Lists.{every, countIf, below};
 ghost use Rattle.timetable.specs.Legs.{covers};
 ghost use Rattle.timetable.specs.Table.{legsAt};
-ghost use Rattle.cover.specs.Inner.Cover.{legsIn, onceIn, coverPlaceFrom};
+ghost use Rattle.cover.specs.Inner.Cover.{legsIn, onceIn, coverPlaceFrom, begins, inTurn};
 
 // The place of the first range that covers a leg, or that none does.
 pub enum FirstRange {
@@ -79,6 +80,28 @@ fn covering(w: &[u32], n: u32, width: usize, leg: u32) -> u32
     count
 }
 
+// ---- ranges that follow each other
+
+// Whether n ranges follow each other: the first begins at leg 0, each of the others where the one before ends, and the last ends at `legs`. Most services list them so.
+pub fn in_turn(w: &[u32], n: u32, width: usize, legs: u32) -> bool
+    requires { ⌜ 2 ≤ width ⌝ }
+    requires { ⌜ n * width ≤ length (now w) ⌝ }
+    ensures { λ r. ⌜ r ≡ inTurn 0 legs (legsIn width n (now (w .entry))) ⌝ }
+{
+    let mut left = n;
+    let mut at: usize = 0;
+    let mut leg: u32 = 0;
+    while 0 < left {
+        if !begins_at(w, at, width, leg) {
+            return false;
+        }
+        leg = end_at(w, at, width);
+        at += width;
+        left -= 1;
+    }
+    leg == legs
+}
+
 // ---- one range
 
 // Whether the range from call `from` to call `to` covers a leg.
@@ -96,4 +119,26 @@ fn covers_at(w: &[u32], at: usize, width: usize, leg: u32) -> bool
 {
     let ends = at + (width - 2);
     covers_leg(w[ends], w[ends + 1], leg)
+}
+
+// Whether the range at a place has legs, of which the first is `leg`.
+fn begins_at(w: &[u32], at: usize, width: usize, leg: u32) -> bool
+    requires { ⌜ 2 ≤ width ⌝ }
+    requires { ⌜ at + width ≤ length (now w) ⌝ }
+    ensures { λ r. ⌜ r ≡ begins leg (legsAt (width - 2) (drop at (now (w .entry)))) ⌝ }
+{
+    let ends = at + (width - 2);
+    if w[ends] != leg {
+        return false;
+    }
+    leg < w[ends + 1]
+}
+
+// The call where the range at a place ends.
+fn end_at(w: &[u32], at: usize, width: usize) -> u32
+    requires { ⌜ 2 ≤ width ⌝ }
+    requires { ⌜ at + width ≤ length (now w) ⌝ }
+    ensures { λ r. ⌜ r ≡ legsAt (width - 2) (drop at (now (w .entry))) .to ⌝ }
+{
+    w[at + (width - 2) + 1]
 }
