@@ -92,7 +92,7 @@ pub mod class {
 }
 
 // Every line of FPLAN that starts with a star; the mark on schedule lines too.
-pub mod plan {
+pub mod plan_line {
     pub const KIND: usize = 1;
 
     pub const KIND_END: usize = 3;

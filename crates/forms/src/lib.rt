@@ -10,7 +10,7 @@ use columns::line_fields::date;
 use columns::line_fields::frequency;
 use columns::line_fields::interchange;
 use columns::line_fields::opening;
-use columns::line_fields::plan;
+use columns::line_fields::plan_line;
 use columns::line_fields::stop;
 use fields::Detail;
 use fields::RangeEnd;
@@ -156,7 +156,7 @@ const CATEGORY_CLASS: [u64; 8] = [
 ];
 
 const SERVICE: [u64; 7] = [
-    plan::KIND as u64 * FROM + plan::KIND_END as u64 * TO + FREE,
+    plan_line::KIND as u64 * FROM + plan_line::KIND_END as u64 * TO + FREE,
     opening::NUMBER as u64 * FROM + opening::NUMBER_END as u64 * TO + DIGITS,
     opening::ADMINISTRATION as u64 * FROM + opening::ADMINISTRATION_END as u64 * TO + NON_BLANK,
     opening::REPEATS as u64 * FROM + opening::REPEATS_END as u64 * TO + DIGITS_OR_BLANK,
@@ -164,22 +164,22 @@ const SERVICE: [u64; 7] = [
         + opening::OFFSET_END as u64 * TO
         + OFFSET_OF
         + opening::REPEATS as u64 * WITH,
-    plan::MARK as u64 * FROM + plan::MARK as u64 * TO + BYTE + b'%' as u64 * WITH,
-    plan::REST as u64 * FROM + END + FREE,
+    plan_line::MARK as u64 * FROM + plan_line::MARK as u64 * TO + BYTE + b'%' as u64 * WITH,
+    plan_line::REST as u64 * FROM + END + FREE,
 ];
 
 const FREQUENCY: [u64; 7] = [
-    plan::KIND as u64 * FROM + plan::KIND_END as u64 * TO + FREE,
+    plan_line::KIND as u64 * FROM + plan_line::KIND_END as u64 * TO + FREE,
     opening::NUMBER as u64 * FROM + opening::NUMBER_END as u64 * TO + DIGITS,
     opening::ADMINISTRATION as u64 * FROM + opening::ADMINISTRATION_END as u64 * TO + NON_BLANK,
     frequency::TIME as u64 * FROM + frequency::TIME_END as u64 * TO + DIGITS,
     frequency::DENSITY as u64 * FROM + frequency::DENSITY_END as u64 * TO + DIGITS_FROM_ONE,
-    plan::MARK as u64 * FROM + plan::MARK as u64 * TO + BYTE + b'%' as u64 * WITH,
-    plan::REST as u64 * FROM + END + FREE,
+    plan_line::MARK as u64 * FROM + plan_line::MARK as u64 * TO + BYTE + b'%' as u64 * WITH,
+    plan_line::REST as u64 * FROM + END + FREE,
 ];
 
 const CATEGORY: [u64; 8] = [
-    plan::KIND as u64 * FROM + plan::KIND_END as u64 * TO + FREE,
+    plan_line::KIND as u64 * FROM + plan_line::KIND_END as u64 * TO + FREE,
     category::NAME as u64 * FROM + category::NAME_END as u64 * TO + FIRST_NOT_BLANK,
     category::FROM as u64 * FROM + category::FROM_END as u64 * TO + RANGE_END,
     category::TO as u64 * FROM + category::TO_END as u64 * TO + RANGE_END,
@@ -191,12 +191,12 @@ const CATEGORY: [u64; 8] = [
         + category::TO_DETAIL_END as u64 * TO
         + DETAIL_OF
         + category::TO as u64 * WITH,
-    plan::MARK as u64 * FROM + plan::MARK as u64 * TO + BYTE + b'%' as u64 * WITH,
-    plan::REST as u64 * FROM + END + FREE,
+    plan_line::MARK as u64 * FROM + plan_line::MARK as u64 * TO + BYTE + b'%' as u64 * WITH,
+    plan_line::REST as u64 * FROM + END + FREE,
 ];
 
 const ATTRIBUTE: [u64; 9] = [
-    plan::KIND as u64 * FROM + plan::KIND_END as u64 * TO + FREE,
+    plan_line::KIND as u64 * FROM + plan_line::KIND_END as u64 * TO + FREE,
     attribute::CODE as u64 * FROM + attribute::CODE_END as u64 * TO + FIRST_NOT_BLANK,
     attribute::FROM as u64 * FROM + attribute::FROM_END as u64 * TO + RANGE_END,
     attribute::TO as u64 * FROM + attribute::TO_END as u64 * TO + RANGE_END,
@@ -209,8 +209,8 @@ const ATTRIBUTE: [u64; 9] = [
         + attribute::TO_DETAIL_END as u64 * TO
         + DETAIL_OF
         + attribute::TO as u64 * WITH,
-    plan::MARK as u64 * FROM + plan::MARK as u64 * TO + BYTE + b'%' as u64 * WITH,
-    plan::REST as u64 * FROM + END + FREE,
+    plan_line::MARK as u64 * FROM + plan_line::MARK as u64 * TO + BYTE + b'%' as u64 * WITH,
+    plan_line::REST as u64 * FROM + END + FREE,
 ];
 
 const CALL: [u64; 9] = [
@@ -221,8 +221,8 @@ const CALL: [u64; 9] = [
     call::NUMBER as u64 * FROM + call::NUMBER_END as u64 * TO + DIGITS_OR_BLANK,
     call::ADMINISTRATION as u64 * FROM + call::ADMINISTRATION_END as u64 * TO + NON_BLANK_OR_BLANK,
     call::BOARD as u64 * FROM + call::BOARD as u64 * TO + BYTE_OR_BLANK + b'X' as u64 * WITH,
-    plan::MARK as u64 * FROM + plan::MARK as u64 * TO + BYTE + b'%' as u64 * WITH,
-    plan::REST as u64 * FROM + END + FREE,
+    plan_line::MARK as u64 * FROM + plan_line::MARK as u64 * TO + BYTE + b'%' as u64 * WITH,
+    plan_line::REST as u64 * FROM + END + FREE,
 ];
 
 // ---- the kind of a line, by its first bytes

@@ -151,13 +151,17 @@ stopOf l =
 abbrev pub stopsIn : List ℕ → List StopRecord
 stopsIn f = held-in stopOf (linesOf f)
 
+-- UMSTEIGB's number for all stops
+abbrev pub allStops : ℕ
+allStops = 9999999
+
 abbrev pub hasStop : ℕ → List StopRecord → Bool
 hasStop n stops = some-of (λ (s : StopRecord). eqb (s .number) n) stops
 
 -- "7 BAHNHOF stop 9999999 or ending 00000", 6
 abbrev pub stopOffence : List StopRecord → ℕ → StopRecord → Option Offence
 stopOffence earlier line s =
-    given (eqb (s .number) 9999999 || eqb (s .number % 100000) 0) 7 line <|> given (hasStop (s .number) earlier) 6 line
+    given (eqb (s .number) allStops || eqb (s .number % 100000) 0) 7 line <|> given (hasStop (s .number) earlier) 6 line
 
 -- document 02, No. 3: "at load 39 after 4 for a bad list", so before those
 abbrev pub namedStopOffence : List StopRecord → ℕ → List ℕ → StopRecord → Option Offence
@@ -187,7 +191,7 @@ hasInterchange n records = some-of (λ (c : Interchange). eqb (c .number) n) rec
 
 -- "7 first UMSTEIGB record not 9999999"; after it 6, "9 UMSTEIGB (after its first record) .. stop not in BAHNHOF"
 abbrev pub interchangeOffence : List StopRecord → List Interchange → ℕ → Interchange → Option Offence
-interchangeOffence stops [] line c = given (not (eqb (c .number) 9999999)) 7 line
+interchangeOffence stops [] line c = given (not (eqb (c .number) allStops)) 7 line
 interchangeOffence stops (e ∷ earlier) line c = given (hasInterchange (c .number) (e ∷ earlier)) 6 line <|> given (not (hasStop (c .number) stops)) 9 line
 
 -- 4, then those
