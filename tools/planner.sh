@@ -21,9 +21,11 @@ as_cargo_user() {
         set -- "$@" --quiet --workspace --target-dir
         ESTELUNYA_LIB=$ARCHIVE cargo clippy "$@" "$out/cargo" --all-targets -- -D warnings
         ESTELUNYA_LIB=$ARCHIVE cargo test "$@" "$out/cargo"
-        # The documentation, and a look at the code, need no archive.
-        ESTELUNYA_LIB=$out/none RUSTDOCFLAGS='-D warnings' cargo doc "$@" "$out/cargo-none" --no-deps 2>/dev/null
-        ESTELUNYA_LIB=$out/none cargo check "$@" "$out/cargo-none" 2>/dev/null
+        # The documentation, and a look at the code, need no archive; that there is none is a warning.
+        for without in 'doc --no-deps' check; do
+            # shellcheck disable=SC2086 # a command and its option
+            ESTELUNYA_LIB=$out/none RUSTDOCFLAGS='-D warnings' cargo $without "$@" "$out/cargo-none" 2>"$out/none.txt" || { cat "$out/none.txt" >&2; die "$crate: cargo $without without an archive"; }
+        done
     done
 }
 

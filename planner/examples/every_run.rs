@@ -1,4 +1,4 @@
-//! Every run of every service on a day, with all its calls: how many, and in how much processor time.
+//! Every run of every service on a day, with all its calls, and the next 8 departures of every stop from 08:00 on: how many, and in how much processor time.
 //!
 //!     every_run DIRECTORY DD.MM.YYYY
 
@@ -6,7 +6,7 @@ use std::env;
 use std::error::Error;
 use std::fs;
 
-use estelunya_planner::{Date, Timetable};
+use estelunya_planner::{Date, Minutes, Moment, Timetable};
 
 fn main() -> Result<(), Box<dyn Error>> {
     let words: Vec<String> = env::args().skip(1).collect();
@@ -34,6 +34,13 @@ fn main() -> Result<(), Box<dyn Error>> {
     })?;
     let asked = processor_time() - loaded;
     println!("on {}: {} runs, {} calls, {} minutes together, in {:.4} s", date, runs, calls, minutes, asked);
+    let (eight, start) = (Moment::new(date, Minutes::new(8, 0)), processor_time());
+    let (stops, departures) = timetable.scope(|timetable| {
+        let stops = timetable.stops();
+        (stops.len(), stops.map(|stop| stop.departures(eight).take(8).count()).sum::<usize>())
+    });
+    let asked = processor_time() - start;
+    println!("from {}: the next 8 at each of {} stops, {} departures, in {:.4} s", eight, stops, departures, asked);
     Ok(())
 }
 

@@ -70,8 +70,15 @@ fn is_leap(year: u32) -> bool {
     year % 4 == 0 && (year % 100 != 0 || year % 400 == 0)
 }
 
-fn year_days(year: u32) -> u32 {
-    365 + u32::from(is_leap(year))
+/// Leap years from the year 1 up to a year, that year not counted.
+const fn leap_years(year: u32) -> u32 {
+    let before = year - 1;
+    before / 4 - before / 100 + before / 400
+}
+
+/// Days from 01.01.1900 to the start of a year.
+fn days_before(year: u32) -> u32 {
+    365 * (year - FIRST_YEAR) + leap_years(year) - leap_years(FIRST_YEAR)
 }
 
 /// A date from 01.01.1900 to 31.12.2199 that exists. Later dates are greater; it prints, and is read, as the files have it.
@@ -116,11 +123,15 @@ impl Date {
     /// The date so many days after 01.01.1900; `None` if it is after 31.12.2199.
     #[must_use]
     pub fn from_day_number(number: u32) -> Option<Date> {
-        let (mut left, mut year) = (number, FIRST_YEAR);
-        while left >= year_days(year) && year <= LAST_YEAR {
-            left -= year_days(year);
+        // In three hundred years a year of 366 days is too long by less than one of them.
+        let mut year = FIRST_YEAR + number / 366;
+        if year > LAST_YEAR {
+            return None;
+        }
+        if number >= days_before(year + 1) {
             year += 1;
         }
+        let mut left = number - days_before(year);
         for month in MONTHS {
             if left < month.days(year) {
                 return Date::new(left + 1, month, year);
@@ -133,10 +144,9 @@ impl Date {
     /// How many days it is after 01.01.1900.
     #[must_use]
     pub fn day_number(self) -> u32 {
-        let years: u32 = (FIRST_YEAR..self.year).map(year_days).sum();
         let months: u32 =
             MONTHS.iter().take_while(|month| **month < self.month).map(|month| month.days(self.year)).sum();
-        years + months + self.day - 1
+        days_before(self.year) + months + self.day - 1
     }
 
     /// The day of the month, from 1.
