@@ -129,7 +129,8 @@ impl FromStr for Minutes {
 /// let late = Moment::new("31.12.2025".parse()?, Minutes::new(25, 10));
 /// assert_eq!((late.to_string(), late.by_clock().to_string()), ("31.12.2025 25:10".to_string(), "01.01.2026 01:10".to_string()));
 /// assert_eq!(late, "01.01.2026 01:10".parse()?);
-/// assert!(late > "01.01.2026 00:30".parse()?);
+/// let now = "01.01.2026 00:30".parse()?;
+/// assert_eq!((late > now, late.since(now), now + 40), (true, Some(40), late));
 /// # Ok(())
 /// # }
 /// ```
@@ -167,9 +168,24 @@ impl Moment {
         }
     }
 
+    /// The minutes since an earlier moment: in how many it leaves; `None` if that is later.
+    #[must_use]
+    pub fn since(self, earlier: Moment) -> Option<u32> {
+        self.count().checked_sub(earlier.count()).map(|minutes| u32::try_from(minutes).unwrap_or(u32::MAX))
+    }
+
     /// The minutes since 01.01.1900 00:00.
     pub(crate) fn count(self) -> u64 {
         u64::from(self.date.day_number()) * u64::from(DAY) + u64::from(self.time.0)
+    }
+}
+
+/// So many minutes later.
+impl Add<u32> for Moment {
+    type Output = Moment;
+
+    fn add(self, minutes: u32) -> Moment {
+        Moment { time: self.time + minutes, ..self }
     }
 }
 

@@ -209,6 +209,10 @@ impl Timetable {
     /// # Ok(())
     /// # }
     /// ```
+    ///
+    /// # Panics
+    ///
+    /// If there is no memory for the text.
     #[must_use]
     pub fn write_fplan(&self) -> Vec<u8> {
         // Neither 21 nor 44 for the table of an accepted delivery: that is proved.

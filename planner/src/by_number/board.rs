@@ -6,6 +6,7 @@ use super::ask::{answered, Date};
 use super::index::Indexed;
 use crate::handles::Listed;
 use crate::layout::{BOARD_PLACE_AT, BOARD_REPEAT_AT, BOARD_ROW_WORDS, BOARD_SERVICE_AT, BOARD_TIME_AT};
+use crate::memory::zeroed;
 use crate::raw;
 use crate::refusal::Refusal;
 use crate::version::compared;
@@ -71,7 +72,7 @@ impl Indexed<'_> {
     ///
     /// # Errors
     ///
-    /// 21, 43, 22, 23 or 27.
+    /// 21, 43, 22, 23 or 27; 29 with the words needed, if there is no memory for them.
     ///
     /// # Panics
     ///
@@ -80,7 +81,7 @@ impl Indexed<'_> {
         let mut words = vec![0; USUAL_ROWS * BOARD_ROW_WORDS];
         let rows = match self.board_into(stop, date, times.clone(), &mut words) {
             Err(Refusal::RowsTooShort { needed }) => {
-                words = vec![0; needed];
+                words = zeroed(needed).map_err(|_| Refusal::RowsTooShort { needed })?;
                 self.board_into(stop, date, times, &mut words)?
             }
             answer => answer?,

@@ -1,6 +1,7 @@
 //! FPLAN written back from a table, in one clean form (document 02, No. 11).
 
 use super::ask::{answered, Table};
+use crate::memory::room_for_bytes;
 use crate::raw;
 use crate::refusal::Refusal;
 use crate::version::compared;
@@ -28,13 +29,15 @@ impl Table<'_> {
     ///
     /// # Errors
     ///
-    /// 21 or 44.
+    /// 21 or 44; 45 with the bytes needed, if there is no memory for them.
     pub fn fplan(self) -> Result<Vec<u8>, Refusal> {
         // Lent none, the archive says how many bytes it needs.
-        let mut text = match self.write_fplan(&mut []) {
-            Err(Refusal::TextTooShort { needed }) => vec![0; needed],
-            answer => vec![0; answer?],
+        let needed = match self.write_fplan(&mut []) {
+            Err(Refusal::TextTooShort { needed }) => needed,
+            answer => answer?,
         };
+        let mut text = room_for_bytes(needed).map_err(|_| Refusal::TextTooShort { needed })?;
+        text.resize(needed, 0);
         let written = self.write_fplan(&mut text)?;
         text.truncate(written);
         Ok(text)

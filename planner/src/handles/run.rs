@@ -3,7 +3,7 @@
 use std::fmt;
 use std::hash::{Hash, Hasher};
 
-use super::{Attribute, Category, Day, Listed, Minutes, Scope, Service, Stop};
+use super::{Attribute, Category, Day, Listed, Minutes, Moment, Scope, Service, Stop};
 use crate::by_number;
 use crate::date::Date;
 use crate::layout::{DAYS_FIELD_AT, DAYS_FROM_AT, DAYS_TO_AT, DAYS_WORDS, ROW_CATEGORY_AT, ROW_WORDS};
@@ -33,6 +33,12 @@ impl<'t> Run<'t> {
     #[must_use]
     pub fn date(self) -> Date {
         self.day.date
+    }
+
+    /// The moment of one of its times, which count from the start of its date.
+    #[must_use]
+    pub fn moment(self, time: Minutes) -> Moment {
+        Moment::new(self.date(), time)
     }
 
     /// Its number among the service's runs of that date, from 0.
@@ -198,6 +204,22 @@ impl<'t> Call<'t> {
     /// The minutes to change from the run of this call to the run of another call at the same stop, by the categories of the leg that arrives here and of the one
     /// that leaves there. `None` if it is another stop, or this is the first call of its run, or the other is the last of its own. Whether one may alight and
     /// board, and whether there is so much time, the calls say.
+    ///
+    /// A call of another operator's timetable does not compile here: there is [`Call::interchange_across`] for it.
+    ///
+    /// ```compile_fail,E0521
+    /// # fn main() -> Result<(), Box<dyn std::error::Error>> {
+    /// # use estelunya_planner::Timetable;
+    /// # let (ours, theirs) = (Timetable::read("../crates/ferry/data")?, Timetable::read("../crates/ferry/data")?);
+    /// # let friday = "05.12.2025".parse()?;
+    /// ours.scope(|ours| theirs.scope(|theirs| {
+    ///     let arriving = ours.services().next().unwrap().runs(ours.day(friday).unwrap()).next().unwrap();
+    ///     let departing = theirs.services().next().unwrap().runs(theirs.day(friday).unwrap()).next().unwrap();
+    ///     arriving.calls().last().unwrap().interchange_to(&departing.calls().nth(1).unwrap())
+    /// }));
+    /// # Ok(())
+    /// # }
+    /// ```
     #[must_use]
     pub fn interchange_to(&self, departing: &Call<'t>) -> Option<u32> {
         let (arriving, leaving) = (self.arriving_category()?, departing.departing_category()?);

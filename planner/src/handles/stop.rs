@@ -79,6 +79,10 @@ impl<'t> Stop<'t> {
     /// A departure board: every departure from here of runs that start on a day, where boarding is allowed and the time is one of those given, counted from the start of that day: by time, each once. It costs as
     /// much as the calls here and what it lists. Last night's runs are on the board of the day before, after 24:00: [`Stop::departures`] has both.
     ///
+    /// # Panics
+    ///
+    /// If there is no memory for so many departures: a service on call can have 599,941 runs a day.
+    ///
     /// ```
     /// # fn main() -> Result<(), Box<dyn std::error::Error>> {
     /// # let timetable = estelunya_planner::Timetable::read("../crates/ferry/data")?;
@@ -194,7 +198,7 @@ impl<'t> Departure<'t> {
     /// When it leaves: the run's date, and that time. [`Moment::by_clock`] is what a screen shows.
     #[must_use]
     pub fn moment(self) -> Moment {
-        Moment::new(self.run.date(), self.time)
+        self.run.moment(self.time)
     }
 
     /// The place of the call in [`Service::route`], from 0.
