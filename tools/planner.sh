@@ -59,25 +59,33 @@ for test in $tests; do run "$out/$test" --quiet; done
 run "$out/own_tests" --quiet
 run "$out/desk_tests" --quiet
 
-# desk_says STATUS LINE WORD..: the data desk's program begins with this line and ends with this status
+# desk_says STATUS LINE WORD..: the data desk's program, asked by these words, begins with this line and ends with this status
 desk_says() {
+    wanted="$1 $2"
+    shift 2
     status=0
-    said=$(run "$out/desk" "$3") || status=$?
-    [ "$status $(printf '%s\n' "$said" | head -1)" = "$1 $2" ] || die "desk $3: status $status, $said"
-    echo "  desk: $2, status $status"
+    said=$(run "$out/desk" "$@") || status=$?
+    [ "$status $(printf '%s\n' "$said" | head -1)" = "$wanted" ] || die "desk $*: status $status, $said"
+    echo "  desk: ${wanted#* }, status $status"
 }
 mended=$out/delivery-of-desk
+week='accepted days 7 bitfields 1 stops 3 interchange 1 categories 1 services 1 words 82 from 01.12.2025 to 07.12.2025'
 rm -rf "$mended"
 cp -r crates/ferry/data "$mended"
-desk_says 0 'accepted days 7 bitfields 1 stops 3 interchange 1 categories 1 services 1 words 82' "$mended"
+desk_says 0 "$week" --today 07.12.2025 "$mended"
+# The period is over.
+desk_says 3 "$week" --today 08.12.2025 "$mended"
 # Written back clean, and that loaded again; the trial week's services have 7 lines.
 rm -rf "$mended-clean"
-run "$out/desk" --clean "$mended" "$mended-clean" | grep -q '^clean: loaded again from there: the same timetable' || die 'desk --clean'
+run "$out/desk" --today 01.12.2025 --clean "$mended" "$mended-clean" | grep -q '^clean: loaded again from there: the same timetable' || die 'desk --clean'
 [ "$(wc -c <"$mended-clean/FPLAN")" = 420 ] || die 'desk --clean: the length of FPLAN'
-desk_says 0 'accepted days 7 bitfields 1 stops 3 interchange 1 categories 1 services 1 words 82' "$mended-clean"
+desk_says 0 "$week" --today 01.12.2025 --compare "$mended" "$mended-clean"
+run "$out/desk" --today 01.12.2025 --json "$mended" | grep -q '^{"desk":"[^"]*","status":0,"answer":"accepted",.*}$' || die 'desk --json'
 sed -i '2s/%$//' "$mended/FPLAN"
 desk_says 1 'refused 4 file 5 line 2 column 59' "$mended"
-status=0; run "$out/desk" crates/ferry/data >/dev/full 2>"$out/full.txt" || status=$?
+desk_says 1 'refused 4 file 5 line 2 column 59' --all --most 1 "$mended"
+desk_says 2 '' --some "$mended"
+status=0; run "$out/desk" --today 01.12.2025 crates/ferry/data >/dev/full 2>"$out/full.txt" || status=$?
 [ "$status" = 2 ] || die "desk: status $status where nothing can be written"
 rm "$mended/UMSTEIGB"
 desk_says 2 'unread file 4' "$mended"

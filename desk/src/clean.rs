@@ -8,26 +8,28 @@ use estelunya_planner::by_number::Table;
 use estelunya_planner::layout::{FIRST_SERVICE_AT, OPENING_LINE_AT, SERVICES_AT, SIZE_AT};
 use estelunya_planner::File;
 
-use super::lines::{file_name, Delivery, FPLAN};
-use super::{accepted, loaded, read, screen, ACCEPTED, REFUSED, UNREAD};
+use super::lines::{Delivery, FPLAN};
+use super::read::read;
+use super::report::{self, loaded, outcome, Options, Outcome, UNREAD};
 
 /// The bytes of a line, with LF.
 const LINE: usize = 60;
 
 /// The exit status, and what is printed.
-pub fn run(directory: &Path, out: &Path) -> (i32, String) {
+pub fn run(directory: &Path, out: &Path, options: &Options) -> (i32, String) {
     let delivery = match read(directory) {
         Ok(delivery) => delivery,
-        Err((number, why)) => return (UNREAD, format!("unread file {}\n{}: {}\n", number, file_name(number), why)),
+        Err(_) => return report::run(directory, options),
     };
-    let words = match loaded(&delivery) {
-        Ok(words) => words,
+    let outcome = outcome(&delivery, options);
+    let text = report::text(&delivery, &outcome, options);
+    let words = match &outcome {
+        Outcome::Accepted(accepted) => &accepted.words,
         // Nothing is written of a refused delivery.
-        Err(answer) => return (REFUSED, screen(&delivery, &answer)),
+        _ => return (outcome.status(), text),
     };
-    let text = accepted(&delivery, &words);
-    match written(&delivery, &words, out) {
-        Ok(told) => (ACCEPTED, text + &told),
+    match written(&delivery, words, out) {
+        Ok(told) => (outcome.status(), text + &told),
         Err(why) => (UNREAD, format!("{}clean: not written: {}: {}\n", text, out.display(), why)),
     }
 }
@@ -36,7 +38,8 @@ pub fn run(directory: &Path, out: &Path) -> (i32, String) {
 fn written(delivery: &Delivery, words: &[u32], out: &Path) -> Result<String, String> {
     let plan = Table::new(words).fplan().map_err(|refusal| refusal.to_string())?;
     fill(delivery, &plan, out).map_err(|error| error.to_string())?;
-    let again = read(out).map_err(|(_, why)| why)?;
+    let again =
+        read(out).map_err(|unread| unread.files.into_iter().map(|(_, why)| why).collect::<Vec<_>>().join("; "))?;
     let same = loaded(&again).map_err(|answer| format!("refused {} when loaded again", answer.number))?;
     if without_lines(&same) != without_lines(words) {
         return Err("loaded again it is another timetable".to_string());

@@ -1,16 +1,18 @@
 //! A refusal for people: the line, the field, what it means and how to mend it. The first line of a screen is the proved answer, the
 //! rest is worked out here.
 
-use estelunya_planner::layout::{MOST_CLASS, MOST_FILE_BYTES};
+use estelunya_planner::layout::MOST_FILE_BYTES;
 use estelunya_planner::Period;
 
 use super::dates::{existing, period, stated, wrong};
+use super::form;
 use super::lines::{
     column, columns, digits, field_at, file_name, kind, line, lines, numbered, passed_over, text, trimmed, Delivery,
-    Kind, Rule, BAHNHOF, BITFELD, ECKDATEN, FPLAN, UMSTEIGB, ZUGART,
+    Kind, BAHNHOF, BITFELD, ECKDATEN, FPLAN, ZUGART,
 };
-use super::service::{of_delivery, service_of, Finding};
-use super::{form, looks};
+use super::mend::{cause, entry};
+use super::screen;
+use super::service::{of_delivery, service_of, Days, Finding};
 
 /// A refusal, as numbers.
 #[derive(Clone, Copy, Debug, PartialEq, Eq)]
@@ -34,116 +36,60 @@ impl Answer {
     }
 }
 
-const LONGEST: usize = 120;
-
-/// The whole screen of a refusal.
-pub fn screen(delivery: &Delivery, answer: &Answer) -> String {
-    let found = finding(delivery, answer);
-    let (title, meaning, mend) = entry(answer);
-    let mend = field_mend(delivery, answer).unwrap_or(mend);
-    let mut out = vec![answer.line_of_answer("refused")];
-    out.push("(so far the proved answer; the rest this program has worked out)".to_string());
-    out.push(String::new());
-    out.push(place(delivery, answer, &found));
-    out.extend(shown(delivery.file(answer.file), answer, &found));
-    out.push(format!("  {} - {}: {}", answer.number, title, meaning));
-    out.extend(found.says.iter().map(|says| format!("  here: {}", says)));
-    let hints = hints(delivery, answer);
-    let mend = if hints.is_empty() {
-        mend.to_string()
-    } else {
-        let lines = if hints.len() == 1 { "the line before says" } else { "the lines before say" };
-        format!("as {}; if that is not it: {}", lines, mend)
-    };
-    out.extend(hints.into_iter().map(|hint| format!("  look: {}", hint)));
-    out.push(format!("  mend: {}", mend));
-    out.push(format!("  see:  docs/REFUSALS.md#{}", anchor(answer)));
-    out.push(String::new());
-    out.join("\n")
+/// A refusal in words.
+#[derive(Clone, Debug)]
+pub struct Told {
+    /// File, line and field.
+    pub place: String,
+    /// What the number is called.
+    pub title: &'static str,
+    /// What the rule is.
+    pub meaning: &'static str,
+    /// What is to be marked, and what is wrong here.
+    pub found: Finding,
+    /// What should be looked at before anything is mended.
+    pub looks: Vec<String>,
+    /// How to mend it.
+    pub mend: String,
+    /// Where REFUSALS.md says it.
+    pub see: String,
 }
 
-/// A further offence in short: place and reason in a line, then the line itself.
-pub fn short(delivery: &Delivery, answer: &Answer) -> String {
-    let found = finding(delivery, answer);
-    let here = found.says.first().cloned().unwrap_or_else(|| entry(answer).0.to_string());
-    let mut out = vec![format!("{}: {}", answer.line_of_answer("likely"), here)];
-    let own =
-        Finding { marks: found.marks.into_iter().filter(|(line, _)| *line == answer.line).collect(), says: Vec::new() };
-    out.extend(rows(delivery.file(answer.file), answer, &own).0);
-    out.push(String::new());
-    out.join("\n")
-}
-
-/// File, line and field.
-fn place(delivery: &Delivery, answer: &Answer, found: &Finding) -> String {
-    let name = match answer.file {
-        0 => return "no file".to_string(),
-        file => file_name(file),
-    };
-    if answer.line == 0 {
-        return format!("{}, {} bytes", name, delivery.file(answer.file).len());
+/// The words for a refusal.
+pub fn tell(delivery: &Delivery, answer: &Answer) -> Told {
+    let mut found = finding(delivery, answer);
+    let (title, meaning) = entry(answer);
+    let cause = cause(delivery, answer);
+    let place = screen::place(delivery, answer, &field(delivery, answer, &found));
+    if cause.only {
+        found.says.clear();
     }
+    found.says.extend(cause.here);
+    found.marks = cause.marks.unwrap_or(found.marks);
+    let see = format!("{}#{}", super::refusals(), anchor(answer));
+    Told { place, title, meaning, found, looks: cause.looks, mend: cause.mend, see }
+}
+
+/// The columns that are marked first in the refused line, and their field.
+fn field(delivery: &Delivery, answer: &Answer, found: &Finding) -> String {
     let bytes = line(delivery.file(answer.file), answer.line).unwrap_or(b"");
-    let mark = found.marks.iter().find(|(line, _)| *line == answer.line).and_then(|(_, columns)| columns.first());
-    let field = match mark {
-        Some((first, last)) => {
-            let what = match field_at(answer.file, bytes, *first) {
-                Some(field) if found.marks.len() == 1 && !(11..=13).contains(&answer.number) => {
-                    format!(", {}", field.2)
-                }
-                None if answer.number == 4 => ", which no field has".to_string(),
-                _ => String::new(),
-            };
-            if first == last {
-                format!(", column {}{}", first, what)
-            } else {
-                format!(", columns {}-{}{}", first, last, what)
-            }
-        }
-        None => String::new(),
+    let (first, last) = match answer.column {
+        0 => match found.marks.iter().find(|(line, _)| *line == answer.line).and_then(|(_, columns)| columns.first()) {
+            Some(columns) => *columns,
+            None => return String::new(),
+        },
+        column => field_at(answer.file, bytes, column).map_or((column, column), |field| (field.0, field.1)),
     };
-    format!("{} line {}{}", name, answer.line, field)
-}
-
-/// The lines with their marks under a ruler.
-fn shown(file: &[u8], answer: &Answer, found: &Finding) -> Vec<String> {
-    let (out, longest) = rows(file, answer, found);
-    let tens =
-        (1..=longest).map(|at| if at % 10 == 0 { char::from(b'0' + (at / 10 % 10) as u8) } else { ' ' }).collect();
-    let ones = (1..=longest).map(|at| char::from(b'0' + (at % 10) as u8)).collect();
-    let ruler = [tens, ones].map(|row: String| format!("{:>7} |{}", "", row).trim_end().to_string());
-    ruler.into_iter().filter(|_| longest > 0).chain(out).collect()
-}
-
-/// The lines with their marks, the refused one among them, and how long the longest is.
-fn rows(file: &[u8], answer: &Answer, found: &Finding) -> (Vec<String>, usize) {
-    if answer.line == 0 {
-        return (Vec::new(), 0);
+    let what = match field_at(answer.file, bytes, first) {
+        Some(field) if found.marks.len() == 1 && !(11..=13).contains(&answer.number) => format!(", {}", field.2),
+        None if answer.number == 4 => ", which no field has".to_string(),
+        _ => String::new(),
+    };
+    if first == last {
+        format!(", column {}{}", first, what)
+    } else {
+        format!(", columns {}-{}{}", first, last, what)
     }
-    let mut marks = found.marks.clone();
-    if !marks.iter().any(|(line, _)| *line == answer.line) {
-        marks.push((answer.line, Vec::new()));
-    }
-    marks.sort();
-    let mut out = Vec::new();
-    let mut longest = 0;
-    for (number, columns) in &marks {
-        let (bytes, gone) = match line(file, *number) {
-            Some(bytes) => (bytes, ""),
-            None => (&b""[..], "(this line is not there)"),
-        };
-        let last = columns.iter().map(|(_, last)| *last).max().unwrap_or(0);
-        longest = longest.max(bytes.len().max(last).min(LONGEST));
-        let rest = if bytes.len() > LONGEST { " .." } else { "" };
-        let row = format!("{:>7} |{}{}{}", number, text(&bytes[..bytes.len().min(LONGEST)]), rest, gone);
-        out.push(row.trim_end().to_string());
-        if !columns.is_empty() {
-            let marked = |at: usize| columns.iter().any(|(first, last)| *first <= at && at <= *last);
-            let carets: String = (1..=last.min(LONGEST)).map(|at| if marked(at) { '^' } else { ' ' }).collect();
-            out.push(format!("{:>7} |{}", "", carets));
-        }
-    }
-    (out, longest)
 }
 
 /// What is to be marked and said.
@@ -157,8 +103,10 @@ fn finding(delivery: &Delivery, answer: &Answer) -> Finding {
             file.len(),
             file.len().saturating_sub(MOST_FILE_BYTES)
         )),
-        (2, _) => Finding::says(format!("the file has {} lines", lines(file).count())),
-        (3, _) => Finding::says(format!("the file has {} lines", lines(file).count())),
+        (2 | 3, _) => {
+            let count = lines(file).count();
+            Finding::says(format!("the file has {} line{}", count, if count == 1 { "" } else { "s" }))
+        }
         (4, of) => broken_form(of, bytes, answer),
         (5, _) => date(file, at, bytes),
         (6, BITFELD) => seen_earlier(file, at, bytes, 6),
@@ -180,10 +128,8 @@ fn finding(delivery: &Delivery, answer: &Answer) -> Finding {
                 None => Finding::default(),
             }
         }
-        (9, _) => Finding::at(at, (1, 7), format!("there is no line of {} in BAHNHOF", text(&columns(bytes, 1, 7)))),
-        (10, _) => {
-            Finding::at(at, (23, 28), format!("there is no line of {} in BITFELD", text(&columns(bytes, 23, 28))))
-        }
+        (9, _) => absent(delivery, BAHNHOF, at, (1, 7), bytes),
+        (10, _) => absent(delivery, BITFELD, at, (23, 28), bytes),
         (11, _) => Finding::at(at, (1, 3), format!("the line begins with `{}`", text(&columns(bytes, 1, 3)))),
         (12, _) => Finding::at(at, (1, 3), "no line before it begins with `*Z ` or `*T `".to_string()),
         (13, _) => match service_of(file, at, at) {
@@ -198,7 +144,7 @@ fn finding(delivery: &Delivery, answer: &Answer) -> Finding {
             16 => service.range(at),
             17 => service.cover(true),
             18 => service.cover(false),
-            _ => service.stretches(delivery),
+            _ => service.stretches(&Days::of(delivery)),
         }),
         (37, _) => tariff_group(file, at, bytes),
         (38, _) => unlisted(delivery.file(ZUGART), at, bytes),
@@ -212,7 +158,7 @@ fn finding(delivery: &Delivery, answer: &Answer) -> Finding {
 
 fn broken_form(of: u32, bytes: &[u8], answer: &Answer) -> Finding {
     match field_at(of, bytes, answer.column) {
-        Some(field) => Finding::at(answer.line, (field.0, field.1.min(LONGEST)), form::why(bytes, field)),
+        Some(field) => Finding::at(answer.line, form::marked(bytes, field), form::why(bytes, field)),
         None => {
             let byte = form::named(column(bytes, answer.column));
             Finding::at(
@@ -260,6 +206,28 @@ fn seen_earlier(file: &[u8], at: u32, bytes: &[u8], last: usize) -> Finding {
     }
 }
 
+/// 9 and 10: a number that a file does not list, and where it stands otherwise, or what is listed that looks like it.
+fn absent(delivery: &Delivery, of: u32, at: u32, place: (usize, usize), bytes: &[u8]) -> Finding {
+    let (number, name, file) = (columns(bytes, place.0, place.1), file_name(of), delivery.file(of));
+    let mut found = Finding::at(at, place, format!("there is no line of {} in {}", text(&number), name));
+    let inside = |line: &[u8]| line.windows(number.len()).position(|window| window == number);
+    let elsewhere = numbered(file).find_map(|(at, line)| Some((at, line, inside(line)?)));
+    let apart = |line: &&[u8]| line.iter().zip(&number).filter(|(one, other)| one != other).count() == 1;
+    let near = lines(file).filter(|line| !passed_over(line) && line.len() >= number.len()).filter(apart);
+    let near: Vec<String> = near.take(3).map(|line| text(&line[..number.len()])).collect();
+    if lines(file).all(passed_over) {
+        found.says.push(format!("{} lists none at all", name));
+    } else if let Some((line, bytes, place)) = elsewhere {
+        found.says.push(match passed_over(bytes) {
+            true => format!("line {} of {} has it, and is passed over: it begins with \"%\"", line, name),
+            false => format!("line {} of {} has it in column {}, inside another line", line, name, place + 1),
+        });
+    } else if !near.is_empty() {
+        found.says.push(format!("{} lists {}, one digit apart", name, near.join(" and ")));
+    }
+    found
+}
+
 /// 37: the file's first category, and this one.
 fn tariff_group(file: &[u8], at: u32, bytes: &[u8]) -> Finding {
     let (first, other) = match numbered(file).find(|(_, line)| !passed_over(line)) {
@@ -287,7 +255,7 @@ fn unlisted(zugart: &[u8], at: u32, bytes: &[u8]) -> Finding {
             let listed = text(&columns(line, 1, 3));
             found.says.push(format!("line {} of ZUGART has `{}`: codes are compared byte by byte", number, listed));
         }
-        None if lines(zugart).all(passed_over) => found.says.push("ZUGART lists no category at all".to_string()),
+        None if lines(zugart).all(passed_over) => found.says.push("ZUGART lists none at all".to_string()),
         None => {}
     }
     found
@@ -298,243 +266,10 @@ fn trimmed_end(bytes: &[u8]) -> &[u8] {
     &bytes[..end]
 }
 
-/// What the file or the line looks like, where that may be the reason.
-fn hints(delivery: &Delivery, answer: &Answer) -> Vec<String> {
-    let file = delivery.file(answer.file);
-    let searched = match (answer.number, answer.file) {
-        (9, _) => BAHNHOF,
-        (10, _) => BITFELD,
-        (38, FPLAN) => ZUGART,
-        _ => 0,
-    };
-    let told = looks::searched(delivery.file(searched));
-    if !told.is_empty() {
-        return told.into_iter().map(|told| format!("{}: {}", file_name(searched), told)).collect();
-    }
-    let mut found: Vec<String> = looks::file(file).into_iter().collect();
-    if found.is_empty() && [4, 11, 12, 39].contains(&answer.number) {
-        found.extend(line(file, answer.line).map_or_else(Vec::new, |bytes| looks::line(answer.file, bytes, file)));
-    }
-    found
-}
-
-/// How to mend a field, by its rule and what is wrong with it.
-fn field_mend(delivery: &Delivery, answer: &Answer) -> Option<&'static str> {
-    if answer.number != 4 || ![ECKDATEN, UMSTEIGB, ZUGART, FPLAN].contains(&answer.file) {
-        return None;
-    }
-    let bytes = line(delivery.file(answer.file), answer.line)?;
-    if answer.file == ZUGART && (bytes.starts_with(b"<") || bytes.starts_with(b"class")) {
-        return Some("the lines of 5.5.1 (`<text>`, `class00`) are not taken: put a \"%\" in column 1");
-    }
-    let rule = match field_at(answer.file, bytes, answer.column) {
-        Some(field) => field.3,
-        None => return Some("make the column blank, or move what stands there to its field"),
-    };
-    match rule {
-        Rule::Digits => Some("fill the field with digits, 0 in front"),
-        Rule::Positive => Some("four digits without sign, at least 0001"),
-        Rule::DigitsOrBlank => Some("fill the field with digits, 0 in front, or leave it blank"),
-        Rule::Offset => {
-            Some("give both repeats and offset, three digits each, or neither; with repeats the offset is at least 001")
-        }
-        Rule::Begins if answer.file == ZUGART => Some("begin the code in column 1"),
-        Rule::Begins => Some("begin the code in column 4"),
-        Rule::Date => Some(date_mend(bytes)),
-        Rule::Count(most) => Some(count_mend(&columns(bytes, answer.column, answer.column + 1), most)),
-        Rule::OneOf(_) => Some("write one of these; if the line is moved, set it to its columns"),
-        Rule::Filled => Some("fill all six columns, with `_` for blanks"),
-        Rule::FilledOrBlank => Some("fill all six columns, with `_` for blanks, or none"),
-        Rule::End => Some("leave it blank, or write `#` and the call's place from 0, or a stop of seven digits"),
-        Rule::Detail => Some("leave it blank, or write `#` and which call there, from 0, or a blank or `-` and HHHMM"),
-        Rule::Time => Some("write a blank or `-`, then three digits for hours and two for minutes, at most 59"),
-        Rule::Mark => Some("leave column 57 blank, or write X"),
-        Rule::Percent => Some("put \"%\" in column 59 of the line"),
-        _ => None,
-    }
-}
-
-fn date_mend(bytes: &[u8]) -> &'static str {
-    let parts = digits(bytes, 1, 2).and(digits(bytes, 4, 5)).and(digits(bytes, 7, 10));
-    if parts.is_some() {
-        "write points between day, month and year"
-    } else if digits(bytes, 1, 4).is_some() {
-        "write the day first, then the month, then the year, with points between them"
-    } else {
-        "write day and month with two digits, the year with four, from column 1 on"
-    }
-}
-
-fn count_mend(field: &[u8], most: u32) -> &'static str {
-    match (form_number(field), most) {
-        (Some(value), MOST_CLASS) if value > most => "give the category a class from 0 to 13",
-        (Some(value), _) if value > most => "write at most 60 minutes",
-        (Some(_), _) => "set the number to the right edge of its columns",
-        (None, MOST_CLASS) => "write the class, 0 to 13, at the right edge of columns 5-6",
-        (None, _) => "write the minutes in digits, at the right edge of the field",
-    }
-}
-
-fn form_number(field: &[u8]) -> Option<u32> {
-    super::lines::number(trimmed(field))
-}
-
 /// Where REFUSALS.md says it.
 pub fn anchor(answer: &Answer) -> String {
     match (answer.number, answer.file) {
         (number @ (1 | 20 | 51), _) | (number, 0) => format!("any-{}", number),
         (number, file) => format!("{}-{}", file_name(file).to_lowercase(), number),
-    }
-}
-
-/// Title, meaning and mend of a number, by the file.
-fn entry(answer: &Answer) -> (&'static str, &'static str, &'static str) {
-    match (answer.number, answer.file) {
-        (1, _) => (
-            "file too long",
-            "a file has at most 16,777,216 bytes",
-            "remove what does not belong in it, or split the delivery",
-        ),
-        (2, ECKDATEN) => (
-            "line missing",
-            "ECKDATEN has three lines: first day, last day, name",
-            "add the line; the name may be blank, but needs its line",
-        ),
-        (2, _) => {
-            ("no record", "UMSTEIGB has at least the record of 9999999", "add the record of 9999999 as the first")
-        }
-        (3, _) => (
-            "fourth line",
-            "ECKDATEN has exactly three lines; a blank one counts too",
-            "end the file after the third line",
-        ),
-        (4, ECKDATEN) => ("form", "columns 1-10 are DD.MM.YYYY", "write day and month with two digits"),
-        (4, BITFELD) => (
-            "form",
-            "1-6 digits, 7 blank, 8-103 hex digits in capitals, then blank",
-            "write all 96 digits, in capitals, from column 8 on",
-        ),
-        (4, BAHNHOF) => ("form", "1-7 digits, 8 and 12 blank, 13-62 a name", "set number and name to their columns"),
-        (4, UMSTEIGB) => (
-            "form",
-            "1-7 digits, 9-10 and 12-13 numbers, 8, 11 and 14 blank",
-            "set the numbers to the right edge of their columns",
-        ),
-        (4, ZUGART) => (
-            "form",
-            "1-3 a code, 5-6 a class, 8 tariff group, 10 output, 21 supplement, 23 flag; 4, 7, 9, 11, 20, 22 and 24 blank",
-            "set the line to its columns; the lines of 5.5.1 (`<text>`, `class00`) are not taken: put a \"%\" in column 1",
-        ),
-        (4, _) => (
-            "form",
-            "a field breaks its rule, or a column that no field has is not blank, or column 59 is not \"%\"",
-            "set the line to its columns",
-        ),
-        (5, _) => (
-            "no such date or period",
-            "dates are 01.01.1900 to 31.12.2199, and a period has 1 to 380 days",
-            "correct the date; cut a longer period in two deliveries",
-        ),
-        (6, BITFELD) => (
-            "number seen earlier",
-            "each bit field is listed once",
-            "remove the later line if both are alike; else give it a number of its own, also in FPLAN",
-        ),
-        (6, BAHNHOF) => {
-            ("number seen earlier", "each stop is listed once", "correct the number, or remove the later line")
-        }
-        (6, ZUGART) => ("code seen earlier", "each category is listed once", "keep one of them, or correct the code"),
-        (6, _) => ("stop seen earlier", "each stop, and 9999999, has one record", "keep one of them"),
-        (7, BITFELD) => (
-            "number 000000",
-            "it is reserved",
-            "give the bit field another number, or remove it and leave 000000 in FPLAN",
-        ),
-        (7, BAHNHOF) => (
-            "number not for a stop",
-            "9999999 and numbers that end with 00000 are no stops",
-            "give the stop another number, here, in UMSTEIGB and in FPLAN",
-        ),
-        (7, _) => (
-            "first record not 9999999",
-            "the first record holds for all stops without their own",
-            "put the record of 9999999 before all others",
-        ),
-        (8, _) => (
-            "frame wrong",
-            "two bits 1, a bit for each day of the period, two bits 1, then 0",
-            "make the bit fields from the period in ECKDATEN, all of them if it has changed",
-        ),
-        (9, _) => ("stop unknown", "each stop is in BAHNHOF", "list it there, or correct the number"),
-        (10, _) => (
-            "bit field unknown",
-            "a bit field is 000000 or in BITFELD of this delivery",
-            "list it there, or correct the number",
-        ),
-        (11, _) => (
-            "kind of line not taken",
-            "a line begins with `*Z `, `*T `, `*G `, `*A ` or a digit",
-            "leave the line out, or put a \"%\" in column 1",
-        ),
-        (12, _) => {
-            ("no service opened yet", "the first line is a *Z or *T", "begin with the line that opens the service")
-        }
-        (13, _) => (
-            "too many lines in a service",
-            "at most 200 calls, 50 *G, 50 *A VE, 100 other *A",
-            "join ranges that give the same; make two services of one with more calls",
-        ),
-        (14, _) => (
-            "fewer than two calls",
-            "a service has at least two schedule lines",
-            "add the missing schedule lines, or remove the service",
-        ),
-        (15, _) => (
-            "times",
-            "each call has the times that it needs, none earlier than the one before",
-            "add or correct the time; after midnight go on counting hours",
-        ),
-        (16, _) => ("range not on the route", "from and to are calls of this service, in order", "correct the range"),
-        (17, _) => (
-            "categories",
-            "each leg has exactly one *G",
-            "let the *G ranges meet at one call, from the first call to the last",
-        ),
-        (18, _) => (
-            "operating days",
-            "each leg has exactly one *A VE",
-            "let the *A VE ranges meet at one call, from the first call to the last",
-        ),
-        (19, _) => (
-            "two stretches on a day",
-            "on each day the legs that run form one stretch",
-            "make a service of each stretch, or correct the bit fields",
-        ),
-        (20, _) => (
-            "table too short",
-            "the delivery is right, but its table needs more words than were lent",
-            "nothing in the files: tell the planner's operators",
-        ),
-        (37, _) => (
-            "tariff group missing or alone",
-            "all categories have a tariff group, or none",
-            "give each line its tariff group, or take them all away",
-        ),
-        (38, _) => (
-            "category unknown",
-            "each category of a *G line is in ZUGART of this delivery",
-            "list it there with its class, or correct the code",
-        ),
-        (39, _) => (
-            "name field",
-            "columns 13-62 are names parted by \"$\", with patterns such as `Genf$<d>`",
-            "put \"$\" before the first pattern of a name; none at the end; at most 50 columns",
-        ),
-        (51, _) => (
-            "helper words too few",
-            "a load works in words that were not lent",
-            "nothing in the files: tell the planner's operators",
-        ),
-        _ => ("unknown to this program", "its numbers end earlier", "see the paper"),
     }
 }

@@ -1,7 +1,84 @@
 //! Why a field breaks its form (4), a name list (39) or a frame (8).
 
-use super::lines::{blank, column, columns, digits, number, text, trimmed, Field, Rule};
+use super::dates::stated;
+use super::lines::{
+    blank, column, columns, digits, field_at, fields, hashed, minutes, number, text, trimmed, Field, Rule, FPLAN,
+};
 use super::service::bit;
+
+/// Where a line breaks its form, from the left: the first column of each broken field, and each column that no field has and that is not blank. The first is the
+/// loader's column of a refusal 4.
+pub fn offences(file: u32, line: &[u8]) -> Vec<usize> {
+    let (first, end) = match (file, line.first()) {
+        // the kind of a line is no field
+        (FPLAN, Some(b'*')) => (4, 59),
+        (FPLAN, _) => (1, 59),
+        _ => (1, line.len()),
+    };
+    let broken = fields(file, line).iter().filter(|field| !keeps(line, field)).map(|field| field.0);
+    let stray = |at: &usize| column(line, *at) != b' ' && field_at(file, line, *at).is_none();
+    let mut found: Vec<usize> = broken.chain((first..=end).filter(stray)).collect();
+    found.sort_unstable();
+    found
+}
+
+/// Whether a field of a line keeps its rule.
+pub fn keeps(line: &[u8], field: &Field) -> bool {
+    let (first, last, _, rule) = *field;
+    if rule == Rule::Free {
+        return true;
+    }
+    let bytes = &columns(line, first, last)[..];
+    let filled = |bytes: &[u8]| !bytes.contains(&b' ');
+    match rule {
+        Rule::Date => stated(line).is_some(),
+        Rule::Digits => bytes.iter().all(u8::is_ascii_digit),
+        Rule::Positive => number(bytes).map_or(false, |value| value > 0),
+        Rule::DigitsOrBlank => blank(bytes) || number(bytes).is_some(),
+        Rule::Offset => offset_keeps(&columns(line, 23, 25), bytes),
+        Rule::Hex => bytes.iter().all(|byte| byte.is_ascii_digit() || (b'A'..=b'F').contains(byte)),
+        Rule::Count(most) => counted(bytes).map_or(false, |value| value <= most),
+        Rule::Name => !blank(bytes),
+        Rule::Begins => bytes[0] != b' ',
+        Rule::Filled => filled(bytes),
+        Rule::FilledOrBlank => blank(bytes) || filled(bytes),
+        Rule::End => blank(bytes) || hashed(bytes).is_some() || number(bytes).is_some(),
+        Rule::Detail => {
+            let read = digits(line, end_of(line, first), end_of(line, first) + 6).is_some();
+            !read || blank(bytes) || hashed(bytes).is_some() || minutes(bytes).is_some()
+        }
+        Rule::Time => blank(bytes) || minutes(bytes).is_some(),
+        Rule::OneOf(taken, _) => taken.contains(&bytes[0]),
+        Rule::Mark => b"X ".contains(&bytes[0]),
+        Rule::Percent => bytes[0] == b'%',
+        Rule::Free => true,
+    }
+}
+
+/// The first column of the range end that a detail stands beside.
+pub fn end_of(line: &[u8], detail: usize) -> usize {
+    match (column(line, 2), detail) {
+        (b'G', 24) => 8,
+        (b'G', _) => 16,
+        (_, 30) => 7,
+        _ => 15,
+    }
+}
+
+/// Repeats that are broken themselves ask nothing of the offset.
+fn offset_keeps(repeats: &[u8], offset: &[u8]) -> bool {
+    match (number(repeats), number(offset)) {
+        (Some(repeats), Some(offset)) => repeats == 0 || offset > 0,
+        (Some(_), None) => false,
+        (None, given) => blank(offset) || (!blank(repeats) && given.is_some()),
+    }
+}
+
+/// Blanks, then digits to the field's end.
+fn counted(bytes: &[u8]) -> Option<u32> {
+    let start = bytes.iter().position(|byte| *byte != b' ')?;
+    number(&bytes[start..])
+}
 
 /// Why the bytes of a field are not what they must be, with the columns to mark.
 pub fn why(line: &[u8], field: &Field) -> String {
@@ -28,11 +105,26 @@ pub fn why(line: &[u8], field: &Field) -> String {
         Rule::Detail if trimmed(&bytes).starts_with(b"#") => "after `#` come digits only, at least one".to_string(),
         Rule::Detail => format!("beside a stop it is blank, `#` and digits, or a time; {}", time(&bytes)),
         Rule::Time => time(&bytes),
-        Rule::OneOf(bytes_of) => format!("column {} is {}, and must be {}", first, named(bytes[0]), bytes_of),
+        Rule::OneOf(_, taken) => format!("column {} is {}, and must be {}", first, named(bytes[0]), taken),
         Rule::Mark => format!("column 57 is {}, and must be X or blank", named(bytes[0])),
         Rule::Percent => format!("column 59 is {}, and must be \"%\"", named(bytes[0])),
         Rule::Free => String::new(),
     }
+}
+
+/// The columns to mark in a field: of a long one those that are wrong.
+pub fn marked(line: &[u8], field: &Field) -> (usize, usize) {
+    let good = |at: &usize| column(line, *at).is_ascii_digit() || (b'A'..=b'F').contains(&column(line, *at));
+    match (field.3, (field.0..=field.1).find(|at| !good(at))) {
+        (Rule::Hex, Some(at)) if at > line.len() => (at, field.1),
+        (Rule::Hex, Some(at)) => (at, at),
+        _ => (field.0, field.1),
+    }
+}
+
+/// Whether there is at least one byte, and each is a digit.
+pub fn counted_digits(bytes: &[u8]) -> bool {
+    !bytes.is_empty() && bytes.iter().all(u8::is_ascii_digit)
 }
 
 /// A byte for people.
@@ -40,10 +132,9 @@ pub fn named(byte: u8) -> String {
     match byte {
         b' ' => "blank".to_string(),
         b'\t' => "a tab".to_string(),
-        0 => "a byte 0".to_string(),
         b'\r' => "a CR".to_string(),
         33..=126 => format!("`{}`", char::from(byte)),
-        _ => format!("the byte {} (hex {:02X})", byte, byte),
+        _ => format!("the byte hex {:02X}", byte),
     }
 }
 

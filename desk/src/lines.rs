@@ -102,9 +102,20 @@ pub fn minutes(bytes: &[u8]) -> Option<u32> {
     (sign && rest <= 59).then_some(60 * hours + rest)
 }
 
-/// The bytes as text, a byte that is no plain ASCII as `?`, so that a column stays a column.
+/// Whether a byte is shown as it is.
+pub fn plain(byte: u8) -> bool {
+    (32..127).contains(&byte)
+}
+
+/// The bytes as a row of a screen: a byte that is no plain ASCII as `?`, so that a column stays a column.
+pub fn row(bytes: &[u8]) -> String {
+    bytes.iter().map(|byte| if plain(*byte) { char::from(*byte) } else { '?' }).collect()
+}
+
+/// The bytes in a sentence: a byte that is no plain ASCII in hex, as in `M\xFChle`.
 pub fn text(bytes: &[u8]) -> String {
-    bytes.iter().map(|byte| if (32..127).contains(byte) { char::from(*byte) } else { '?' }).collect()
+    let told = |byte: &u8| if plain(*byte) { char::from(*byte).to_string() } else { format!("\\x{:02X}", byte) };
+    bytes.iter().map(told).collect()
 }
 
 /// The kinds of FPLAN lines.
@@ -169,8 +180,8 @@ pub enum Rule {
     Detail,
     /// Blank or a time.
     Time,
-    /// One of these bytes.
-    OneOf(&'static str),
+    /// One of these bytes, and how they are called.
+    OneOf(&'static [u8], &'static str),
     /// X or blank.
     Mark,
     /// "%".
@@ -199,11 +210,11 @@ const RECORDS: &[Field] = &[
 const CATEGORIES: &[Field] = &[
     (1, 3, "code", Rule::Begins),
     (5, 6, "class", Rule::Count(MOST_CLASS)),
-    (8, 8, "tariff group", Rule::OneOf("A, B, C, D, E, F, G, H or blank")),
-    (10, 10, "output", Rule::OneOf("a digit 0 to 7")),
+    (8, 8, "tariff group", Rule::OneOf(b"ABCDEFGH ", "A, B, C, D, E, F, G, H or blank")),
+    (10, 10, "output", Rule::OneOf(b"01234567", "a digit 0 to 7")),
     (12, 19, "text for the output", Rule::Free),
-    (21, 21, "supplement", Rule::OneOf("0, 1 or 2")),
-    (23, 23, "flag", Rule::OneOf("N, B, F or blank")),
+    (21, 21, "supplement", Rule::OneOf(b"012", "0, 1 or 2")),
+    (23, 23, "flag", Rule::OneOf(b"NBF ", "N, B, F or blank")),
     (25, usize::MAX, "free", Rule::Free),
 ];
 const Z: &[Field] = &[

@@ -1,18 +1,30 @@
 //! One service of FPLAN: its calls and ranges, and what is wrong with it as a whole (14 to 19).
 
+use std::collections::HashMap;
+
+use estelunya_planner::Period;
+
 use super::dates::period;
+use super::form::offences;
 use super::lines::{
-    blank, column, columns, digits, gives_days, hashed, kind, minutes, numbered, passed_over, text, Delivery, Kind,
-    BITFELD, ECKDATEN, FPLAN,
+    blank, column, columns, digits, gives_days, hashed, kind, lines, minutes, numbered, passed_over, text, Delivery,
+    Kind, BITFELD, ECKDATEN, FPLAN,
 };
 
-/// A schedule line.
+/// A schedule line. Of one that breaks its form the stop may be unknown, and a time broken: then nothing is said of it.
 #[derive(Clone, Debug)]
 pub struct Call {
     line: u32,
-    stop: u32,
+    stop: Option<u32>,
     arrival: Option<u32>,
     departure: Option<u32>,
+    broken: [bool; 2],
+}
+
+impl Call {
+    fn stop(&self) -> String {
+        self.stop.map_or_else(|| "???????".to_string(), |stop| format!("{:07}", stop))
+    }
 }
 
 /// What a range gives.
@@ -30,6 +42,8 @@ struct Range {
     bytes: Vec<u8>,
     gives: Gives,
     ends: [(usize, usize); 2],
+    /// Whether its ends, details or bit field break their form, so that nothing is said of it.
+    broken: bool,
 }
 
 /// A *Z or *T line and what follows it.
@@ -37,16 +51,26 @@ struct Range {
 pub struct Service {
     /// The line that opens it.
     pub opening: u32,
+    /// Its last line.
+    pub ends: u32,
     calls: Vec<Call>,
     ranges: Vec<Range>,
     counts: [u32; 4],
+    /// Whether a line is of no kind, so that a call or range may be missing.
+    loose: bool,
 }
+
+/// How many of each kind of line a service has at most: calls, *G, *A VE, other *A.
+const MOST: [u32; 4] = [200, 50, 50, 100];
+
+/// Lines to show, each with the columns to mark.
+pub type Marks = Vec<(u32, Vec<(usize, usize)>)>;
 
 /// Columns to mark in a line, and what is to be said of them.
 #[derive(Clone, Debug, Default, PartialEq, Eq)]
 pub struct Finding {
     /// Further lines to show, each with the columns to mark.
-    pub marks: Vec<(u32, Vec<(usize, usize)>)>,
+    pub marks: Marks,
     /// Sentences.
     pub says: Vec<String>,
 }
@@ -73,7 +97,7 @@ pub fn service_of(fplan: &[u8], at: u32, last: u32) -> Option<Service> {
             if number > at {
                 break;
             }
-            found = Some(Service { opening: number, calls: Vec::new(), ranges: Vec::new(), counts: [0; 4] });
+            found = Some(Service::opened(number));
         } else if let Some(service) = &mut found {
             service.add(number, line);
         }
@@ -92,21 +116,35 @@ fn listed(lines: &[u32]) -> String {
 }
 
 impl Service {
-    fn add(&mut self, number: u32, line: &[u8]) {
+    /// One that a line opens.
+    pub fn opened(line: u32) -> Service {
+        Service { opening: line, ends: line, calls: Vec::new(), ranges: Vec::new(), counts: [0; 4], loose: false }
+    }
+
+    /// Takes a further line of the service, and says whether it is the first of its kind that is too many.
+    pub fn add(&mut self, number: u32, line: &[u8]) -> bool {
+        self.ends = number;
         let gives = match kind(line) {
             Kind::Call => {
+                let time = |first: usize| columns(line, first, first + 5);
                 self.counts[0] += 1;
-                return self.calls.extend(digits(line, 1, 7).map(|stop| Call {
+                self.calls.push(Call {
                     line: number,
-                    stop,
-                    arrival: minutes(&columns(line, 30, 35)),
-                    departure: minutes(&columns(line, 37, 42)),
-                }));
+                    stop: digits(line, 1, 7),
+                    arrival: minutes(&time(30)),
+                    departure: minutes(&time(37)),
+                    broken: [30, 37].map(|first| !blank(&time(first)) && minutes(&time(first)).is_none()),
+                });
+                return self.counts[0] == MOST[0] + 1;
             }
             Kind::Category => Gives::Category,
             Kind::Attribute if gives_days(line) => Gives::Days(digits(line, 23, 28).unwrap_or(0)),
             Kind::Attribute => Gives::Other,
-            _ => return,
+            _ => {
+                // another kind of the standard is no call and no range
+                self.loose |= !(line[0] == b'*' && column(line, 2).is_ascii_uppercase() && column(line, 3) == b' ');
+                return false;
+            }
         };
         let (count, ends) = match gives {
             Gives::Category => (1, [(8, 24), (16, 31)]),
@@ -114,20 +152,22 @@ impl Service {
             Gives::Other => (3, [(7, 30), (15, 37)]),
         };
         self.counts[count] += 1;
-        self.ranges.push(Range { line: number, bytes: line.to_vec(), gives, ends });
+        let broken = offences(FPLAN, line).iter().any(|at| *at > 5 && *at < 59);
+        self.ranges.push(Range { line: number, bytes: line.to_vec(), gives, ends, broken });
+        self.counts[count] == MOST[count] + 1
     }
 
     /// 13: how many there are of what the line is one of.
     pub fn too_many(&self, line: &[u8]) -> String {
-        let (which, name, most) = match kind(line) {
-            Kind::Call => (0, "call", 200),
-            Kind::Category => (1, "*G", 50),
-            _ if gives_days(line) => (2, "*A VE", 50),
-            _ => (3, "other *A", 100),
+        let (which, name) = match kind(line) {
+            Kind::Call => (0, "call"),
+            Kind::Category => (1, "*G"),
+            _ if gives_days(line) => (2, "*A VE"),
+            _ => (3, "other *A"),
         };
         format!(
             "it is {} number {} of the service that line {} opens; {} are taken",
-            name, self.counts[which], self.opening, most
+            name, self.counts[which], self.opening, MOST[which]
         )
     }
 
@@ -139,6 +179,98 @@ impl Service {
             }
             Some(call) => Finding::at(call.line, (1, 7), format!("the only call is that of line {}", call.line)),
         }
+    }
+
+    /// The time that the call of a line needs and has not: its first column, and its name.
+    pub fn missing_time(&self, at: u32) -> Option<(usize, &'static str)> {
+        let index = self.calls.iter().position(|call| call.line == at)?;
+        let (call, last) = (&self.calls[index], index + 1 == self.calls.len());
+        if index > 0 && call.arrival.is_none() && !call.broken[0] {
+            return Some((30, "arrival"));
+        }
+        (!last && call.departure.is_none() && !call.broken[1]).then_some((37, "departure"))
+    }
+
+    /// What is wrong with the service as a whole, as numbers with their lines, in the order of document 01; and whether all of it could be checked. What only follows from
+    /// a line that is broken itself is left out.
+    pub fn offences(&self, days: &Days) -> (Vec<(u32, u32)>, bool) {
+        if self.loose {
+            return (Vec::new(), false);
+        }
+        if self.calls.len() < 2 {
+            return (vec![(14, self.opening)], self.ranges.is_empty());
+        }
+        let mut found: Vec<(u32, u32)> = self.late_calls().into_iter().map(|line| (15, line)).collect();
+        let mut whole = !self.calls.iter().any(|call| call.stop.is_none() || call.broken.contains(&true));
+        let mut good = [true; 2];
+        for range in &self.ranges {
+            let wrong = !range.broken && !self.placed(range);
+            if wrong && self.judged(range) {
+                found.push((16, range.line));
+            }
+            whole &= !range.broken && (!wrong || self.judged(range));
+            match range.gives {
+                Gives::Category => good[0] &= !range.broken && !wrong,
+                Gives::Days(_) => good[1] &= !range.broken && !wrong,
+                Gives::Other => {}
+            }
+        }
+        let legs = || 0..self.calls.len() - 1;
+        let covered = |categories: bool, good: bool| {
+            legs().all(|leg| match self.over(leg, categories).len() {
+                0 => !good,
+                count => count == 1,
+            })
+        };
+        for (number, categories, good) in [(17, true, good[0]), (18, false, good[1])] {
+            if !covered(categories, good) {
+                found.push((number, self.opening));
+            }
+        }
+        whole &= good[0] && good[1];
+        if good[1] && covered(false, true) {
+            match self.known_days(days) {
+                true if !self.stretches(days).says.is_empty() => found.push((19, self.opening)),
+                known => whole &= known,
+            }
+        }
+        (found, whole)
+    }
+
+    /// The lines of the calls of 15.
+    fn late_calls(&self) -> Vec<u32> {
+        let (mut found, mut before) = (Vec::new(), None);
+        for call in &self.calls {
+            let mut late = self.missing_time(call.line).is_some();
+            for time in [call.arrival, call.departure].into_iter().flatten() {
+                late |= before.map_or(false, |before| time < before);
+                before = Some(time);
+            }
+            if late {
+                found.push(call.line);
+            }
+        }
+        found
+    }
+
+    /// Whether both ends of a range are found, in order.
+    fn placed(&self, range: &Range) -> bool {
+        match (self.end(range, false), self.end(range, true)) {
+            (Ok(from), Ok(to)) if range.gives == Gives::Other => from <= to,
+            (Ok(from), Ok(to)) => from < to,
+            _ => false,
+        }
+    }
+
+    /// Whether a range that is not placed would not be either if broken calls were mended.
+    fn judged(&self, range: &Range) -> bool {
+        let by_stop = range.ends.iter().any(|(first, _)| digits(&range.bytes, *first, first + 6).is_some());
+        !by_stop || !self.calls.iter().any(|call| call.stop.is_none() || call.broken.contains(&true))
+    }
+
+    /// Whether BITFELD lists the bit fields of the ranges, each in its form and frame.
+    fn known_days(&self, days: &Days) -> bool {
+        self.ranges.iter().all(|range| !matches!(range.gives, Gives::Days(number) if number > 0 && !days.good(number)))
     }
 
     /// 15: the time that is missing, or the two times.
@@ -208,7 +340,7 @@ impl Service {
             };
         }
         let stop = digits(&range.bytes, first, first + 6);
-        let seen: Vec<usize> = (0..self.calls.len()).filter(|at| Some(self.calls[*at].stop) == stop).collect();
+        let seen: Vec<usize> = (0..self.calls.len()).filter(|at| self.calls[*at].stop == stop).collect();
         if seen.is_empty() {
             return Err(((first, first + 6), format!("the service does not call at {}", text(&place))));
         }
@@ -260,9 +392,9 @@ impl Service {
         let time = |time: Option<u32>| time.map_or_else(|| "-----".to_string(), clock);
         let told = |(index, call): (usize, &Call)| {
             format!(
-                "  #{} {:07} arrives {} departs {} (line {})",
+                "  #{} {} arrives {} departs {} (line {})",
                 index,
-                call.stop,
+                call.stop(),
                 time(call.arrival),
                 time(call.departure),
                 call.line
@@ -306,7 +438,7 @@ impl Service {
 
     fn leg(&self, first: usize, last: usize) -> String {
         let (from, to) = (&self.calls[first], &self.calls[last]);
-        format!("from {:07} (line {}) to {:07} (line {})", from.stop, from.line, to.stop, to.line)
+        format!("from {} (line {}) to {} (line {})", from.stop(), from.line, to.stop(), to.line)
     }
 
     /// 17 and 18: the first leg that is not covered once.
@@ -332,8 +464,8 @@ impl Service {
     }
 
     /// 19: the first day with two stretches, and these.
-    pub fn stretches(&self, delivery: &Delivery) -> Finding {
-        let period = match period(delivery.file(ECKDATEN)) {
+    pub fn stretches(&self, days: &Days) -> Finding {
+        let period = match days.period {
             Some(period) => period,
             None => return Finding::default(),
         };
@@ -344,11 +476,12 @@ impl Service {
                 _ => None,
             })
             .collect();
-        let bits: Vec<Option<Vec<u8>>> =
-            fields.iter().map(|(number, _)| bit_field(delivery.file(BITFELD), *number)).collect();
+        let bits: Vec<Option<&[u8]>> = fields.iter().map(|(number, _)| days.line(*number)).collect();
+        if bits.windows(2).all(|pair| pair[0] == pair[1]) {
+            return Finding::default();
+        }
         for (day, date) in period.dates().enumerate() {
-            let runs: Vec<bool> =
-                bits.iter().map(|bits| bits.as_ref().map_or(true, |line| bit(line, day + 2))).collect();
+            let runs: Vec<bool> = bits.iter().map(|bits| bits.map_or(true, |line| bit(line, day + 2))).collect();
             let found = stretches(&runs);
             if found.len() > 1 {
                 let mut says = vec![format!(
@@ -383,10 +516,43 @@ fn trim(bytes: &[u8]) -> &[u8] {
     super::lines::trimmed(bytes)
 }
 
-/// The line of a bit field; `None` for 0, which is daily, and for one that is not there.
-fn bit_field(bitfeld: &[u8], number: u32) -> Option<Vec<u8>> {
-    let is = |(_, line): &(u32, &[u8])| !passed_over(line) && digits(line, 1, 6) == Some(number);
-    (number > 0).then(|| numbered(bitfeld).find(is).map(|(_, line)| line.to_vec())).flatten()
+/// The bit fields of a delivery, by number, and its period.
+pub struct Days<'a> {
+    /// If ECKDATEN states one.
+    pub period: Option<Period>,
+    fields: HashMap<u32, &'a [u8]>,
+}
+
+impl<'a> Days<'a> {
+    /// Of each number the first line.
+    pub fn of(delivery: &'a Delivery) -> Days<'a> {
+        let mut fields = HashMap::new();
+        for line in lines(delivery.file(BITFELD)).filter(|line| !passed_over(line)) {
+            if let Some(number) = digits(line, 1, 6) {
+                fields.entry(number).or_insert(line);
+            }
+        }
+        Days { period: period(delivery.file(ECKDATEN)), fields }
+    }
+
+    /// Whether a number is listed, in its form or not.
+    pub fn lists(&self, number: u32) -> bool {
+        self.fields.contains_key(&number)
+    }
+
+    /// The line of a bit field; `None` for 0, which is daily, and for one that is not there.
+    pub fn line(&self, number: u32) -> Option<&'a [u8]> {
+        self.fields.get(&number).copied().filter(|_| number > 0)
+    }
+
+    fn good(&self, number: u32) -> bool {
+        match (self.line(number), self.period) {
+            (Some(line), Some(period)) => {
+                offences(BITFELD, line).is_empty() && super::form::frame(line, period.day_count() as usize).is_none()
+            }
+            _ => false,
+        }
+    }
 }
 
 /// A bit of a bit field's line, from 0.

@@ -7,22 +7,37 @@ use estelunya_planner::by_number::load_with;
 use estelunya_planner::layout::MOST_FILE_BYTES;
 use estelunya_planner::{Date, File};
 
-use super::explain::{screen, Answer};
+use super::explain::{tell, Answer};
 use super::form::frame;
 use super::lines::{lines, Delivery, BAHNHOF, BITFELD, ECKDATEN, FPLAN, UMSTEIGB, ZUGART};
-use super::{answer, files, loaded, run, told};
+use super::report::{self, answer, files, loaded, Options};
+use super::screen::screen;
+use super::survey::Survey;
+
+mod broken;
+mod compared;
+mod json;
 
 const SCREENS: &str = include_str!("screens.txt");
+
+/// As without a word, on the first day of the trial week.
+fn options() -> Options {
+    Options::new("01.12.2025".parse().unwrap())
+}
+
+fn told(delivery: &Delivery, all: bool) -> (i32, String) {
+    report::told(delivery, &Options { all, ..options() })
+}
 
 fn trial_week() -> Delivery {
     Delivery {
         files: [
-            include_bytes!("../../crates/ferry/data/ECKDATEN").to_vec(),
-            include_bytes!("../../crates/ferry/data/BITFELD").to_vec(),
-            include_bytes!("../../crates/ferry/data/BAHNHOF").to_vec(),
-            include_bytes!("../../crates/ferry/data/UMSTEIGB").to_vec(),
-            include_bytes!("../../crates/ferry/data/FPLAN").to_vec(),
-            include_bytes!("../../crates/ferry/data/ZUGART").to_vec(),
+            include_bytes!("../../../crates/ferry/data/ECKDATEN").to_vec(),
+            include_bytes!("../../../crates/ferry/data/BITFELD").to_vec(),
+            include_bytes!("../../../crates/ferry/data/BAHNHOF").to_vec(),
+            include_bytes!("../../../crates/ferry/data/UMSTEIGB").to_vec(),
+            include_bytes!("../../../crates/ferry/data/FPLAN").to_vec(),
+            include_bytes!("../../../crates/ferry/data/ZUGART").to_vec(),
         ],
     }
 }
@@ -239,7 +254,7 @@ fn all_screens() -> String {
     let short = load_with(&files(&week), &mut [0; 81], &mut [0; 84]).map_err(answer).unwrap_err();
     let helper = load_with(&files(&week), &mut [0; 82], &mut [0; 83]).map_err(answer).unwrap_err();
     for (name, refusal) in [("20", short), ("51", helper)] {
-        text.push_str(&titled(name, &screen(&week, &refusal)));
+        text.push_str(&titled(name, &screen(&week, &refusal, &tell(&week, &refusal))));
     }
     text
 }
@@ -251,7 +266,12 @@ fn screens() {
     if let Some(path) = std::env::var_os("DESK_SCREENS") {
         std::fs::write(path, &now).unwrap();
     }
-    let (mut wanted, mut printed) = (SCREENS.lines(), now.lines());
+    same_lines(SCREENS, &now);
+}
+
+/// Compares screens line by line, and says in which they differ.
+fn same_lines(wanted: &str, printed: &str) {
+    let (mut wanted, mut printed) = (wanted.lines(), printed.lines());
     let mut title = "";
     loop {
         let pair = (wanted.next(), printed.next());
@@ -274,7 +294,7 @@ fn every_number_has_a_screen() {
 /// Each place that a screen sends to is in REFUSALS.md.
 #[test]
 fn places_in_refusals() {
-    let document = include_str!("../../docs/REFUSALS.md");
+    let document = include_str!("../../../docs/REFUSALS.md");
     let places: BTreeSet<&str> =
         SCREENS.lines().filter_map(|line| line.split_once("REFUSALS.md#")).map(|(_, place)| place).collect();
     assert!(places.len() > 25);
@@ -371,9 +391,13 @@ fn status() {
     assert_eq!(told(&trial_week(), false).0, 0);
     assert_eq!(told(&with_file(ECKDATEN, b""), false).0, 1);
     assert_eq!(told(&with_file(ECKDATEN, b""), true).0, 1);
-    let (status, text) = run(Path::new("no such directory"), false);
+    // 3: accepted, and to be looked at
+    assert_eq!(told(&with_file(FPLAN, b""), false).0, 3);
+    assert_eq!(report::told(&trial_week(), &Options::new("08.12.2025".parse().unwrap())).0, 3);
+    let (status, text) = report::run(Path::new("no such directory"), &options());
     assert_eq!(status, 2);
-    assert!(text.starts_with("unread file 1\n"));
+    // all six at once
+    assert!(text.starts_with("unread file 1\nECKDATEN: ") && text.contains("\nFPLAN: "), "{}", text);
 }
 
 /// Many services: no file is too large, and `--all` finds each of many offences.
@@ -385,11 +409,14 @@ fn many() {
     let bad = plan(&["*Z 00042 FERRY_", "*G BAT", "*A VE                 000009"]);
     let broken = with_file(FPLAN, &[service.repeat(50), bad].concat().repeat(20));
     let (status, text) = told(&broken, true);
-    // each lacks its calls too
+    // each lacks its calls too; five of a kind are shown
     let counts = ["likely 10 file 5", "likely 14 file 5"].map(|told| text.matches(told).count());
-    assert_eq!((status, counts), (1, [19, 20]));
-    assert!(text.contains("--all: 39 more of FPLAN, likely and not proved\n"));
+    assert_eq!((status, counts), (1, [4, 5]));
+    assert!(text.contains("--all: 40 offences of 2 kinds in all six files; "), "{}", text);
+    assert!(text.contains("\n       20  FPLAN, 10 - bit field unknown\n"), "{}", text);
     assert!(text.contains(" and 10 more not all of 14 to 19 could be checked"));
+    let (_, text) = report::told(&broken, &Options { all: true, most: Some(30), ..options() });
+    assert_eq!(["likely 10 file 5", "likely 14 file 5"].map(|told| text.matches(told).count()), [19, 20]);
 }
 
 /// Whatever the bytes are, the program finds a reason for what the loader has answered.
@@ -417,12 +444,18 @@ fn any_bytes() {
             }
         }
         let (status, text) = told(&delivery, true);
-        assert_eq!(status == 0, text.starts_with("accepted"));
-        assert!(status == 0 || text.contains("\n  here: "), "{}", text);
-        assert!(!text.contains("here: \n"), "{}", text);
+        assert_eq!(status != 1, text.starts_with("accepted"));
+        assert!(status != 1 || text.contains("\n  here: "), "{}", text);
+        assert!(!text.contains("here: \n") && !text.contains("mend: \n"), "{}", text);
+        // no row of a screen is wider than a terminal
+        assert!(text.lines().filter(|line| line.get(7..9) == Some(" |")).all(|line| line.len() <= 80), "{}", text);
+        // the program's own reading finds first what the loader has answered, and nothing where it accepts
+        let first = Survey::of(&delivery).found.first().copied();
+        assert_eq!(first, loaded(&delivery).err(), "{}", text);
     }
     let none = Answer { number: 60, file: 0, line: 0, column: 0, needed: 0 };
-    assert!(screen(&trial_week(), &none).starts_with("refused 60 file 0 line 0 column 0\n"));
+    let week = trial_week();
+    assert!(screen(&week, &none, &tell(&week, &none)).starts_with("refused 60 file 0 line 0 column 0\n"));
 }
 
 /// A delivery written back clean: into a new directory, never over another; the same timetable.
@@ -446,7 +479,7 @@ fn clean() {
     for (file, bytes) in File::ALL.iter().zip(&delivery.files) {
         std::fs::write(from.join(file.name()), bytes).unwrap();
     }
-    let (status, text) = super::clean::run(&from, &out);
+    let (status, text) = super::clean::run(&from, &out, &options());
     assert_eq!(status, 0, "{}", text);
     assert!(
         text.starts_with("accepted days 7 ") && text.contains("FPLAN of 8 lines, 480 bytes (it had 540)"),
@@ -471,10 +504,10 @@ fn clean() {
     ];
     assert_eq!(written.into_bytes(), plan(&expected));
     // not over another delivery, and nothing of a refused one
-    let (status, text) = super::clean::run(&from, &out);
+    let (status, text) = super::clean::run(&from, &out, &options());
     assert!(status == 2 && text.ends_with("the directory is not empty\n"), "{}", text);
     std::fs::write(from.join("FPLAN"), b"*X\n").unwrap();
-    let (status, text) = super::clean::run(&from, &place.join("none"));
+    let (status, text) = super::clean::run(&from, &place.join("none"), &options());
     assert!(status == 1 && text.starts_with("refused 12 file 5 line 1") && !place.join("none").exists(), "{}", text);
     std::fs::remove_dir_all(&place).unwrap();
 }
