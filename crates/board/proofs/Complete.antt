@@ -14,7 +14,7 @@ use Rattle.base.proofs.Laws.{clash}
 use Rattle.timetable.specs.Delivery.{Service}
 use Rattle.timetable.specs.Runs.{hasRun}
 use Rattle.timetable.specs.View.{View, aService}
-use Rattle.timetable.specs.Run.{Run, RunFound, barred, atRest, aRun, runOf, stretchCalls, stretchFrom}
+use Rattle.timetable.specs.Run.{Run, RunFound, noRun, atRest, aRun, runOf, stretchCalls, stretchFrom}
 use Rattle.timetable.specs.Questions.{rowOf, rowsOf, rows, rowsAlong}
 use Rattle.timetable.specs.declared.Call.{Call}
 use Rattle.board.specs.Board.{Departure, boardable, IsDeparture, Among, boardOf}
@@ -29,12 +29,12 @@ module _ (v : View) (n k t u services : ℕ) where
         → t ≤ c .departure + x .late → c .departure + x .late ≤ u
         → Among (record { time = c .departure + x .late; service = i; repeat = r; place = p }) (boardOf v services n k t u)) → Told i r
 
-  pub complete : Served v services → ((i r : ℕ) (s : Service) → v .service i ≡ aService s → hasRun (s .opening) r ≡ true → (number : ℕ) → runOf v i r k ≡ barred number → ⊥)
+  pub complete : Served v services → ((i r : ℕ) (s : Service) → v .service i ≡ aService s → hasRun (s .opening) r ≡ true → (number : ℕ) → runOf v i r k ≡ noRun number → ⊥)
       → (i r : ℕ) (s : Service) → v .service i ≡ aService s → hasRun (s .opening) r ≡ true → Told i r
   complete z never i r s e h = go (runOf v i r k) refl
     where
       go : (f : RunFound) → runOf v i r k ≡ f → Told i r
-      go (barred number) q = absurd (never i r s e h number q)
+      go (noRun number) q = absurd (never i r s e h number q)
       go atRest q = rests q
       go (aRun x) q =
           listed x q

@@ -15,7 +15,7 @@ use Rattle.base.proofs.Loops.{and-true}
 use Rattle.timetable.specs.Delivery.{Service}
 use Rattle.timetable.specs.Runs.{hasRun, lateness, openingSound}
 use Rattle.timetable.specs.View.{View, ServiceFound, noService, aService}
-use Rattle.timetable.specs.Run.{Run, RunFound, barred, atRest, aRun, runAlong, runBy, runOf, courseOn, serviceCourse}
+use Rattle.timetable.specs.Run.{Run, RunFound, noRun, atRest, aRun, runAlong, runBy, runOf, courseOn, serviceCourse}
 use Rattle.timetable.specs.declared.Call.{Call}
 use Rattle.timetable.specs.declared.Opening.{Opening}
 use Rattle.timetable.specs.declared.Course.{Course}
@@ -215,12 +215,12 @@ pub record Ran (v : View) (i r k : ℕ) (x : Run) : Type 0 where
   pub course : courseOn v (x .service) k ≡ Along (x .start) (x .legs)
 
 isRun : RunFound → Bool
-isRun (barred number) = false
+isRun (noRun number) = false
 isRun atRest = false
 isRun (aRun x) = true
 
 runOr : Run → RunFound → Run
-runOr d (barred number) = d
+runOr d (noRun number) = d
 runOr d atRest = d
 runOr d (aRun x) = x
 

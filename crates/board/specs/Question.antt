@@ -10,7 +10,7 @@ use Rattle.timetable.specs.Load.{onto}
 use Rattle.timetable.specs.Table.{services#}
 use Rattle.timetable.specs.View.{View}
 use Rattle.timetable.specs.Questions.{asked, Dated, undated, dated, dateOf}
-use Rattle.sort.specs.Rows.{rowSize, boardRowWords}
+use Rattle.sort.specs.Rows.{boardRowSize, boardRowWords}
 use Rattle.board.specs.Board.{Departure, boardOf}
 use Rattle.board.specs.declared.BoardAnswer.{BoardAnswer}
 use Rattle.board.specs.declared.BoardAnswer.the-variants.{Listed, Refused}
@@ -35,9 +35,9 @@ boardAsked w own n day month year t u = asked refused (λ (v : View). boardIn v 
 -- "29 list too short, with the words needed"
 abbrev pub boardedBy : BoardFound → ℕ → BoardAnswer
 boardedBy (refused number) room = Refused number 0
-boardedBy (board es) room = cond (ltb room (rowSize * length es)) (Refused 29 (rowSize * length es)) (Listed (length es))
+boardedBy (board es) room = cond (ltb room (boardRowSize * length es)) (Refused 29 (boardRowSize * length es)) (Listed (length es))
 
 -- the list afterwards: "the list then stays"; later words stay
 abbrev pub boardInto : BoardFound → List ℕ → List ℕ
 boardInto (refused number) list = list
-boardInto (board es) list = cond (ltb (length list) (rowSize * length es)) list (onto (gathered boardRowWords es) list)
+boardInto (board es) list = cond (ltb (length list) (boardRowSize * length es)) list (onto (gathered boardRowWords es) list)

@@ -212,17 +212,17 @@ module _ (w x y : List ℕ) (h : JustTable w) (ex : x ≡ indexOf w) (ey : y ≡
         either false = refl
 
     -- an entry gives what its call gives
-    entry-given : (e : ℕ) → 0 < e → e ≤ allCalls w → B.callDepartures (viewOf (tableOf w)) (stops# w) y n k t u e ≡ given (callOf w e)
-    unfolding B.callDepartures entryOf entryBy
+    entry-given : (e : ℕ) → 0 < e → e ≤ allCalls w → B.entryDepartures (viewOf (tableOf w)) (stops# w) y n k t u e ≡ given (callOf w e)
+    unfolding B.entryDepartures entryOf entryBy
     entry-given e z l = λ j. departuresAt (viewOf (tableOf w)) n k t u (entry-word 1 e z l (omega arith) j) (entry-word 3 e z l (omega arith) j)
 
-    listed-given : (b m : ℕ) → m ≤ allCalls w → gathered (B.callDepartures (viewOf (tableOf w)) (stops# w) y n k t u) (passing (atStop w b) m) ≡ gathered given (listedTo w b m)
+    listed-given : (b m : ℕ) → m ≤ allCalls w → gathered (B.entryDepartures (viewOf (tableOf w)) (stops# w) y n k t u) (passing (atStop w b) m) ≡ gathered given (listedTo w b m)
     unfolding passing listedTo gathered
     listed-given b zero l = refl
     listed-given b (suc m) l = go (atStop w b (suc m)) (listed-given b m (omega arith))
       where
-        go : (s : Bool) → gathered (B.callDepartures (viewOf (tableOf w)) (stops# w) y n k t u) (passing (atStop w b) m) ≡ gathered given (listedTo w b m)
-            → gathered (B.callDepartures (viewOf (tableOf w)) (stops# w) y n k t u) (cond s (suc m ∷ passing (atStop w b) m) (passing (atStop w b) m)) ≡ gathered given (cond s (callOf w (suc m) ∷ listedTo w b m) (listedTo w b m))
+        go : (s : Bool) → gathered (B.entryDepartures (viewOf (tableOf w)) (stops# w) y n k t u) (passing (atStop w b) m) ≡ gathered given (listedTo w b m)
+            → gathered (B.entryDepartures (viewOf (tableOf w)) (stops# w) y n k t u) (cond s (suc m ∷ passing (atStop w b) m) (passing (atStop w b) m)) ≡ gathered given (cond s (callOf w (suc m) ∷ listedTo w b m) (listedTo w b m))
         go true i = λ j. entry-given (suc m) (omega arith) l j ++ i j
         go false i = i
 
@@ -246,11 +246,11 @@ module _ (w x y : List ℕ) (h : JustTable w) (ex : x ≡ indexOf w) (ey : y ≡
     pub own-departures : List·Permᴰ (departuresBy w x y n k t u) (gathered (serviceDepartures (viewOf (tableOf w)) n k t u) (below (services# w)))
     unfolding departuresBy
     own-departures =
-        let a : gathered (B.callDepartures (viewIn w x) (stops# w) y n k t u) (take (usedWords w) (callsBy w x y (sectionEnd (stopSection w)) (stops# w) (stopsFrom w) n))
+        let a : gathered (B.entryDepartures (viewIn w x) (stops# w) y n k t u) (take (usedWords w) (callsBy w x y (sectionEnd (stopSection w)) (stops# w) (stopsFrom w) n))
         ≡ gathered (λ (s : ℕ). gathered given (listedAt w (stops# w - s))) (passing (numbered n) (stops# w))
-        = ap (λ (z : View). gathered (B.callDepartures z (stops# w) y n k t u) (take (usedWords w) (callsBy w x y (sectionEnd (stopSection w)) (stops# w) (stopsFrom w) n))) (view-agrees w x h ex)
-        ∙ ap (gathered (B.callDepartures (viewOf (tableOf w)) (stops# w) y n k t u)) (take-all (usedWords w) (callsBy w x y (sectionEnd (stopSection w)) (stops# w) (stopsFrom w) n) (few n) ∙ calls-same n)
-        ∙ gathered-twice (B.callDepartures (viewOf (tableOf w)) (stops# w) y n k t u) (λ (s : ℕ). passing (atStop w (stops# w - s)) (allCalls w)) (passing (numbered n) (stops# w))
+        = ap (λ (z : View). gathered (B.entryDepartures z (stops# w) y n k t u) (take (usedWords w) (callsBy w x y (sectionEnd (stopSection w)) (stops# w) (stopsFrom w) n))) (view-agrees w x h ex)
+        ∙ ap (gathered (B.entryDepartures (viewOf (tableOf w)) (stops# w) y n k t u)) (take-all (usedWords w) (callsBy w x y (sectionEnd (stopSection w)) (stops# w) (stopsFrom w) n) (few n) ∙ calls-same n)
+        ∙ gathered-twice (B.entryDepartures (viewOf (tableOf w)) (stops# w) y n k t u) (λ (s : ℕ). passing (atStop w (stops# w - s)) (allCalls w)) (passing (numbered n) (stops# w))
         ∙ ap (λ (f : ℕ → List Departure). gathered f (passing (numbered n) (stops# w))) (fun-ext (λ s. listed-given (stops# w - s) (allCalls w) (omega arith))) in
         rw (a, ← services-given) (all-calls n given (λ c p l e. off-given c p l e))
 

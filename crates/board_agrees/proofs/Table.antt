@@ -71,7 +71,7 @@ at-departure w x n k t u i p e h = go (viewIn w x .service i) refl h
 
 -- what a quick board lists is a departure of what words and look-ups show: the words of the calls can hide one, or list one twice, and can invent none
 pub by-only : (w x y : List ℕ) (n k t u : ℕ) (e : Departure) → Among e (boardBy w x y n k t u) → IsDeparture (viewIn w x) n k t u e
-unfolding boardBy departuresBy B.callDepartures
+unfolding boardBy departuresBy B.entryDepartures
 by-only w x y n k t u e h =
     let g = gathered-from (λ (c : ℕ). departuresAt (viewIn w x) n k t u (entryWord (stops# w) y 1 c) (entryWord (stops# w) y 3 c)) (take (usedWords w) (callsBy w x y (sectionEnd (stopSection w)) (stops# w) (stopsFrom w) n)) e (among-sorted e (departuresBy w x y n k t u) h) in
     at-departure w x n k t u (entryWord (stops# w) y 1 (g .which)) (entryWord (stops# w) y 3 (g .which)) e (g .one)

@@ -21,7 +21,7 @@ ghost use Rattle.timetable.specs.Runs.{openingSound};
 ghost use Rattle.timetable.specs.Table.{stops#, services#, callAt, openingAt, serviceAt, withStops, recordSound};
 ghost use Rattle.words.specs.Words.{write};
 ghost use Rattle.index.specs.Index.{Ready, recordPlaceIn, viewIn};
-ghost use Rattle.sort.specs.Rows.{rowSize, boardRowWords};
+ghost use Rattle.sort.specs.Rows.{boardRowSize, boardRowWords};
 ghost use Rattle.spans.specs.Spans.{runs#};
 ghost use Rattle.board.specs.Board.{boardable, departureOf, runsFrom, callDepartures, leaves, placeDepartures};
 ghost use Rattle.board_runs.specs.Batch.{departuresAt, batchRows, Batched, leavesWithin, Hides};
@@ -254,8 +254,8 @@ pub fn batch_size(b: Batch) -> usize
 pub fn put_batch(list: &mut [u32], at: usize, b: Batch) -> usize
     requires { ⌜ openingSound (b .opening) ≡ true ⌝ }
     requires { ⌜ (b .high ≤ runs# (b .opening)) × (b .departure ≤ latestTime) ⌝ }
-    requires { ⌜ at + rowSize * (b .high - b .low) ≤ length (now list) ⌝ }
-    ensures end { λ r. ⌜ r ≡ at + rowSize * (b .high - b .low) ⌝ }
+    requires { ⌜ at + boardRowSize * (b .high - b .low) ≤ length (now list) ⌝ }
+    ensures end { λ r. ⌜ r ≡ at + boardRowSize * (b .high - b .low) ⌝ }
     ensures words { λ _. ⌜ now (list .exit) ≡ write (now (list .entry)) at (gathered boardRowWords (batchRows b)) ⌝ }
 {
     put_rows(
@@ -282,8 +282,8 @@ fn put_rows(
 ) -> usize
     requires { ⌜ openingSound opening ≡ true ⌝ }
     requires { ⌜ (high ≤ runs# opening) × (departure ≤ latestTime) ⌝ }
-    requires { ⌜ at + rowSize * (high - low) ≤ length (now list) ⌝ }
-    ensures end { λ r. ⌜ r ≡ at + rowSize * (high - low) ⌝ }
+    requires { ⌜ at + boardRowSize * (high - low) ≤ length (now list) ⌝ }
+    ensures end { λ r. ⌜ r ≡ at + boardRowSize * (high - low) ⌝ }
     ensures words { λ _. ⌜ now (list .exit) ≡ write (now (list .entry)) at (gathered boardRowWords (map (departureOf i opening p departure) (upto (high - low) low))) ⌝ }
 {
     let mut to = at;
@@ -300,7 +300,7 @@ fn put_rows(
 fn put_row(list: &mut [u32], to: usize, i: u32, opening: Opening, p: u32, departure: u32, r: u32)
     requires { ⌜ openingSound opening ≡ true ⌝ }
     requires { ⌜ (r < runs# opening) × (departure ≤ latestTime) ⌝ }
-    requires { ⌜ to + rowSize ≤ length (now list) ⌝ }
+    requires { ⌜ to + boardRowSize ≤ length (now list) ⌝ }
     ensures { λ _. ⌜ now (list .exit) ≡ write (now (list .entry)) to (boardRowWords (departureOf i opening p departure r)) ⌝ }
 {
     let time = departure + runs::lateness(opening, r);

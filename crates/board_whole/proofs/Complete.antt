@@ -17,7 +17,7 @@ use Rattle.timetable.specs.Load.{loaded, written, delivered}
 use Rattle.timetable.specs.Runs.{hasRun}
 use Rattle.timetable.specs.Table.{usedWords, services#, used, tableOf, isTable}
 use Rattle.timetable.specs.View.{ServiceFound, noService, aService, serviceBy, viewOf}
-use Rattle.timetable.specs.Run.{barred, runOf}
+use Rattle.timetable.specs.Run.{noRun, runOf}
 use Rattle.timetable.specs.Questions.{Dated, dated, dateOf, datedRun, refused, rowsAlong, journey, walkOf}
 use Rattle.timetable.specs.declared.Loaded.the-variants.{Accepted}
 use Rattle.table.proofs.Says.{table-says}
@@ -61,13 +61,13 @@ module _ (f : Files) (t : List ℕ) (helper u : ℕ) (e : loaded f (length t) he
     on-day : dateOf (viewOf (delivered f)) d m y ≡ dated (day - delivered f .period .start)
     on-day = rw (q, le-leb (delivered f .period .start) day from, lt-ltb day (delivered f .period .start + delivered f .period .n) until)
 
-    walk-is : (i r number : ℕ) → runOf (viewOf (delivered f)) i r (day - delivered f .period .start) ≡ barred number → walkOf (written f t helper) i r d m y ≡ refused number
+    walk-is : (i r number : ℕ) → runOf (viewOf (delivered f)) i r (day - delivered f .period .start) ≡ noRun number → walkOf (written f t helper) i r d m y ≡ refused number
     unfolding walkOf journey
     walk-is i r number g =
         rw (table-is f t helper u e, table-holds f t helper u e)
         (ap (λ (x : Dated). rowsAlong (viewOf (delivered f)) (datedRun (viewOf (delivered f)) i r x)) on-day ∙ ap (rowsAlong (viewOf (delivered f))) g)
 
-    never : (i r : ℕ) (s : Service) → viewOf (delivered f) .service i ≡ aService s → hasRun (s .opening) r ≡ true → (number : ℕ) → runOf (viewOf (delivered f)) i r (day - delivered f .period .start) ≡ barred number → ⊥
+    never : (i r : ℕ) (s : Service) → viewOf (delivered f) .service i ≡ aService s → hasRun (s .opening) r ≡ true → (number : ℕ) → runOf (viewOf (delivered f)) i r (day - delivered f .period .start) ≡ noRun number → ⊥
     never i r s g h number b =
         demand3 f t helper u e i r d m y day s (record { service = found-some (getElem? (delivered f .services) i) s g; repeat = h; date = q; from = from; until = until }) .never-refused number (walk-is i r number b)
 

@@ -33,13 +33,13 @@ use Rattle.board_runs.specs.Batch.{departuresAt, batchRows, Batched}
 use Rattle.board_runs.specs.declared.Batch.{Batch}
 use Rattle.stop_calls.specs.StopCalls.{entries#, entryWord, callsBy, Lent, leftAt, On}
 use Rattle.stop_calls.specs.declared.Cursor.{Cursor}
-use Rattle.boards.specs.ByWords.{callDepartures, departuresBy, boardBy, Lends, Along, leftDepartures, Putting, most}
+use Rattle.boards.specs.ByWords.{entryDepartures, departuresBy, boardBy, Lends, Along, leftDepartures, Putting, most}
 use Rattle.boards.proofs.Bounds.{call-few, gathered-few}
 
 -- ---- one call
 
-pub batch-is : (v : View) (s e n k t u i p : ℕ) (y : List ℕ) (b : Batch) → i ≡ entryWord s y 1 e → p ≡ entryWord s y 3 e → Batched b (departuresAt v n k t u i p) → Batched b (callDepartures v s y n k t u e)
-unfolding callDepartures
+pub batch-is : (v : View) (s e n k t u i p : ℕ) (y : List ℕ) (b : Batch) → i ≡ entryWord s y 1 e → p ≡ entryWord s y 3 e → Batched b (departuresAt v n k t u i p) → Batched b (entryDepartures v s y n k t u e)
+unfolding entryDepartures
 batch-is v s e n k t u i p y b a c g = rw (a, c) at g
 
 module _ (b : Batch) (es : List Departure) (g : Batched b es) where
@@ -95,7 +95,7 @@ module _ (w x y : List ℕ) (end n from stop k t u : ℕ) where
   left c = leftDepartures w x y end n from stop k t u c
 
   abbrev given : ℕ → List Departure
-  given e = callDepartures (viewIn w x) n y stop k t u e
+  given e = entryDepartures (viewIn w x) n y stop k t u e
 
   pub left-none : (c : Cursor) → c .call ≡ 0 → leftDepartures w x y end n from stop k t u c ≡ []
   unfolding leftDepartures leftAt gathered
@@ -104,7 +104,7 @@ module _ (w x y : List ℕ) (end n from stop k t u : ℕ) where
   module _ (c c′ : Cursor) (q : leftAt w x y end n from stop c ≡ c .call ∷ leftAt w x y end n from stop c′) where
     split : left c ≡ given (c .call) ++ left c′
     unfolding leftDepartures gathered
-    split = ap (gathered (callDepartures (viewIn w x) n y stop k t u)) q
+    split = ap (gathered (entryDepartures (viewIn w x) n y stop k t u)) q
 
     long : length (left c) ≡ length (given (c .call)) + length (left c′)
     long = ap length split ∙ length-append (given (c .call)) (left c′)
@@ -112,14 +112,14 @@ module _ (w x y : List ℕ) (end n from stop k t u : ℕ) where
     pub left-less : length (leftAt w x y end n from stop c′) < length (leftAt w x y end n from stop c)
     left-less = rw q (omega arith)
 
-    pub left-count : (total d m : ℕ) → d ≡ length (callDepartures (viewIn w x) n y stop k t u (c .call)) → total + length (leftDepartures w x y end n from stop k t u c) ≡ m → total + d + length (leftDepartures w x y end n from stop k t u c′) ≡ m
+    pub left-count : (total d m : ℕ) → d ≡ length (entryDepartures (viewIn w x) n y stop k t u (c .call)) → total + length (leftDepartures w x y end n from stop k t u c) ≡ m → total + d + length (leftDepartures w x y end n from stop k t u c′) ≡ m
     left-count total d m e h = omega (arith, long, e, h)
 
     module _ (l₀ : List ℕ) (c₀ : Cursor) (l : List ℕ) (to : ℕ) (g : Putting w x y end n from stop k t u l₀ c₀ l c to) where
       fits : to + 4 * length (given (c .call)) ≤ length l
       fits = omega (arith, long, g .count, g .room, g .long)
 
-      pub put-turn : (l′ : List ℕ) (to′ : ℕ) → l′ ≡ write l to (gathered boardRowWords (callDepartures (viewIn w x) n y stop k t u (c .call))) → to′ ≡ to + 4 * length (callDepartures (viewIn w x) n y stop k t u (c .call)) → On y n c′
+      pub put-turn : (l′ : List ℕ) (to′ : ℕ) → l′ ≡ write l to (gathered boardRowWords (entryDepartures (viewIn w x) n y stop k t u (c .call))) → to′ ≡ to + 4 * length (entryDepartures (viewIn w x) n y stop k t u (c .call)) → On y n c′
           → Putting w x y end n from stop k t u l₀ c₀ l′ c′ to′
       put-turn l′ to′ d e o = record {
         on = o;
@@ -133,16 +133,16 @@ module _ (w x y : List ℕ) (end n from stop k t u : ℕ) where
       }
 
   -- before the cursor has moved: what a call gives is a part of what is left
-  pub left-part : (c : Cursor) → On y n c → (c .call ≡ 0 → ⊥) → length (callDepartures (viewIn w x) n y stop k t u (c .call)) ≤ length (leftDepartures w x y end n from stop k t u c)
+  pub left-part : (c : Cursor) → On y n c → (c .call ≡ 0 → ⊥) → length (entryDepartures (viewIn w x) n y stop k t u (c .call)) ≤ length (leftDepartures w x y end n from stop k t u c)
   unfolding leftDepartures leftAt gathered
   left-part c o z = rw (borrow.Author.Tests.ne-eqb (c .call) 0 z) (head (c .left) (o .more z))
     where
-      head : (m : ℕ) → 0 < m → length (callDepartures (viewIn w x) n y stop k t u (c .call)) ≤ length (gathered (callDepartures (viewIn w x) n y stop k t u) (take m (c .call ∷ Rattle.stop_calls.specs.StopCalls.callsAfter w x y end n from stop (c .call) (c .stop))))
+      head : (m : ℕ) → 0 < m → length (entryDepartures (viewIn w x) n y stop k t u (c .call)) ≤ length (gathered (entryDepartures (viewIn w x) n y stop k t u) (take m (c .call ∷ Rattle.stop_calls.specs.StopCalls.callsAfter w x y end n from stop (c .call) (c .stop))))
       head zero h = absurd (omega arith)
-      head (suc m) h = omega (arith, length-append (callDepartures (viewIn w x) n y stop k t u (c .call)) (gathered (callDepartures (viewIn w x) n y stop k t u) (take m (Rattle.stop_calls.specs.StopCalls.callsAfter w x y end n from stop (c .call) (c .stop)))))
+      head (suc m) h = omega (arith, length-append (entryDepartures (viewIn w x) n y stop k t u (c .call)) (gathered (entryDepartures (viewIn w x) n y stop k t u) (take m (Rattle.stop_calls.specs.StopCalls.callsAfter w x y end n from stop (c .call) (c .stop)))))
 
   module _ (c : Cursor) (o : On y n c) (z : c .call ≡ 0 → ⊥) where
-    pub left-fits : (total d m : ℕ) → d ≡ length (callDepartures (viewIn w x) n y stop k t u (c .call)) → total + length (leftDepartures w x y end n from stop k t u c) ≡ m → m ≤ most → total + d < 2 ^ 64
+    pub left-fits : (total d m : ℕ) → d ≡ length (entryDepartures (viewIn w x) n y stop k t u (c .call)) → total + length (leftDepartures w x y end n from stop k t u c) ≡ m → m ≤ most → total + d < 2 ^ 64
     left-fits total d m e h b = omega (arith, e, h, b, left-part c o z)
 
   pub left-total : (c : Cursor) (total m : ℕ) → c .call ≡ 0 → total + length (leftDepartures w x y end n from stop k t u c) ≡ m → total ≡ m
@@ -152,7 +152,7 @@ module _ (w x y : List ℕ) (end n from stop k t u : ℕ) where
   put-first c l o h = record { on = o; long = refl; count = omega arith; room = h; words = refl }
 
   module _ (l₀ : List ℕ) (c₀ : Cursor) (l : List ℕ) (c : Cursor) (to : ℕ) (g : Putting w x y end n from stop k t u l₀ c₀ l c to) where
-    pub put-room : (c .call ≡ 0 → ⊥) → to + 4 * length (callDepartures (viewIn w x) n y stop k t u (c .call)) ≤ length l
+    pub put-room : (c .call ≡ 0 → ⊥) → to + 4 * length (entryDepartures (viewIn w x) n y stop k t u (c .call)) ≤ length l
     put-room z = omega (arith, g .count, g .room, g .long, left-part c (g .on) z)
 
     pub put-on : On y n c
@@ -230,17 +230,17 @@ module _ (w x y : List ℕ) (end s from n k t u : ℕ) (c : Cursor) (a : end ≡
     (m : ℕ) (z : m ≡ getD w 0 0) (q : leftAt w x y end s from n c ≡ take m (callsBy w x y end s from n)) where
   pub whole-is : leftDepartures w x y end s from n k t u c ≡ departuresBy w x y n k t u
   unfolding leftDepartures departuresBy
-  whole-is = ap (gathered (callDepartures (viewIn w x) s y n k t u)) q ∙ rw (z, a, b, d)
+  whole-is = ap (gathered (entryDepartures (viewIn w x) s y n k t u)) q ∙ rw (z, a, b, d)
 
   pub whole-few : m < 4294967296 → length (leftDepartures w x y end s from n k t u c) ≤ most
-  unfolding leftDepartures callDepartures
+  unfolding leftDepartures entryDepartures
   whole-few h =
       let j : length (leftAt w x y end s from n c) ≤ 4294967296 = omega (arith, ap length q, length-take m (callsBy w x y end s from n), h) in
       let o : mostRuns ≤ mostRuns = omega arith in
       let p : mostRuns * length (leftAt w x y end s from n c) ≤ mostRuns * 4294967296 = mul-le-mul o j in
-      omega (arith, p, gathered-few (callDepartures (viewIn w x) s y n k t u) mostRuns few (leftAt w x y end s from n c))
+      omega (arith, p, gathered-few (entryDepartures (viewIn w x) s y n k t u) mostRuns few (leftAt w x y end s from n c))
     where
-      few : (e : ℕ) → length (callDepartures (viewIn w x) s y n k t u e) ≤ mostRuns
+      few : (e : ℕ) → length (entryDepartures (viewIn w x) s y n k t u e) ≤ mostRuns
       few e = call-few w x n k t u (entryWord s y 1 e) (entryWord s y 3 e)
 
   pub whole-count : (r : ℕ) → r ≡ length (leftDepartures w x y end s from n k t u c) → r ≡ length (departuresBy w x y n k t u)

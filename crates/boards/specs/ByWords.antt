@@ -9,20 +9,20 @@ use Rattle.timetable.specs.Table.{usedWords, stops#}
 use Rattle.timetable.specs.View.{View}
 use Rattle.index.specs.Index.{stopsFrom, stopSection, sectionEnd, indexSize, Ready, viewIn}
 use Rattle.words.specs.Words.{write}
-use Rattle.sort.specs.Rows.{rowSize, boardRowWords, sortedRows}
+use Rattle.sort.specs.Rows.{boardRowSize, boardRowWords, sortedRows}
 use Rattle.board.specs.Board.{Departure}
 use Rattle.board_runs.specs.Batch.{departuresAt}
 use Rattle.stop_calls.specs.StopCalls.{entryWord, callsBy, Lent, leftAt, On}
 use Rattle.stop_calls.specs.declared.Cursor.{Cursor}
 
 -- what call e gives, beside n stops: its entry says service and place in the route
-unfoldable pub callDepartures : View → ℕ → List ℕ → ℕ → ℕ → ℕ → ℕ → ℕ → List Departure
-callDepartures v n y stop k t u e = departuresAt v stop k t u (entryWord n y 1 e) (entryWord n y 3 e)
+unfoldable pub entryDepartures : View → ℕ → List ℕ → ℕ → ℕ → ℕ → ℕ → ℕ → List Departure
+entryDepartures v n y stop k t u e = departuresAt v stop k t u (entryWord n y 1 e) (entryWord n y 3 e)
 
 -- what the calls at the stops of a number give: no more calls are looked at than the table has words
 unfoldable pub departuresBy : List ℕ → List ℕ → List ℕ → ℕ → ℕ → ℕ → ℕ → List Departure
 departuresBy w x y stop k t u =
-    gathered (callDepartures (viewIn w x) (stops# w) y stop k t u) (take (usedWords w) (callsBy w x y (sectionEnd (stopSection w)) (stops# w) (stopsFrom w) stop))
+    gathered (entryDepartures (viewIn w x) (stops# w) y stop k t u) (take (usedWords w) (callsBy w x y (sectionEnd (stopSection w)) (stops# w) (stopsFrom w) stop))
 
 unfoldable pub boardBy : List ℕ → List ℕ → List ℕ → ℕ → ℕ → ℕ → ℕ → List Departure
 boardBy w x y stop k t u = sortedRows (departuresBy w x y stop k t u)
@@ -42,14 +42,14 @@ pub record Along (w x y : List ℕ) (end n from : ℕ) : Type 0 where
 
 -- what is left from a cursor on
 unfoldable pub leftDepartures : List ℕ → List ℕ → List ℕ → ℕ → ℕ → ℕ → ℕ → ℕ → ℕ → ℕ → Cursor → List Departure
-leftDepartures w x y end n from stop k t u c = gathered (callDepartures (viewIn w x) n y stop k t u) (leftAt w x y end n from stop c)
+leftDepartures w x y end n from stop k t u c = gathered (entryDepartures (viewIn w x) n y stop k t u) (leftAt w x y end n from stop c)
 
 -- on the way, with rows written up to `to`: what is left is still to be written, and there is room for it
 pub record Putting (w x y : List ℕ) (end n from stop k t u : ℕ) (l₀ : List ℕ) (c₀ : Cursor) (l : List ℕ) (c : Cursor) (to : ℕ) : Type 0 where
   pub on : On y n c
   pub long : length l ≡ length l₀
-  pub count : to + rowSize * length (leftDepartures w x y end n from stop k t u c) ≡ rowSize * length (leftDepartures w x y end n from stop k t u c₀)
-  pub room : rowSize * length (leftDepartures w x y end n from stop k t u c₀) ≤ length l₀
+  pub count : to + boardRowSize * length (leftDepartures w x y end n from stop k t u c) ≡ boardRowSize * length (leftDepartures w x y end n from stop k t u c₀)
+  pub room : boardRowSize * length (leftDepartures w x y end n from stop k t u c₀) ≤ length l₀
   pub words : write l to (gathered boardRowWords (leftDepartures w x y end n from stop k t u c)) ≡ write l₀ 0 (gathered boardRowWords (leftDepartures w x y end n from stop k t u c₀))
 
 -- `mostRuns` for each of 2^32 calls

@@ -19,11 +19,11 @@ ghost use Rattle.timetable.specs.Layout.{mostPeriodDays};
 ghost use Rattle.table.specs.JustTable.{headerSound};
 ghost use Rattle.words.specs.Words.{write};
 ghost use Rattle.index.specs.Index.{stopsFrom, stopSection, sectionEnd, Ready, viewIn};
-ghost use Rattle.sort.specs.Rows.{rowSize, boardRowWords};
+ghost use Rattle.sort.specs.Rows.{boardRowSize, boardRowWords};
 ghost use Rattle.board.specs.Question.{board, boardedBy, boardInto};
 ghost use Rattle.board_runs.specs.Batch.{Batched};
 ghost use Rattle.stop_calls.specs.StopCalls.{entries#, On};
-ghost use Rattle.boards.specs.ByWords.{callDepartures, departuresBy, boardBy, Lends, Along, leftDepartures, most};
+ghost use Rattle.boards.specs.ByWords.{entryDepartures, departuresBy, boardBy, Lends, Along, leftDepartures, most};
 
 // The board of stop number n on day k of the period, within two minutes of the day: 29 with the words needed, and the list then stays.
 pub fn list_board(
@@ -109,7 +109,7 @@ fn count_call(
 ) -> usize
     requires { ⌜ Ready (now w) (now x) × (k < mostPeriodDays) ⌝ }
     requires { ⌜ (s ≤ length (now y)) × (0 < e) × (e ≤ entries# s (now y)) ⌝ }
-    ensures { λ r. ⌜ r ≡ length (callDepartures (viewIn (now (w .entry)) (now (x .entry))) s (now (y .entry)) n k first last e) ⌝ }
+    ensures { λ r. ⌜ r ≡ length (entryDepartures (viewIn (now (w .entry)) (now (x .entry))) s (now (y .entry)) n k first last e) ⌝ }
 {
     let b = call_batch(w, x, y, s, n, k, first, last, e);
     board_runs::batch_size(b)
@@ -129,7 +129,7 @@ fn call_batch(
 ) -> Batch
     requires { ⌜ Ready (now w) (now x) × (k < mostPeriodDays) ⌝ }
     requires { ⌜ (s ≤ length (now y)) × (0 < e) × (e ≤ entries# s (now y)) ⌝ }
-    ensures { λ r. ⌜ Batched r (callDepartures (viewIn (now (w .entry)) (now (x .entry))) s (now (y .entry)) n k first last e) ⌝ }
+    ensures { λ r. ⌜ Batched r (entryDepartures (viewIn (now (w .entry)) (now (x .entry))) s (now (y .entry)) n k first last e) ⌝ }
 {
     let i = stop_calls::entry_word(y, s, 1, e);
     let p = stop_calls::entry_word(y, s, 3, e);
@@ -150,7 +150,7 @@ fn put_board(
     list: &mut [u32],
 )
     requires { ⌜ Lends (now w) (now x) (now y) × (k < mostPeriodDays) ⌝ }
-    requires { ⌜ rowSize * length (departuresBy (now w) (now x) (now y) n k first last) ≤ length (now list) ⌝ }
+    requires { ⌜ boardRowSize * length (departuresBy (now w) (now x) (now y) n k first last) ≤ length (now list) ⌝ }
     ensures { λ _. ⌜ now (list .exit) ≡ write (now (list .entry)) 0 (gathered boardRowWords (departuresBy (now (w .entry)) (now (x .entry)) (now (y .entry)) n k first last)) ⌝ }
 {
     let s = w[STOPS_AT];
@@ -177,7 +177,7 @@ fn put_from(
 )
     requires { ⌜ Along (now w) (now x) (now y) end s from × (k < mostPeriodDays) ⌝ }
     requires { ⌜ On (now y) s start ⌝ }
-    requires { ⌜ rowSize * length (leftDepartures (now w) (now x) (now y) end s from n k first last start) ≤ length (now list) ⌝ }
+    requires { ⌜ boardRowSize * length (leftDepartures (now w) (now x) (now y) end s from n k first last start) ≤ length (now list) ⌝ }
     ensures { λ _. ⌜ now (list .exit) ≡ write (now (list .entry)) 0 (gathered boardRowWords (leftDepartures (now (w .entry)) (now (x .entry)) (now (y .entry)) end s from n k first last start)) ⌝ }
 {
     let mut c = start;
@@ -204,9 +204,9 @@ fn put_call(
 ) -> usize
     requires { ⌜ Ready (now w) (now x) × (k < mostPeriodDays) ⌝ }
     requires { ⌜ (s ≤ length (now y)) × (0 < e) × (e ≤ entries# s (now y)) ⌝ }
-    requires { ⌜ to + rowSize * length (callDepartures (viewIn (now w) (now x)) s (now y) n k first last e) ≤ length (now list) ⌝ }
-    ensures end { λ r. ⌜ r ≡ to + rowSize * length (callDepartures (viewIn (now (w .entry)) (now (x .entry))) s (now (y .entry)) n k first last e) ⌝ }
-    ensures words { λ _. ⌜ now (list .exit) ≡ write (now (list .entry)) to (gathered boardRowWords (callDepartures (viewIn (now (w .entry)) (now (x .entry))) s (now (y .entry)) n k first last e)) ⌝ }
+    requires { ⌜ to + boardRowSize * length (entryDepartures (viewIn (now w) (now x)) s (now y) n k first last e) ≤ length (now list) ⌝ }
+    ensures end { λ r. ⌜ r ≡ to + boardRowSize * length (entryDepartures (viewIn (now (w .entry)) (now (x .entry))) s (now (y .entry)) n k first last e) ⌝ }
+    ensures words { λ _. ⌜ now (list .exit) ≡ write (now (list .entry)) to (gathered boardRowWords (entryDepartures (viewIn (now (w .entry)) (now (x .entry))) s (now (y .entry)) n k first last e)) ⌝ }
 {
     let b = call_batch(w, x, y, s, n, k, first, last, e);
     board_runs::put_batch(list, to, b)

@@ -51,6 +51,6 @@ dateIn line = dayOf (number (fieldIn dateDay line)) (number (fieldIn dateMonth l
 abbrev pub mostPeriodDays : ℕ
 mostPeriodDays = 380
 
--- the period from one day to another: "end before start; over 380 days"
+-- how many days the period from one day to another has: "end before start; over 380 days"
 unfoldable pub periodOf : ℕ → ℕ → PeriodLength
 periodOf start end = cond (ltb end start) NoPeriod (cond (leb (end + 1 - start) mostPeriodDays) (OfDays (end + 1 - start)) NoPeriod)

@@ -13,7 +13,7 @@ use borrow.Author.Tests.{lt-ltb, le-leb, eq-eqb, ltb-true, leb-true, eqb-true}
 use Rattle.base.proofs.Laws.{apart}
 use Rattle.base.proofs.Loops.{and-true}
 use Rattle.timetable.specs.View.{View}
-use Rattle.timetable.specs.Run.{Run, RunFound, barred, atRest, aRun, runOf}
+use Rattle.timetable.specs.Run.{Run, RunFound, noRun, atRest, aRun, runOf}
 use Rattle.timetable.specs.Questions.{Dated, undated, dated, dateOf, betweenIn}
 use Rattle.timetable.specs.declared.Call.{Call}
 use Rattle.timetable.specs.declared.InterchangeAnswer.the-variants.{Minutes}
@@ -77,7 +77,7 @@ module _ (v : View) (p : Part) (s : Stage) where
             }
 
   run-is : (k : ℕ) (f : RunFound) → dateOf v (p .day) (p .month) (p .year) ≡ dated k → runOf v (p .service) (p .repeat) k ≡ f → stageBy k p f ≡ Is s → IsStage v p s
-  run-is k (barred number) d g h = apart (cc)
+  run-is k (noRun number) d g h = apart (cc)
   run-is k atRest d g h = apart (cc)
   run-is k (aRun x) d g h = between-is k x d g (rowCall x (p .board)) (rowCall x (p .alight)) refl refl h
 

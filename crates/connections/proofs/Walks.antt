@@ -10,7 +10,7 @@ use lib.Dec.{ltb}
 use Rattle.base.proofs.Laws.{apart}
 use Rattle.timetable.specs.View.{View}
 use Rattle.timetable.specs.Delivery.{Service}
-use Rattle.timetable.specs.Run.{RunFound, barred, atRest, aRun, runOf}
+use Rattle.timetable.specs.Run.{RunFound, noRun, atRest, aRun, runOf}
 use Rattle.timetable.specs.Questions.{Dated, undated, dated, dateOf, Journey, refused, idle, rows, rowsAlong, datedRun, journey}
 use Rattle.timetable.specs.declared.Call.{Call}
 use Rattle.connections.specs.declared.Part.{Part}
@@ -35,7 +35,7 @@ between-by s late k p (some b) (some a) number e = go (ltb (p .board) (p .alight
 
 module _ (v : View) (p : Part) where
   by-run : (k : ℕ) (x : RunFound) → ByWalk (rowsAlong v x) (stageBy k p x)
-  by-run k (barred number) = refl
+  by-run k (noRun number) = refl
   by-run k atRest = refl
   by-run k (aRun x) = λ number e. between-by (x .service) (x .late) k p (rowCall x (p .board)) (rowCall x (p .alight)) number e
 

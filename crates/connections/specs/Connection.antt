@@ -9,7 +9,7 @@ use lib.Dec.{ltb, leb, eqb}
 use Rattle.timetable.specs.Delivery.{Service}
 use Rattle.timetable.specs.Table.{word, rowsIn}
 use Rattle.timetable.specs.View.{View}
-use Rattle.timetable.specs.Run.{categoryOn, Run, RunFound, barred, atRest, aRun, runOf}
+use Rattle.timetable.specs.Run.{categoryOn, Run, RunFound, noRun, atRest, aRun, runOf}
 use Rattle.timetable.specs.Questions.{Dated, undated, dated, dateOf, minutesFor, asked}
 use Rattle.timetable.specs.declared.Call.{Call}
 use Rattle.connections.specs.declared.Part.{Part}
@@ -87,7 +87,7 @@ stageBetween s late k p (some b) (some a) =
 
 -- "per part the walk's own refusals except 29" (which is of room); on a day without a run there are no rows
 abbrev pub stageBy : ℕ → Part → RunFound → Staged
-stageBy k p (barred number) = Refused number
+stageBy k p (noRun number) = Refused number
 stageBy k p atRest = Refused 47
 stageBy k p (aRun x) = stageBetween (x .service) (x .late) k p (rowCall x (p .board)) (rowCall x (p .alight))
 

@@ -20,11 +20,11 @@ use Rattle.table.proofs.Says.{head-word}
 use Rattle.cover.specs.Inner.Cover.{legsIn, inTurn}
 use Rattle.cover.proofs.Turn.{legs-rows}
 use Rattle.legs.specs.declared.DayLegs.{DayLegs}
-use Rattle.legs.specs.Turn.{noLegs, rangesSay}
+use Rattle.legs.specs.Inner.Turn.{noLegs, rangesSay}
 use Rattle.legs.proofs.Legs.{days-room}
 use Rattle.legs.proofs.Gaps.{Told}
 use Rattle.legs.proofs.Days.{ofDay, fieldsKnown, days-known, days-unknown, days-told, say-known}
-use Rattle.course.specs.Course.{stretchesCourse}
+use Rattle.course.specs.Inner.Course.{stretchesCourse}
 use Rattle.course.proofs.Laws.{head-words, legs-fit, legs-count, day-order, day-within, day-by}
 
 module _ (d : View) (s v : List ℕ) (k : ℕ) (t : Bool) (l : DayLegs) (q : v ≡ drop (dayPlace s) s) (e : t ≡ inTurn 0 (calls# s - 1) (legsIn daySize (days# s) v)) (h : not t ≡ false) (f : l ≡ rangesSay d k noLegs (rowsIn dayAt daySize (days# s) v)) where

@@ -6,7 +6,7 @@ use Rattle.columns.specs.LineFields.{classCode, classNumber, classTariff, class
 use Rattle.columns.specs.LineFields.{openingNumber, openingAdministration, openingRepeats, openingOffset, frequencyTime, frequencyDensity}
 use Rattle.columns.specs.LineFields.{categoryName, categoryFrom, categoryTo, categoryFromDetail, categoryToDetail}
 use Rattle.columns.specs.LineFields.{attributeCode, attributeFrom, attributeTo, attributeBitField, attributeFromDetail, attributeToDetail}
-use Rattle.columns.specs.LineFields.{callStop, callStopName, callArrival, callDeparture, callNumber, callAdministration, callBoard}
+use Rattle.columns.specs.LineFields.{callStop, callStopName, callArrival, callDeparture, callNumber, callAdministration, callDestinationBoard}
 use Rattle.forms.specs.declared.LineKind.{LineKind}
 use Rattle.forms.specs.declared.LineKind.the-variants.{Date, BitField, Stop, Interchange, CategoryClass, Opening, Frequency, Category, Attribute, Schedule}
 use Rattle.forms.specs.Form.{FieldRule, _is_, restRule, free, digitsOnly, hexDigits, nonBlank, byte, orBlank, notAllBlank, firstNotBlank, aCount, aDate, aTime, aRangeEnd, detailOf, offsetOf, fromOne, letterTo, transportFlag}
@@ -120,7 +120,7 @@ callColumns =
     ∷ callDeparture is aTime
     ∷ callNumber is orBlank digitsOnly
     ∷ callAdministration is orBlank nonBlank
-    ∷ callBoard is orBlank (byte 88)
+    ∷ callDestinationBoard is orBlank (byte 88)
     ∷ planMark is byte 37
     ∷ restRule planRest free
     ∷ []

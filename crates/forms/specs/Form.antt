@@ -7,7 +7,7 @@ use lib.ListN.{length, getD, drop}
 use lib.Dec.{leb, eqb}
 use Rattle.base.specs.Lists.{every}
 use Rattle.columns.specs.Columns as C
-use Rattle.columns.specs.LineFields.{Field, dateDay, dateMonth, dateYear, fieldIn}
+use Rattle.columns.specs.LineFields.{LineField, dateDay, dateMonth, dateYear, fieldIn}
 use Rattle.fields.specs.Fields as F
 use Rattle.fields.specs.declared.Time.{Time}
 use Rattle.fields.specs.declared.Time.the-variants.{Absent, Stated, NoTime}
@@ -53,7 +53,7 @@ firstNotBlank line p = not (C.isBlank (getD p 0 32))
 abbrev pub aCount : ℕ → Rule
 aCount m line p = C.countTo m p
 
--- DD.MM.YYYY ("." is byte 46)
+-- DD.MM.YYYY ("." is byte 46); the field starts in column 1, so its columns are the line's
 abbrev pub aDate : Rule
 aDate line p =
     C.digits (fieldIn dateDay p) && eqb (C.column 3 p) 46 && C.digits (fieldIn dateMonth p) && eqb (C.column 6 p) 46 && C.digits (fieldIn dateYear p)
@@ -126,7 +126,7 @@ columnRule a r = fieldRule a a r
 
 infix 70 _is_
 -- a field, and what is asked of it
-abbrev pub _is_ : Field → Rule → FieldRule
+abbrev pub _is_ : LineField → Rule → FieldRule
 f is r = fieldRule (f .from) (f .to) r
 
 -- "1 file over 16,777,216 bytes"

@@ -13,7 +13,7 @@ use Rattle.timetable.specs.Files.{hasStop}
 use Rattle.timetable.specs.Load.{delivered, loaded, written}
 use Rattle.timetable.specs.Table.{tableWords, services#}
 use Rattle.timetable.specs.View.{View, viewOf, ServiceFound, noService, aService}
-use Rattle.timetable.specs.Run.{Run, RunFound, barred, atRest, aRun, runOf, courseOn}
+use Rattle.timetable.specs.Run.{Run, RunFound, noRun, atRest, aRun, runOf, courseOn}
 use Rattle.timetable.specs.Questions.{Dated, undated, dated, datedBy, dateOf}
 use Rattle.timetable.specs.declared.Call.{Call}
 use Rattle.timetable.specs.declared.Course.{Course}
@@ -48,7 +48,7 @@ module _ (σ : ℕ → ℕ) (v u : View) (h : ViewsAlike σ v u) where
   departs n k from to x q d = go (runOf u (x .service) (x .repeat) k) refl (ap (runFor bare) (sym (d .runs)) ∙ run-alike σ v u h (x .service) q (x .repeat) k)
     where
       go : (a : RunFound) → runOf u (x .service) (x .repeat) k ≡ a → runFor bare (aRun (d .run)) ≡ runFor (serviceFor σ 0) a → IsDeparture u n k from to x
-      go (barred number) e p = apart (cc)
+      go (noRun number) e p = apart (cc)
       go atRest e p = apart (cc)
       go (aRun y) e p =
           let r : _≡_ {A = Run} (with-service bare (d .run)) (with-service (serviceFor σ 0) y) = cc in

@@ -11,7 +11,7 @@ use Rattle.calendar.specs.Calendar.{dayOf}
 use Rattle.timetable.specs.Delivery.{Files, Period, Service, Delivery}
 use Rattle.timetable.specs.Load.{delivered, loaded, written}
 use Rattle.timetable.specs.View.{View, viewOf, classFor}
-use Rattle.timetable.specs.Run.{RunFound, barred, atRest, aRun, runOf}
+use Rattle.timetable.specs.Run.{RunFound, noRun, atRest, aRun, runOf}
 use Rattle.timetable.specs.Questions.{Dated, undated, dated, datedBy, dateOf}
 use Rattle.timetable.specs.declared.Call.{Call}
 use Rattle.timetable.specs.declared.Loaded.the-variants.{Accepted}
@@ -37,7 +37,7 @@ use Rattle.isolated_connections.specs.Connections.{Without, IsolatedConn
 -- ---- a stage shows neither the number of the service's opening line nor that of a bit field
 
 stage-bare : (k : ℕ) (p : Part) (x : RunFound) → stageBy k p (runFor bare x) ≡ stageBy k p x
-stage-bare k p (barred number) = refl
+stage-bare k p (noRun number) = refl
 stage-bare k p atRest = refl
 stage-bare k p (aRun x) = between (rowCall x (p .board)) (rowCall x (p .alight))
   where
@@ -47,7 +47,7 @@ stage-bare k p (aRun x) = between (rowCall x (p .board)) (rowCall x (p .alight))
     between (some b) (some a) = refl
 
 stage-for : (σ : ℕ → ℕ) (k : ℕ) (p : Part) (x : RunFound) → stageBy k p (runFor (serviceFor σ 0) x) ≡ stageBy k p x
-stage-for σ k p (barred number) = refl
+stage-for σ k p (noRun number) = refl
 stage-for σ k p atRest = refl
 stage-for σ k p (aRun x) = between (rowCall x (p .board)) (rowCall x (p .alight))
   where

@@ -12,7 +12,7 @@ use Rattle.timetable.specs.Delivery.{Period, DayRange, ExtraRange, Service}
 use Rattle.timetable.specs.Legs.{legCount, operatedLegsBy}
 use Rattle.timetable.specs.Offences.{_<|>_}
 use Rattle.timetable.specs.View.{ServiceFound, noService, aService, View}
-use Rattle.timetable.specs.Run.{legRefusal, firstRefusal, stretchOf, stretchFrom, stretchCalls, neededLast, callRefusal, callsRefusal, stretchCourse, legsCourse, dayCourse, courseOn, serviceCourse, RunFound, barred, atRest, aRun, runAlong, runBy, runOf}
+use Rattle.timetable.specs.Run.{legRefusal, firstRefusal, stretchOf, stretchFrom, stretchCalls, neededLast, callRefusal, callsRefusal, stretchCourse, legsCourse, dayCourse, courseOn, serviceCourse, RunFound, noRun, atRest, aRun, runAlong, runBy, runOf}
 use Rattle.timetable.specs.Questions.{Dated, undated, dated, datedBy, dateOf, rowsOf, rows, rowsAlong, datedRun, journey}
 use Rattle.timetable.specs.Runs.{lateness}
 use Rattle.timetable.specs.declared.Call.{Call}
@@ -49,7 +49,7 @@ foundBy f (noService number) = noService number
 foundBy f (aService s) = aService (f s)
 
 abbrev pub runFor : (Service → Service) → RunFound → RunFound
-runFor f (barred number) = barred number
+runFor f (noRun number) = noRun number
 runFor f atRest = atRest
 runFor f (aRun x) = aRun (record { service = f (x .service); late = x .late; start = x .start; legs = x .legs })
 
@@ -97,7 +97,7 @@ module _ (σ : ℕ → ℕ) (v u : View) (h : ViewsAlike σ v u) where
   bare-course s r k = rw (course-bare s k)
 
   run-by : (a b : ServiceFound) → foundBy bare a ≡ foundBy (serviceFor σ 0) b → (r k : ℕ) → runFor bare (runBy v a r k) ≡ runFor (serviceFor σ 0) (runBy u b r k)
-  run-by (noService x) (noService y) q r k = let z : _≡_ {A = ℕ} x y = cc in ap barred z
+  run-by (noService x) (noService y) q r k = let z : _≡_ {A = ℕ} x y = cc in ap noRun z
   run-by (noService x) (aService z) q r k = apart (cc)
   run-by (aService s) (noService y) q r k = apart (cc)
   run-by (aService s) (aService z) q r k =
@@ -114,14 +114,14 @@ module _ (σ : ℕ → ℕ) (v u : View) (h : ViewsAlike σ v u) where
   run-alike i q r k = run-by (v .service i) (u .service i) q r k
 
   rows-bare : (x : RunFound) → rowsAlong v (runFor bare x) ≡ rowsAlong v x
-  rows-bare (barred number) = refl
+  rows-bare (noRun number) = refl
   rows-bare atRest = refl
   rows-bare (aRun x) =
       let s = x .service in
       ap rows (rows-besides 0 (s .days) (s .extras) s v v (λ stop. refl) (x .start) (x .legs) (x .late) 0 (stretchCalls s (stretchFrom (x .start) (x .legs))))
 
   rows-for : (x : RunFound) → rowsAlong v (runFor (serviceFor σ 0) x) ≡ rowsAlong u x
-  rows-for (barred number) = refl
+  rows-for (noRun number) = refl
   rows-for atRest = refl
   rows-for (aRun x) =
       let s = x .service in

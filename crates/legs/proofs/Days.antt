@@ -22,7 +22,7 @@ use Rattle.cover.specs.Inner.Cover.{inTurn}
 use Rattle.cover.proofs.Turn.{Turn, turn-says, turn-end, turn-once, covers-first, covers-before, covers-after}
 use Rattle.legs.proofs.Gaps.{Told, told-none, told-range}
 use Rattle.legs.specs.declared.DayLegs.{DayLegs}
-use Rattle.legs.specs.Turn.{noLegs, unknownLegs, withOperated, withIdle, withRange, rangesSay}
+use Rattle.legs.specs.Inner.Turn.{noLegs, unknownLegs, withOperated, withIdle, withRange, rangesSay}
 
 abbrev pub ofDay : DayRange → Legs
 ofDay r = r .legs

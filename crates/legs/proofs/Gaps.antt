@@ -13,7 +13,7 @@ use Rattle.base.specs.Lists.{upto}
 use Rattle.base.proofs.Laws.{by-eqb}
 use Rattle.legs.specs.declared.DayLegs.{DayLegs}
 use Rattle.legs.specs.Inner.Run.{gap}
-use Rattle.legs.specs.Turn.{noLegs, withOperated, withIdle, withRange}
+use Rattle.legs.specs.Inner.Turn.{noLegs, withOperated, withIdle, withRange}
 
 is-on : (on : Bool) → cond on on (not on) ≡ true
 is-on true = refl

@@ -17,7 +17,7 @@ use Rattle.timetable.specs.Table.{rowsIn, dayAt}
 use Rattle.timetable.proofs.Rows.{room-start, room-now, room-fits, room-next, rows-left}
 use Rattle.legs.proofs.Ranges.{day-read}
 use Rattle.legs.specs.declared.DayLegs.{DayLegs}
-use Rattle.legs.specs.Turn.{noLegs, unknownLegs, withOperated, withIdle, withRange, rangesSay}
+use Rattle.legs.specs.Inner.Turn.{noLegs, unknownLegs, withOperated, withIdle, withRange, rangesSay}
 
 -- ---- one range
 

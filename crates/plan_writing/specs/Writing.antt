@@ -21,12 +21,12 @@ unfoldable pub tableWritable : List ℕ → Bool
 tableWritable w = every serviceWritable (tableOf w .services)
 
 -- "45 text buffer too short, with the bytes needed"
-abbrev pub shortOr : List ℕ → ℕ → WriteAnswer
-shortOr text room = cond (ltb room (length text)) (Refused 45 (length text)) (Bytes (length text))
+abbrev pub textOrShort : List ℕ → ℕ → WriteAnswer
+textOrShort text room = cond (ltb room (length text)) (Refused 45 (length text)) (Bytes (length text))
 
 -- "Refusals: 21; 44 ..; 45 .."
 unfoldable pub planAnswer : List ℕ → ℕ → WriteAnswer
-planAnswer w room = cond (isTable w) (cond (tableWritable w) (shortOr (tableText w) room) (Refused 44 0)) (Refused 21 0)
+planAnswer w room = cond (isTable w) (cond (tableWritable w) (textOrShort (tableText w) room) (Refused 44 0)) (Refused 21 0)
 
 -- the text from the front of the bytes lent, later bytes stay; "the buffer then stays"
 abbrev pub bytesBy : WriteAnswer → List ℕ → List ℕ → List ℕ

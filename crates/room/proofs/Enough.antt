@@ -32,23 +32,23 @@ use Rattle.whole_runs.proofs.Back.{words-length, sections-length}
 use Rattle.whole_runs.proofs.Clear.{Clear, Fair, clear}
 use Rattle.whole_runs.proofs.OldTable.{words-same}
 use Rattle.whole_runs.proofs.Numbers.{content-not-20, length-not-20}
-use Rattle.room.specs.Room.{bitFieldBytes, stopBytes, interchangeBytes, classBytes, planBytes, planLineSize, counted, share, roomFor, Enough}
+use Rattle.room.specs.Room.{bitFieldLeast, stopLeast, interchangeLeast, classLeast, planLeast, planLineSize, counted, share, roomFor, Enough}
 use Rattle.room.proofs.Bytes.{lines-bytes, every-long, count-long, filled-long, file-bytes}
 use Rattle.room.proofs.Told.{plan-words}
 
 -- ---- the records of each file
 
-fields-bytes : (f : List ℕ) → bitFieldBytes * length (bitFieldsIn f) ≤ length f
-fields-bytes f = file-bytes bitFieldColumns _ bitFieldBytes (λ line e. every-long isHex refl 8 103 line (omega arith) (omega arith) (row-holds bitFieldColumns line 1 e)) f
+fields-bytes : (f : List ℕ) → bitFieldLeast * length (bitFieldsIn f) ≤ length f
+fields-bytes f = file-bytes bitFieldColumns _ bitFieldLeast (λ line e. every-long isHex refl 8 103 line (omega arith) (omega arith) (row-holds bitFieldColumns line 1 e)) f
 
-stops-bytes : (f : List ℕ) → stopBytes * length (stopsIn f) ≤ length f
-stops-bytes f = file-bytes stopColumns _ stopBytes (λ line e. filled-long 13 62 line (omega arith) (row-holds stopColumns line 2 e)) f
+stops-bytes : (f : List ℕ) → stopLeast * length (stopsIn f) ≤ length f
+stops-bytes f = file-bytes stopColumns _ stopLeast (λ line e. filled-long 13 62 line (omega arith) (row-holds stopColumns line 2 e)) f
 
-interchanges-bytes : (f : List ℕ) → interchangeBytes * length (interchangesIn f) ≤ length f
-interchanges-bytes f = file-bytes interchangeColumns _ interchangeBytes (λ line e. count-long 99 12 13 line (omega arith) (omega arith) (row-holds interchangeColumns line 2 e)) f
+interchanges-bytes : (f : List ℕ) → interchangeLeast * length (interchangesIn f) ≤ length f
+interchanges-bytes f = file-bytes interchangeColumns _ interchangeLeast (λ line e. count-long 99 12 13 line (omega arith) (omega arith) (row-holds interchangeColumns line 2 e)) f
 
-classes-bytes : (f : List ℕ) → classBytes * length (classesIn f) ≤ length f
-classes-bytes f = file-bytes classColumns _ classBytes (λ line e. count-long 2 21 21 line (omega arith) (omega arith) (row-holds classColumns line 5 e)) f
+classes-bytes : (f : List ℕ) → classLeast * length (classesIn f) ≤ length f
+classes-bytes f = file-bytes classColumns _ classLeast (λ line e. count-long 2 21 21 line (omega arith) (omega arith) (row-holds classColumns line 5 e)) f
 
 -- ---- all of them
 
@@ -57,19 +57,19 @@ counted-is : (n : ℕ) → n ≤ mostFileBytes → counted n ≡ n
 counted-is n h = by-ltb (λ (t : Bool). cond t mostFileBytes n ≡ n) mostFileBytes n (λ k. absurd (omega (arith, h, k))) (λ k. refl)
 
 -- each file's share
-fields-share : (f : List ℕ) → length f ≤ mostFileBytes → bitFieldSize * length (bitFieldsIn f) ≤ share bitFieldSize bitFieldBytes (length f)
+fields-share : (f : List ℕ) → length f ≤ mostFileBytes → bitFieldSize * length (bitFieldsIn f) ≤ share bitFieldSize bitFieldLeast (length f)
 fields-share f h = let b = fields-bytes f in rw (counted-is (length f) h) (omega (arith, b))
 
-stops-share : (f : List ℕ) → length f ≤ mostFileBytes → stopSize * length (stopsIn f) ≤ share stopSize stopBytes (length f)
+stops-share : (f : List ℕ) → length f ≤ mostFileBytes → stopSize * length (stopsIn f) ≤ share stopSize stopLeast (length f)
 stops-share f h = let b = stops-bytes f in rw (counted-is (length f) h) (omega (arith, b))
 
-interchanges-share : (f : List ℕ) → length f ≤ mostFileBytes → interchangeSize * length (interchangesIn f) ≤ share interchangeSize interchangeBytes (length f)
+interchanges-share : (f : List ℕ) → length f ≤ mostFileBytes → interchangeSize * length (interchangesIn f) ≤ share interchangeSize interchangeLeast (length f)
 interchanges-share f h = let b = interchanges-bytes f in rw (counted-is (length f) h) (omega (arith, b))
 
-classes-share : (f : List ℕ) → length f ≤ mostFileBytes → classSize * length (classesIn f) ≤ share classSize classBytes (length f)
+classes-share : (f : List ℕ) → length f ≤ mostFileBytes → classSize * length (classesIn f) ≤ share classSize classLeast (length f)
 classes-share f h = let b = classes-bytes f in rw (counted-is (length f) h) (omega (arith, b))
 
-plan-share : {d : Delivery} (f : List ℕ) → All (Fair d) (blocks (linesOf f)) → length f ≤ mostFileBytes → length (gathered serviceWords (map serviceOf (blocks (linesOf f)))) ≤ share planLineSize planBytes (length f)
+plan-share : {d : Delivery} (f : List ℕ) → All (Fair d) (blocks (linesOf f)) → length f ≤ mostFileBytes → length (gathered serviceWords (map serviceOf (blocks (linesOf f)))) ≤ share planLineSize planLeast (length f)
 plan-share {d} f c h = let p = plan-words d (linesOf f) c in let q = lines-bytes f in rw (counted-is (length f) h) (omega (arith, p, q))
 
 module _ (f : Files) (c : Clear f) where

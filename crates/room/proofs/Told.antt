@@ -34,7 +34,7 @@ use Rattle.whole_runs.proofs.Clear.{Fair}
 use Rattle.whole_runs.proofs.Lines.{NoneDropped, nothing-dropped}
 use Rattle.whole_runs.proofs.Right.{Right, right}
 use Rattle.whole_runs.proofs.Text.{blocks-whole}
-use Rattle.room.specs.Room.{planBytes, planLineSize}
+use Rattle.room.specs.Room.{planLeast, planLineSize}
 use Rattle.room.proofs.Bytes.{bytesOf, bytes-append, every-long}
 
 -- ---- a line
@@ -43,18 +43,18 @@ use Rattle.room.proofs.Bytes.{bytesOf, bytes-append, every-long}
 abbrev said : Told → ℕ
 said t = length (asCall t) + length (asRange t)
 
-marked : (rows : List FieldRule) (text : List ℕ) → (formOf rows text ≡ Fits → planBytes ≤ length text) → (t : Told) → said t ≤ 1 → planBytes * said (formed (formOf rows text) t) ≤ length text
+marked : (rows : List FieldRule) (text : List ℕ) → (formOf rows text ≡ Fits → planLeast ≤ length text) → (t : Told) → said t ≤ 1 → planLeast * said (formed (formOf rows text) t) ≤ length text
 marked rows text long t one = go (formOf rows text) refl
   where
-    go : (f : Form) → formOf rows text ≡ f → planBytes * said (formed f t) ≤ length text
+    go : (f : Form) → formOf rows text ≡ f → planLeast * said (formed f t) ≤ length text
     go Fits e = let h = long e in omega (arith, h, one)
     go (BrokenForm c) e = omega arith
 
-told-bytes : (text : List ℕ) → planBytes * said (toldIn text) ≤ length text
+told-bytes : (text : List ℕ) → planLeast * said (toldIn text) ≤ length text
 unfolding toldIn
 told-bytes text = go (skipped text) (kindOf text)
   where
-    go : (t : Bool) (k : Kind) → planBytes * said (cond t Skip (toldBy k text)) ≤ length text
+    go : (t : Bool) (k : Kind) → planLeast * said (cond t Skip (toldBy k text)) ≤ length text
     go true k = omega arith
     go false OpeningKind = marked serviceColumns text (λ e. every-long (λ (b : ℕ). eqb b 37) refl 59 59 text (omega arith) (omega arith) (row-holds serviceColumns text 5 e)) (Opens (openingIn text)) (omega arith)
     go false Frequency = marked frequencyColumns text (λ e. every-long (λ (b : ℕ). eqb b 37) refl 59 59 text (omega arith) (omega arith) (row-holds frequencyColumns text 5 e)) (Opens (frequencyIn text)) (omega arith)
@@ -65,7 +65,7 @@ told-bytes text = go (skipped text) (kindOf text)
 
 -- ---- the lines of a service
 
-lines-said : (ls : List Line) → planBytes * (length (gathered asCall (tolds ls)) + length (rangesOf ls)) ≤ bytesOf ls
+lines-said : (ls : List Line) → planLeast * (length (gathered asCall (tolds ls)) + length (rangesOf ls)) ≤ bytesOf ls
 unfolding tolds gathered bytesOf
 lines-said [] = omega arith
 lines-said (l ∷ ls) =
@@ -104,7 +104,7 @@ unfolding serviceOf
 calls-same ls = refl
 
 -- the words of a service
-service-words : (d : Delivery) (ls : List Line) → Fair d ls → planBytes * length (serviceWords (serviceOf ls)) ≤ planLineSize * bytesOf ls
+service-words : (d : Delivery) (ls : List Line) → Fair d ls → planLeast * length (serviceWords (serviceOf ls)) ≤ planLineSize * bytesOf ls
 service-words d ls h =
     let r = right d ls h in
     let n = nothing-dropped d ls h in
@@ -125,7 +125,7 @@ blocks-bytes ls =
     let a = bytes-append (headLines ls) (gathered (λ (b : List Line). b) (blocks ls)) in
     omega (arith, e, a)
 
-services-words : (d : Delivery) {bs : List (List Line)} → All (Fair d) bs → planBytes * length (gathered serviceWords (map serviceOf bs)) ≤ planLineSize * bytesOf (gathered (λ (b : List Line). b) bs)
+services-words : (d : Delivery) {bs : List (List Line)} → All (Fair d) bs → planLeast * length (gathered serviceWords (map serviceOf bs)) ≤ planLineSize * bytesOf (gathered (λ (b : List Line). b) bs)
 unfolding gathered
 services-words d nil = omega arith
 services-words d (cons {x = b} {xs = bs} h t) =
@@ -134,5 +134,5 @@ services-words d (cons {x = b} {xs = bs} h t) =
     let e = bytes-append b (gathered (λ (b : List Line). b) bs) in
     omega (arith, x, y, a, e)
 
-pub plan-words : (d : Delivery) (ls : List Line) → All (Fair d) (blocks ls) → planBytes * length (gathered serviceWords (map serviceOf (blocks ls))) ≤ planLineSize * bytesOf ls
+pub plan-words : (d : Delivery) (ls : List Line) → All (Fair d) (blocks ls) → planLeast * length (gathered serviceWords (map serviceOf (blocks ls))) ≤ planLineSize * bytesOf ls
 plan-words d ls h = let a = services-words d h in let b = blocks-bytes ls in omega (arith, a, b)

@@ -15,24 +15,24 @@ use Rattle.timetable.specs.declared.Loaded.the-variants.{Accepted, Refused}
 -- ---- the bytes that a line needs at least, if it gives the table anything: up to the last column that may not be blank
 
 -- BITFELD: "8-103 hex digits"
-abbrev pub bitFieldBytes : ℕ
-bitFieldBytes = bitFieldBits .to
+abbrev pub bitFieldLeast : ℕ
+bitFieldLeast = bitFieldBits .to
 
 -- BAHNHOF: "13-62 name not all blank"
-abbrev pub stopBytes : ℕ
-stopBytes = stopNames .from
+abbrev pub stopLeast : ℕ
+stopLeast = stopNames .from
 
 -- UMSTEIGB: "12-13 count"
-abbrev pub interchangeBytes : ℕ
-interchangeBytes = interchangeSecond .to
+abbrev pub interchangeLeast : ℕ
+interchangeLeast = interchangeSecond .to
 
 -- ZUGART: "supplement 21 (0 to 2)"
-abbrev pub classBytes : ℕ
-classBytes = classSupplement .to
+abbrev pub classLeast : ℕ
+classLeast = classSupplement .to
 
 -- FPLAN: "column 59 is "%""
-abbrev pub planBytes : ℕ
-planBytes = planMark .to
+abbrev pub planLeast : ℕ
+planLeast = planMark .to
 
 -- a service takes 12 words, 7 for each call, 3 or 4 for each range; it has two calls, a *G and an *A VE at least: so not more than 8 for each line of these
 abbrev pub planLineSize : ℕ
@@ -50,8 +50,8 @@ share size least bytes = size * counted bytes / least
 
 unfoldable pub roomFor : ℕ → ℕ → ℕ → ℕ → ℕ → ℕ
 roomFor bitfeld bahnhof umsteigb fplan zugart =
-    headerSize + share bitFieldSize bitFieldBytes bitfeld + share stopSize stopBytes bahnhof + share interchangeSize interchangeBytes umsteigb
-    + share classSize classBytes zugart + share planLineSize planBytes fplan
+    headerSize + share bitFieldSize bitFieldLeast bitfeld + share stopSize stopLeast bahnhof + share interchangeSize interchangeLeast umsteigb
+    + share classSize classLeast zugart + share planLineSize planLeast fplan
 
 -- so many words are enough: no delivery of these sizes is refused by 20 for want of them, whatever its text and however many helper words are lent
 pub record Enough (bitfeld bahnhof umsteigb fplan zugart words : ℕ) : Type 0 where

@@ -29,10 +29,10 @@ use Rattle.plan_text.specs.PlanText.{openingText, frequencyText, categoryText, 
 use Rattle.plan_text.proofs.Openings.{opening-told, frequency-told}
 use Rattle.plan_text.proofs.Ranges.{category-told, day-told, extra-told}
 use Rattle.plan_text.proofs.Calls.{call-told}
-use Rattle.plan_services.specs.Services.{openingLine, restLines, serviceLines, planLines, planText, renumbered, CategoryOn, DaysOn, ExtraOn, ServiceHeld}
+use Rattle.plan_services.specs.Services.{openingLine, restLines, serviceLines, planLines, planText, relined, CategoryOn, DaysOn, ExtraOn, ServiceHeld}
 use Rattle.plan_services.proofs.Services.{plan-clean, plan-back}
 use Rattle.plan_accepted.proofs.Written.{lines-clean, Block, blocks-clean, read-held}
-use Rattle.plan_writing.specs.Writing.{tableText, tableWritable, shortOr, planAnswer}
+use Rattle.plan_writing.specs.Writing.{tableText, tableWritable, textOrShort, planAnswer}
 use Rattle.plan_writing.specs.declared.WriteAnswer.{WriteAnswer}
 use Rattle.plan_writing.specs.declared.WriteAnswer.the-variants.{Bytes, Refused}
 use Rattle.round_trip.specs.ReadBack.{Formed, ReadBack}
@@ -122,13 +122,13 @@ blocks-held : (bs : List (List Line)) → All (λ (b : List Line). All Formed (t
 blocks-held [] nil nil nil = nil
 blocks-held (b ∷ bs) (cons r rs) (cons k ks) (cons f fs) = cons (read-held b (few-calls b f) r k) (blocks-held bs rs ks fs)
 
-few-moved : (n : ℕ) (ss : List Service) → All Few ss → All Few (renumbered n ss)
-unfolding renumbered
+few-moved : (n : ℕ) (ss : List Service) → All Few ss → All Few (relined n ss)
+unfolding relined
 few-moved n [] nil = nil
 few-moved n (s ∷ ss) (cons h t) = cons h (few-moved (n + length (serviceLines s)) ss t)
 
-moved-held : (n : ℕ) (ss : List Service) → All ServiceHeld (renumbered n ss) → All ServiceHeld ss
-unfolding renumbered
+moved-held : (n : ℕ) (ss : List Service) → All ServiceHeld (relined n ss) → All ServiceHeld ss
+unfolding relined
 moved-held n [] nil = nil
 moved-held n (s ∷ ss) (cons h t) =
     cons (record { opening-held = h .opening-held; categories-held = h .categories-held; days-held = h .days-held; extras-held = h .extras-held; calls-held = h .calls-held })
@@ -157,7 +157,7 @@ abbrev numberOf : WriteAnswer → ℕ
 numberOf (Bytes n) = 0
 numberOf (Refused number needed) = number
 
-short-not-44 : (text : List ℕ) (room : ℕ) → shortOr text room ≡ Refused 44 0 → ⊥
+short-not-44 : (text : List ℕ) (room : ℕ) → textOrShort text room ≡ Refused 44 0 → ⊥
 short-not-44 text room v = go (ltb room (length text)) v
   where
     go : (t : Bool) → cond t (Refused 45 (length text)) (Bytes (length text)) ≡ Refused 44 0 → ⊥
@@ -176,7 +176,7 @@ module _ (w : List ℕ) (e : isTable w ≡ true) where
   unfolding planAnswer
   no-44 room d = writable-back (go (tableWritable w) (λ v. d (rw e v)))
     where
-      go : (t : Bool) → (cond t (shortOr (tableText w) room) (Refused 44 0) ≡ Refused 44 0 → ⊥) → t ≡ true
+      go : (t : Bool) → (cond t (textOrShort (tableText w) room) (Refused 44 0) ≡ Refused 44 0 → ⊥) → t ≡ true
       go true d = refl
       go false d = absurd (d refl)
 

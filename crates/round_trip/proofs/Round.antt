@@ -18,10 +18,10 @@ use Rattle.timetable.proofs.Records.{twelve}
 use Rattle.whole_runs.proofs.Clear.{Clear, clear}
 use Rattle.whole_runs.proofs.Back.{fields-twelve}
 use Rattle.whole_runs.proofs.Accepted.{accepted, no-offence, written-is, table-is, table-holds}
-use Rattle.plan_services.specs.Services.{serviceLines, planText, renumbered, ServiceHeld}
+use Rattle.plan_services.specs.Services.{serviceLines, planText, relined, ServiceHeld}
 use Rattle.plan_accepted.proofs.Written.{withPlan, accepted-held, delivered-back}
 use Rattle.plan_accepted.proofs.Size as size
-use Rattle.plan_writing.specs.Writing.{tableText, tableWritable, shortOr, planAnswer, bytesBy, planBytes}
+use Rattle.plan_writing.specs.Writing.{tableText, tableWritable, textOrShort, planAnswer, bytesBy, planBytes}
 use Rattle.round_trip.specs.Lines.{exceptLines}
 use Rattle.round_trip.specs.RoundTrip.{withText, table, clean, RoundTrip}
 use Rattle.round_trip.proofs.Held.{held-table}
@@ -36,19 +36,19 @@ holds-text w d e = ap (λ (x : Delivery). planText (x .services)) e
 holds-writable : (w : List ℕ) (d : Delivery) → tableOf w ≡ d → All ServiceHeld (d .services) → tableWritable w ≡ true
 holds-writable w d e h = held-table w (subst (λ (x : Delivery). All ServiceHeld (x .services)) (sym e) h)
 
-writes : (w : List ℕ) → isTable w ≡ true → tableWritable w ≡ true → (room : ℕ) → planAnswer w room ≡ shortOr (tableText w) room
+writes : (w : List ℕ) → isTable w ≡ true → tableWritable w ≡ true → (room : ℕ) → planAnswer w room ≡ textOrShort (tableText w) room
 unfolding planAnswer
 writes w e h room = rw (e, h)
 
 -- ---- what is delivered again
 
 delivered-again : (f : Files) → Clear f → All (λ (b : ℕ). b < 256) (f .fplan)
-    → delivered (withPlan f (planText (delivered f .services))) ≡ withServices (delivered f) (renumbered 1 (delivered f .services))
+    → delivered (withPlan f (planText (delivered f .services))) ≡ withServices (delivered f) (relined 1 (delivered f .services))
 unfolding delivered
 delivered-again f c h = ap (withServices (delivered f)) (delivered-back f c h)
 
-held-moved : (n : ℕ) (ss : List Service) → All ServiceHeld ss → All ServiceHeld (renumbered n ss)
-unfolding renumbered
+held-moved : (n : ℕ) (ss : List Service) → All ServiceHeld ss → All ServiceHeld (relined n ss)
+unfolding relined
 held-moved n [] nil = nil
 held-moved n (s ∷ ss) (cons h t) =
     cons (record { opening-held = h .opening-held; categories-held = h .categories-held; days-held = h .days-held; extras-held = h .extras-held; calls-held = h .calls-held })
@@ -86,7 +86,7 @@ module _ (f : Files) (t : List ℕ) (helper u : ℕ) (e : loaded f (length t) he
   once-more : size.Again f
   once-more = size.round-trip f none-f h
 
-  moved : delivered g ≡ withServices d (renumbered 1 (d .services))
+  moved : delivered g ≡ withServices d (relined 1 (d .services))
   moved = delivered-again f (clear f none-f) h
 
   words-length : length (tableWords (delivered g)) ≡ length (tableWords d)
@@ -109,7 +109,7 @@ module _ (f : Files) (t : List ℕ) (helper u : ℕ) (e : loaded f (length t) he
   held : All ServiceHeld (d .services)
   held = accepted-held f (clear f none-f) h
 
-  first-writes : (room : ℕ) → planAnswer (table f t helper) room ≡ shortOr (tableText (table f t helper)) room
+  first-writes : (room : ℕ) → planAnswer (table f t helper) room ≡ textOrShort (tableText (table f t helper)) room
   first-writes = writes (table f t helper) (table-is f t helper u e) (holds-writable (table f t helper) d (table-holds f t helper u e) held)
 
   text-again : tableText (written g t helper) ≡ tableText (table f t helper)
@@ -119,7 +119,7 @@ module _ (f : Files) (t : List ℕ) (helper u : ℕ) (e : loaded f (length t) he
   answers-again room =
       writes (written g t helper) (table-is g t helper u loads)
       (holds-writable (written g t helper) (delivered g) (table-holds g t helper u loads) (subst (λ (x : Delivery). All ServiceHeld (x .services)) (sym moved) (held-moved 1 (d .services) held))) room
-      ∙ ap (λ (x : List ℕ). shortOr x room) text-again ∙ sym (first-writes room)
+      ∙ ap (λ (x : List ℕ). textOrShort x room) text-again ∙ sym (first-writes room)
 
   bytes-again : (b : List ℕ) → planBytes (written g t helper) b ≡ planBytes (table f t helper) b
   unfolding planBytes
@@ -128,7 +128,7 @@ module _ (f : Files) (t : List ℕ) (helper u : ℕ) (e : loaded f (length t) he
   same-words : exceptLines (written g t helper) ≡ exceptLines (table f t helper)
   same-words =
       let rest = drop (length (tableWords d)) t in
-      let a : written g t helper ≡ tableWords (withServices d (renumbered 1 (d .services))) ++ rest = written-is g t helper u loads ∙ (λ i. tableWords (moved i) ++ drop (words-length i) t) in
+      let a : written g t helper ≡ tableWords (withServices d (relined 1 (d .services))) ++ rest = written-is g t helper u loads ∙ (λ i. tableWords (moved i) ++ drop (words-length i) t) in
       ap exceptLines a ∙ except-same d 1 (twelve-words f) rest ∙ sym (ap exceptLines (written-is f t helper u e))
 
   -- "For a table of an accepted delivery, loading the text with the same other files gives the same table except the opening line numbers, and writing

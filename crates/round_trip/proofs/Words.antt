@@ -10,7 +10,7 @@ use Rattle.timetable.specs.Delivery.{StopRecord, Service, Delivery}
 use Rattle.timetable.specs.Layout.{headerSize, firstService}
 use Rattle.timetable.specs.Table.{pointing, bitFieldWords, stopWords, interchangeWords, classWords, serviceSize, serviceWords, sections, tableWords, wordCountIn, services#, servicesPlace}
 use Rattle.timetable.proofs.Records.{twelve, fields-length, stops-length, interchanges-length, classes-length, service-length}
-use Rattle.plan_services.specs.Services.{atLine, renumbered, serviceLines}
+use Rattle.plan_services.specs.Services.{atLine, relined, serviceLines}
 use Rattle.round_trip.specs.Lines.{unlined, exceptLines}
 
 -- ---- the records
@@ -88,13 +88,13 @@ except-words d h rest =
 abbrev pub withServices : Delivery → List Service → Delivery
 withServices d ss = record { period = d .period; fields = d .fields; stops = d .stops; interchanges = d .interchanges; classes = d .classes; services = ss }
 
-same-unlined : (stops : List StopRecord) (n : ℕ) (ss : List Service) → map (atLine 0) (map (pointing stops) (renumbered n ss)) ≡ map (atLine 0) (map (pointing stops) ss)
-unfolding renumbered pointing
+same-unlined : (stops : List StopRecord) (n : ℕ) (ss : List Service) → map (atLine 0) (map (pointing stops) (relined n ss)) ≡ map (atLine 0) (map (pointing stops) ss)
+unfolding relined pointing
 same-unlined stops n [] = refl
 same-unlined stops n (s ∷ ss) = ap (λ (r : List Service). atLine 0 (pointing stops s) ∷ r) (same-unlined stops (n + length (serviceLines s)) ss)
 
-same-count : (n : ℕ) (ss : List Service) → length (renumbered n ss) ≡ length ss
-unfolding renumbered
+same-count : (n : ℕ) (ss : List Service) → length (relined n ss) ≡ length ss
+unfolding relined
 same-count n [] = refl
 same-count n (s ∷ ss) = ap suc (same-count (n + length (serviceLines s)) ss)
 
@@ -105,7 +105,7 @@ unlined-length (s ∷ ss) = rw (length-append, length-append, service-length (at
 
 module _ (d : Delivery) (n : ℕ) where
   abbrev moved : Delivery
-  moved = withServices d (renumbered n (d .services))
+  moved = withServices d (relined n (d .services))
 
   records-length : length (gathered serviceWords (pointed moved)) ≡ length (gathered serviceWords (pointed d))
   records-length = sym (unlined-length (pointed moved)) ∙ ap (λ (x : List Service). length (gathered serviceWords x)) (same-unlined (d .stops) n (d .services)) ∙ unlined-length (pointed d)

@@ -10,7 +10,7 @@ use Rattle.timetable.specs.Plan.{tolds}
 use Rattle.timetable.specs.Service.{blocks, serviceOf}
 use Rattle.timetable.specs.declared.Told.{Told}
 use Rattle.timetable.specs.declared.Told.the-variants.{Other, Broken}
-use Rattle.plan_services.specs.Services.{planText, renumbered}
+use Rattle.plan_services.specs.Services.{planText, relined}
 
 -- neither of another kind (11) nor broken (4)
 abbrev pub Formed : Told → Type 0
@@ -19,4 +19,4 @@ Formed t = (t ≡ Other → ⊥) × ((c : ℕ) → t ≡ Broken c → ⊥)
 -- services whose text is read back as they are, but for their opening lines' numbers
 pub record ReadBack (ss : List Service) : Type 0 where
   pub formed : All Formed (tolds (linesOf (planText ss)))
-  pub services : map serviceOf (blocks (linesOf (planText ss))) ≡ renumbered 1 ss
+  pub services : map serviceOf (blocks (linesOf (planText ss))) ≡ relined 1 ss

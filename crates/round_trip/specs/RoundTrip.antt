@@ -8,7 +8,7 @@ use lib.ListN.{length}
 use Rattle.timetable.specs.Delivery.{Files, filesOf}
 use Rattle.timetable.specs.Load.{loaded, written}
 use Rattle.timetable.specs.declared.Loaded.the-variants.{Accepted}
-use Rattle.plan_writing.specs.Writing.{tableText, shortOr, planAnswer, planBytes}
+use Rattle.plan_writing.specs.Writing.{tableText, textOrShort, planAnswer, planBytes}
 use Rattle.round_trip.specs.Lines.{exceptLines}
 
 -- the same other files with another FPLAN
@@ -29,7 +29,7 @@ module _ (f : Files) (t : List ℕ) (helper : ℕ) where
 -- f was accepted with u words used
 pub record RoundTrip (f : Files) (t : List ℕ) (helper u : ℕ) : Type 0 where
   -- neither 21 nor 44: only 45 can be told
-  pub writes : (room : ℕ) → planAnswer (table f t helper) room ≡ shortOr (tableText (table f t helper)) room
+  pub writes : (room : ℕ) → planAnswer (table f t helper) room ≡ textOrShort (tableText (table f t helper)) room
   -- the text is accepted with the same table room and helper words, and as many words are used
   pub accepts : loaded (clean f t helper) (length t) helper ≡ Accepted u
   -- "the same table except the opening line numbers"; later words stay

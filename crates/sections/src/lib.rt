@@ -24,7 +24,7 @@ ghost use Rattle.bitfield.specs.BitField.{bitsIn};
 ghost use Rattle.timetable.specs.Layout.{mostFileBytes, mostPeriodDays};
 ghost use Rattle.timetable.specs.Offences.{first, verdictBy, checkedBy};
 ghost use Rattle.timetable.specs.Files.{bitFieldsIn, hasField, bitFieldOffence, bitFieldsFirst};
-ghost use Rattle.timetable.specs.Files.{stopsIn, allStops, hasStop, stopOffence, namedStopOffence, stopsFirst};
+ghost use Rattle.timetable.specs.Files.{stopsIn, defaultStop, hasStop, stopOffence, namedStopOffence, stopsFirst};
 ghost use Rattle.timetable.specs.Files.{interchangesIn, interchangeOffence, interchangesFirst};
 ghost use Rattle.timetable.specs.Plan.{threeBytes};
 ghost use Rattle.timetable.specs.Table.{stopPlace};
@@ -366,7 +366,7 @@ const ALL_STOPS: u32 = 9999999;
 
 // Whether no stop has this number: 9999999, or ending 00000.
 fn is_barred(number: u32) -> bool
-    ensures { λ r. ⌜ r ≡ (eqb number allStops || eqb (number % 100000) 0) ⌝ }
+    ensures { λ r. ⌜ r ≡ (eqb number defaultStop || eqb (number % 100000) 0) ⌝ }
 {
     if number == ALL_STOPS {
         return true;

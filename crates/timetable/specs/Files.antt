@@ -13,7 +13,7 @@ use Rattle.lines.specs.Lines.{Line, linesOf, skipped}
 use Rattle.calendar.specs.Calendar.{dateIn, periodOf}
 use Rattle.calendar.specs.declared.Date.{Date}
 use Rattle.calendar.specs.declared.Date.the-variants.{Day, NoSuchDate}
-use Rattle.calendar.specs.declared.PeriodLength.{PeriodLength as PeriodOf}
+use Rattle.calendar.specs.declared.PeriodLength.{PeriodLength}
 use Rattle.calendar.specs.declared.PeriodLength.the-variants.{OfDays, NoPeriod}
 use Rattle.bitfield.specs.BitField.{bitsIn, framed}
 use Rattle.forms.specs.Form.{FieldRule, formOf}
@@ -68,7 +68,7 @@ abbrev pub noDate : Date → Bool
 noDate (Day d) = false
 noDate NoSuchDate = true
 
-abbrev pub noPeriod : PeriodOf → Bool
+abbrev pub noPeriod : PeriodLength → Bool
 noPeriod (OfDays n) = false
 noPeriod NoPeriod = true
 
@@ -89,7 +89,7 @@ periodLineOffence (s ∷ e ∷ t ∷ before) l = some (offenceAt 3 (l .no))
 unfoldable pub periodFirst : List Line → Option Offence
 periodFirst ls = first periodLineOffence [] ls <|> given (ltb (length ls) 3) 2 (length ls + 1)
 
-abbrev pub daysIn : PeriodOf → ℕ
+abbrev pub daysIn : PeriodLength → ℕ
 daysIn (OfDays n) = n
 daysIn NoPeriod = 0
 
@@ -151,9 +151,9 @@ stopOf l =
 abbrev pub stopsIn : List ℕ → List StopRecord
 stopsIn f = held-in stopOf (linesOf f)
 
--- UMSTEIGB's number for all stops
-abbrev pub allStops : ℕ
-allStops = 9999999
+-- 001, 5.7: "The virtual stop number 9999999 is entered in the first line of the file to define the default value."
+abbrev pub defaultStop : ℕ
+defaultStop = 9999999
 
 abbrev pub hasStop : ℕ → List StopRecord → Bool
 hasStop n stops = some-of (λ (s : StopRecord). eqb (s .number) n) stops
@@ -161,7 +161,7 @@ hasStop n stops = some-of (λ (s : StopRecord). eqb (s .number) n) stops
 -- "7 BAHNHOF stop 9999999 or ending 00000", 6
 abbrev pub stopOffence : List StopRecord → ℕ → StopRecord → Option Offence
 stopOffence earlier line s =
-    given (eqb (s .number) allStops || eqb (s .number % 100000) 0) 7 line <|> given (hasStop (s .number) earlier) 6 line
+    given (eqb (s .number) defaultStop || eqb (s .number % 100000) 0) 7 line <|> given (hasStop (s .number) earlier) 6 line
 
 -- document 02, No. 3: "at load 39 after 4 for a bad list", so before those
 abbrev pub namedStopOffence : List StopRecord → ℕ → List ℕ → StopRecord → Option Offence
@@ -191,7 +191,7 @@ hasInterchange n records = some-of (λ (c : Interchange). eqb (c .number) n) rec
 
 -- "7 first UMSTEIGB record not 9999999"; after it 6, "9 UMSTEIGB (after its first record) .. stop not in BAHNHOF"
 abbrev pub interchangeOffence : List StopRecord → List Interchange → ℕ → Interchange → Option Offence
-interchangeOffence stops [] line c = given (not (eqb (c .number) allStops)) 7 line
+interchangeOffence stops [] line c = given (not (eqb (c .number) defaultStop)) 7 line
 interchangeOffence stops (e ∷ earlier) line c = given (hasInterchange (c .number) (e ∷ earlier)) 6 line <|> given (not (hasStop (c .number) stops)) 9 line
 
 -- 4, then those

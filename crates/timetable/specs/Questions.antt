@@ -12,7 +12,7 @@ use Rattle.timetable.specs.Layout.{rowSize, mostClass}
 use Rattle.timetable.specs.Load.{onto}
 use Rattle.timetable.specs.Table.{tableOf, isTable}
 use Rattle.timetable.specs.View.{View, viewOf}
-use Rattle.timetable.specs.Run.{stretchFrom, stretchCalls, categoryOn, RunFound, barred, atRest, aRun, runOf}
+use Rattle.timetable.specs.Run.{stretchFrom, stretchCalls, categoryOn, RunFound, noRun, atRest, aRun, runOf}
 use Rattle.timetable.specs.declared.Call.{Call}
 use Rattle.timetable.specs.declared.DayAnswer.{DayAnswer}
 use Rattle.timetable.specs.declared.DayAnswer.the-variants.{Runs, Idle, Refused as DayRefused}
@@ -119,13 +119,13 @@ pub data Journey : Type 0 where
   rows : List ℕ → Journey
 
 abbrev pub rowsAlong : View → RunFound → Journey
-rowsAlong v (barred number) = refused number
+rowsAlong v (noRun number) = refused number
 rowsAlong v atRest = idle
 rowsAlong v (aRun x) = rows (rowsOf v (x .service) (x .start) (x .legs) (x .late) 0 (stretchCalls (x .service) (stretchFrom (x .start) (x .legs))))
 
 -- the run of a date: 22, 23, then the run's own
 abbrev pub datedRun : View → ℕ → ℕ → Dated → RunFound
-datedRun v i r (undated number) = barred number
+datedRun v i r (undated number) = noRun number
 datedRun v i r (dated k) = runOf v i r k
 
 unfoldable pub journey : View → ℕ → ℕ → ℕ → ℕ → ℕ → Journey

@@ -68,19 +68,19 @@ toStop cs n (Timed m) = lastPlace (places (arrivesAt n m) 0 cs)
 toStop cs n NoDetail = none
 
 -- a place that the route has
-abbrev pub callIndexed : List Call → RouteIndex → Option ℕ
-callIndexed cs k = cond (ltb (k .0) (length cs)) (some (k .0)) none
+abbrev pub onRoute : List Call → RouteIndex → Option ℕ
+onRoute cs k = cond (ltb (k .0) (length cs)) (some (k .0)) none
 
 -- "A from or to is blank (first, last call), "#" and digits with blanks around (route index from 0), or seven digits (stop)."
 abbrev pub fromBy : List Call → RangeEnd → Detail → Option ℕ
-fromBy cs Outer d = callIndexed cs (record { 0 = 0 })
-fromBy cs (Index k) d = callIndexed cs k
+fromBy cs Outer d = onRoute cs (record { 0 = 0 })
+fromBy cs (Index k) d = onRoute cs k
 fromBy cs (Stop n) d = fromStop cs n d
 fromBy cs NoEnd d = none
 
 abbrev pub toBy : List Call → RangeEnd → Detail → Option ℕ
-toBy cs Outer d = callIndexed cs (record { 0 = length cs - 1 })
-toBy cs (Index k) d = callIndexed cs k
+toBy cs Outer d = onRoute cs (record { 0 = length cs - 1 })
+toBy cs (Index k) d = onRoute cs k
 toBy cs (Stop n) d = toStop cs n d
 toBy cs NoEnd d = none
 

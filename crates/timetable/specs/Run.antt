@@ -126,17 +126,17 @@ pub record Run : Type 0 where
   pub legs : ℕ
 
 pub data RunFound : Type 0 where
-  barred : ℕ → RunFound
+  noRun : ℕ → RunFound
   atRest : RunFound
   aRun : Run → RunFound
 
 abbrev pub runAlong : Service → ℕ → Course → RunFound
-runAlong s late (Refused number) = barred number
+runAlong s late (Refused number) = noRun number
 runAlong s late NotRunning = atRest
 runAlong s late (Along a n) = aRun (record { service = s; late = late; start = a; legs = n })
 
 abbrev pub runBy : View → ServiceFound → ℕ → ℕ → RunFound
-runBy v (noService number) r k = barred number
+runBy v (noService number) r k = noRun number
 runBy v (aService s) r k = runAlong s (lateness (s .opening) r) (serviceCourse v s r k)
 
 -- of the i-th service, repeat r, on day k of the period

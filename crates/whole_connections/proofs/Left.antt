@@ -18,7 +18,7 @@ use Rattle.timetable.specs.Legs.{legCount}
 use Rattle.timetable.specs.Load.{delivered, loaded, written}
 use Rattle.timetable.specs.Runs.{hasRun, lateness}
 use Rattle.timetable.specs.View.{View, viewOf, serviceBy}
-use Rattle.timetable.specs.Run.{RunFound, barred, atRest, aRun, runAlong, runBy, runOf, courseOn, serviceCourse}
+use Rattle.timetable.specs.Run.{RunFound, noRun, atRest, aRun, runAlong, runBy, runOf, courseOn, serviceCourse}
 use Rattle.timetable.specs.Questions.{Dated, undated, dated, datedBy, dateOf}
 use Rattle.timetable.specs.declared.Call.{Call}
 use Rattle.timetable.specs.declared.Course.{Course}
@@ -79,7 +79,7 @@ module _ (f : Files) (t : List ℕ) (helper u : ℕ) (e : loaded f (length t) he
   -- ---- a part
 
   module _ (p : Part) (n : ℕ) where
-    course-left : (k : ℕ) (s : Service) → dateOf v (p .day) (p .month) (p .year) ≡ dated k → getElem? (d .services) (p .service) ≡ some s → runOf v (p .service) (p .repeat) k ≡ barred n → serviceCourse v s (p .repeat) k ≡ Barred n → Left n
+    course-left : (k : ℕ) (s : Service) → dateOf v (p .day) (p .month) (p .year) ≡ dated k → getElem? (d .services) (p .service) ≡ some s → runOf v (p .service) (p .repeat) k ≡ noRun n → serviceCourse v s (p .repeat) k ≡ Barred n → Left n
     unfolding serviceCourse isLeft some-of
     course-left k s on there is = go (not (hasRun (s .opening) (p .repeat))) refl
       where
@@ -87,24 +87,24 @@ module _ (f : Files) (t : List ℕ) (helper u : ℕ) (e : loaded f (length t) he
         go true q h = is-left 25 n refl (cc)
         go false q h =
             let (day, a, at) = part-asks f t helper u e p k s on there (not-false (hasRun (s .opening) (p .repeat)) q) in
-            absurd (demand3 f t helper u e (p .service) (p .repeat) (p .day) (p .month) (p .year) day s a .never-refused n (part-walks f t helper u e p k (barred n) on is))
+            absurd (demand3 f t helper u e (p .service) (p .repeat) (p .day) (p .month) (p .year) day s a .never-refused n (part-walks f t helper u e p k (noRun n) on is))
 
-    run-left : (k : ℕ) → dateOf v (p .day) (p .month) (p .year) ≡ dated k → runOf v (p .service) (p .repeat) k ≡ barred n → Left n
+    run-left : (k : ℕ) → dateOf v (p .day) (p .month) (p .year) ≡ dated k → runOf v (p .service) (p .repeat) k ≡ noRun n → Left n
     unfolding runOf isLeft some-of
     run-left k on is = found (getElem? (d .services) (p .service)) refl is
       where
-        along : (s : Service) → getElem? (d .services) (p .service) ≡ some s → (c : Course) → serviceCourse v s (p .repeat) k ≡ c → runAlong s (lateness (s .opening) (p .repeat)) c ≡ barred n → Left n
+        along : (s : Service) → getElem? (d .services) (p .service) ≡ some s → (c : Course) → serviceCourse v s (p .repeat) k ≡ c → runAlong s (lateness (s .opening) (p .repeat)) c ≡ noRun n → Left n
         along s there (Barred number) q h = let z : number ≡ n = cc in course-left k s on there is (q ∙ rw z refl)
         along s there NotRunning q h = apart (cc)
         along s there (Along a m) q h = apart (cc)
 
-        found : (o : Option Service) → getElem? (d .services) (p .service) ≡ o → runBy v (serviceBy o) (p .repeat) k ≡ barred n → Left n
+        found : (o : Option Service) → getElem? (d .services) (p .service) ≡ o → runBy v (serviceBy o) (p .repeat) k ≡ noRun n → Left n
         found none there h = is-left 24 n refl (cc)
         found (some s) there h = along s there (serviceCourse v s (p .repeat) k) refl h
 
     by-run : (k : ℕ) (x : RunFound) → dateOf v (p .day) (p .month) (p .year) ≡ dated k → runOf v (p .service) (p .repeat) k ≡ x → stageBy k p x ≡ Refused n → Left n
     unfolding isLeft some-of
-    by-run k (barred number) on is h = let z : number ≡ n = cc in run-left k on (is ∙ rw z refl)
+    by-run k (noRun number) on is h = let z : number ≡ n = cc in run-left k on (is ∙ rw z refl)
     by-run k atRest on is h = is-left 47 n refl (cc)
     by-run k (aRun x) on is h = between-left (x .service) (x .late) k p (rowCall x (p .board)) (rowCall x (p .alight)) n h
 

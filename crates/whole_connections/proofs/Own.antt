@@ -20,7 +20,7 @@ use Rattle.timetable.specs.Legs.{covers}
 use Rattle.timetable.specs.Load.{delivered, loaded, written}
 use Rattle.timetable.specs.Runs.{hasRun, lateness}
 use Rattle.timetable.specs.View.{View, viewOf, serviceBy}
-use Rattle.timetable.specs.Run.{nameBy, categoryOn, Run, RunFound, barred, atRest, aRun, runAlong, runBy, runOf, serviceCourse}
+use Rattle.timetable.specs.Run.{nameBy, categoryOn, Run, RunFound, noRun, atRest, aRun, runAlong, runBy, runOf, serviceCourse}
 use Rattle.timetable.specs.Questions.{Dated, undated, dated, datedBy, dateOf, Journey, refused, idle, rows, rowsAlong, datedRun, journey, walkOf}
 use Rattle.timetable.specs.declared.Call.{Call}
 use Rattle.timetable.specs.declared.Course.{Course}

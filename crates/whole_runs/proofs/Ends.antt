@@ -16,7 +16,7 @@ use Rattle.fields.specs.declared.RangeEnd.the-variants.{Outer, Index, Stop, NoE
 use Rattle.fields.specs.declared.Detail.{Detail}
 use Rattle.fields.specs.declared.Detail.the-variants.{Plain, Nth, Timed, NoDetail}
 use Rattle.timetable.specs.Delivery.{Legs}
-use Rattle.timetable.specs.Ranges.{places, lastPlace, callIndexed, toStop, toBy, toPlace, fromPlace, inOrder, legsBy, legsOf}
+use Rattle.timetable.specs.Ranges.{places, lastPlace, onRoute, toStop, toBy, toPlace, fromPlace, inOrder, legsBy, legsOf}
 use Rattle.timetable.specs.Service.{withLegs}
 use Rattle.timetable.specs.Table.{legsSound}
 use Rattle.timetable.specs.declared.Call.{Call}
@@ -53,7 +53,7 @@ module _ (n : ℕ) where
   elem-below (suc k) (cons h t) = elem-below k t
 
 module _ (cs : List Call) where
-  within-below : (k : RouteIndex) → Below (length cs) (callIndexed cs k)
+  within-below : (k : RouteIndex) → Below (length cs) (onRoute cs k)
   unfolding Below
   within-below k = by-ltb (λ t. Below (length cs) (cond t (some (k .0)) none)) (k .0) (length cs) (λ h. h) (λ h. tt)
 

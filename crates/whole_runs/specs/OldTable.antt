@@ -23,7 +23,7 @@ use Rattle.timetable.specs.Table.{wordCountIn, usedWords, firstDay, periodDays,
 use Rattle.timetable.specs.Table.{legsSound, sizesSound, headSound, classSound, tableOf, isTable}
 use Rattle.timetable.specs.Load.{lengthOffence, contentOffence, helperNeeded, refusedOr, shortOr, loaded, writtenBy, written, delivered}
 use Rattle.timetable.specs.View.{View, viewOf}
-use Rattle.timetable.specs.Run.{refuse, legRefusal, firstRefusal, Stretch, stretchOf, stretchCalls, neededLast, callRefusal, courseBy, RunFound, barred, runAlong}
+use Rattle.timetable.specs.Run.{refuse, legRefusal, firstRefusal, Stretch, stretchOf, stretchCalls, neededLast, callRefusal, courseBy, RunFound, noRun, runAlong}
 use Rattle.timetable.specs.Questions.{Dated, undated, dated, dateOf, dayIn, dayAsked, interchangeIn, interchangeAsked, betweenIn, betweenAsked}
 use Rattle.timetable.specs.Questions.{Journey, refused, rowsAlong, walkedBy, walked, rowsBy, walkRows}
 use Rattle.timetable.specs.StopNames.{stopNameIn, stopNameAsked}
@@ -157,11 +157,11 @@ oldServiceCourse d s r bs =
     (cond (eqb (stretches false bs) 0) Idle (cond (leb 2 (stretches false bs)) (Barred 35) (oldStretchCourse d s (stretchOf bs)))))
 
 abbrev pub oldRunBy : Delivery → Option Service → ℕ → ℕ → RunFound
-oldRunBy d none r k = barred 24
+oldRunBy d none r k = noRun 24
 oldRunBy d (some s) r k = runAlong s (lateness (s .opening) r) (oldServiceCourse d s r (operatedLegs (d .fields) s k))
 
 abbrev pub oldDatedRun : Delivery → ℕ → ℕ → Dated → RunFound
-oldDatedRun d i r (undated number) = barred number
+oldDatedRun d i r (undated number) = noRun number
 oldDatedRun d i r (dated k) = oldRunBy d (getElem? (d .services) i) r k
 
 unfoldable pub oldJourney : Delivery → ℕ → ℕ → ℕ → ℕ → ℕ → Journey

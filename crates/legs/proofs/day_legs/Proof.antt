@@ -4,7 +4,7 @@ use lib.ListN.{length, drop}
 use Rattle.timetable.specs.Layout.{daySize}
 use Rattle.timetable.specs.Table.{rowsIn, dayAt}
 use Rattle.index.specs.Index.{viewIn}
-use Rattle.legs.specs.Turn.{noLegs, rangesSay}
+use Rattle.legs.specs.Inner.Turn.{noLegs, rangesSay}
 use Rattle.legs.proofs.Turn.{turn}
 use Rattle.legs.proofs.day_legs.Statement.{statement}
 use Rattle.legs.proofs.day_legs.Tie as tie

@@ -21,7 +21,7 @@ use Rattle.names.specs.declared.PatternRead.the-variants.{To, Nothing}
 use Rattle.names.specs.declared.NameByte.{NameByte}
 use Rattle.names.specs.declared.NameByte.the-variants.{Plain, Letter, Digit}
 
--- ---- of the exported functions
+-- ---- of the crate's public functions
 
 abbrev pub chosenBy : Option Name → Chosen
 chosenBy none = NoList

@@ -1,5 +1,5 @@
 -- What a schedule line's form asks, in the order of its columns, for the contracts of src. Nobody has to believe this file:
--- `call_told` is promised over `fits callColumns`. Assumes nothing.
+-- `call_told` is promised over `hasForm callColumns`. Assumes nothing.
 use Prim.Native.Nat.{ℕ, _+_, _/_, _%_}
 use mathlib.Core.List.{List}
 use mathlib.Core.Bool.{Bool, not, _&&_, _||_}
