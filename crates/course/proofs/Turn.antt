@@ -3,17 +3,15 @@
 use mathlib.Core.Path.{_≡_, refl, sym, ap, _∙_}
 use mathlib.Core.List.{List, map}
 use mathlib.Core.Bool.{Bool, true, false, not}
-use mathlib.Core.Option.{none, some}
 use Prim.Native.Nat.{ℕ, _-_, _≤_}
 use lib.ListN.{drop}
 use borrow.Author.Tests.{not-true, not-false}
-use Rattle.base.specs.Lists.{below}
 use Rattle.base.proofs.Laws.{tests}
 use Rattle.timetable.specs.Layout.{daySize}
 use Rattle.timetable.specs.Legs.{operatedBy}
 use Rattle.timetable.specs.View.{View}
-use Rattle.timetable.specs.Table.{rowsIn, dayAt, calls#, days#, dayPlace, serviceAt, sizesSound}
-use Rattle.timetable.specs.Run.{legRefusal, firstRefusal, courseBy, dayCourse, courseOn}
+use Rattle.timetable.specs.Table.{rowsIn, dayAt, calls#, days#, dayPlace, serviceAt}
+use Rattle.timetable.specs.Run.{courseOn}
 use Rattle.timetable.specs.declared.Course.{Course}
 use Rattle.timetable.specs.declared.Course.the-variants.{Refused}
 use Rattle.table.proofs.Says.{head-word}
@@ -21,11 +19,11 @@ use Rattle.cover.specs.Inner.Cover.{legsIn, inTurn}
 use Rattle.cover.proofs.Turn.{legs-rows}
 use Rattle.legs.specs.declared.DayLegs.{DayLegs}
 use Rattle.legs.specs.Inner.Turn.{noLegs, rangesSay}
-use Rattle.legs.proofs.Legs.{days-room}
+use Rattle.legs.proofs.Legs.{head-words, legs-fit, days-room}
 use Rattle.legs.proofs.Gaps.{Told}
 use Rattle.legs.proofs.Days.{ofDay, fieldsKnown, days-known, days-unknown, days-told, say-known}
 use Rattle.course.specs.Inner.Course.{stretchesCourse}
-use Rattle.course.proofs.Laws.{head-words, legs-fit, legs-count, day-order, day-within, day-by}
+use Rattle.course.proofs.Laws.{legs-count, day-order, day-within, day-by}
 
 module _ (d : View) (s v : List ℕ) (k : ℕ) (t : Bool) (l : DayLegs) (q : v ≡ drop (dayPlace s) s) (e : t ≡ inTurn 0 (calls# s - 1) (legsIn daySize (days# s) v)) (h : not t ≡ false) (f : l ≡ rangesSay d k noLegs (rowsIn dayAt daySize (days# s) v)) where
   days-are : rowsIn dayAt daySize (days# s) v ≡ serviceAt s .days

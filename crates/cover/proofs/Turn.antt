@@ -2,7 +2,7 @@
 -- before the first. Assumes nothing.
 use mathlib.Core.Path.{_≡_, refl, sym, ap, ap₂, _∙_}
 use mathlib.Core.List.{List, [], _∷_, map}
-use mathlib.Core.Bool.{Bool, true, false, cond, not, _&&_}
+use mathlib.Core.Bool.{Bool, true, false, not, _&&_}
 use Prim.Native.Nat.{ℕ, zero, suc, _+_, _-_, _≤_, _<_}
 use native.Mathlib.Omega.{arith}
 use lib.ListN.{getD, drop}
@@ -10,7 +10,7 @@ use lib.Seq.{getD-drop}
 use lib.Dec.{eqb, ltb}
 use borrow.Author.Tests.{not-true, not-false, eq-eqb, ne-eqb, eqb-true, ltb-true, ltb-false, le-leb, lt-leb, lt-ltb, le-ltb}
 use Rattle.base.specs.Lists.{countIf}
-use Rattle.base.proofs.Laws.{tests, clash}
+use Rattle.base.proofs.Laws.{tests}
 use Rattle.base.proofs.Loops.{and-true}
 use Rattle.timetable.specs.Delivery.{Legs}
 use Rattle.timetable.specs.Legs.{covers, covering}

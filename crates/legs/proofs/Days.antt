@@ -8,14 +8,14 @@ use mathlib.Core.Logic.{⊎-elim}
 use Prim.Native.Nat.{ℕ, zero, suc, _+_, _-_, _≤_, _<_}
 use native.Mathlib.Nat.{eq-or-lt-of-le}
 use native.Mathlib.Omega.{arith}
-use lib.Dec.{eqb, ltb}
+use lib.Dec.{eqb}
 use borrow.Author.Tests.{eqb-true}
 use Rattle.base.specs.Lists.{every, some-of, upto, below}
 use Rattle.base.proofs.Laws.{clash, or-false}
 use Rattle.base.proofs.Loops.{and-true}
 use Rattle.timetable.specs.Delivery.{Legs, DayRange, Service}
 use Rattle.timetable.specs.Offences.{_<|>_}
-use Rattle.timetable.specs.Legs.{covers, covering, operatedBy}
+use Rattle.timetable.specs.Legs.{covers, operatedBy}
 use Rattle.timetable.specs.View.{View}
 use Rattle.timetable.specs.Run.{refuse, legRefusal, firstRefusal}
 use Rattle.cover.specs.Inner.Cover.{inTurn}
