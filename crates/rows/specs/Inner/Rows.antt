@@ -1,14 +1,15 @@
 -- What the functions on the calls of a stretch answer. Assumes nothing.
-use Prim.Native.Nat.{ℕ, _+_, _*_}
+use Prim.Native.Nat.{ℕ, zero, suc, _+_, _*_}
 use mathlib.Core.List.{List, [], _∷_, map}
-use mathlib.Core.Bool.{Bool, _&&_, _||_}
+use mathlib.Core.Bool.{Bool, true, false, _&&_, _||_}
 use lib.ListN.{drop}
 use lib.Dec.{leb}
 use Rattle.timetable.specs.Layout.{serviceHead, callSize}
 use Rattle.timetable.specs.Delivery.{Service}
+use Rattle.timetable.specs.Ranges.{hasArrival, hasDeparture}
 use Rattle.timetable.specs.Table.{rowsIn, callAt, serviceAt, withStop, withStops}
 use Rattle.timetable.specs.View.{View}
-use Rattle.timetable.specs.Run.{timesNeeded}
+use Rattle.timetable.specs.Run.{timesNeeded, neededLast}
 use Rattle.timetable.specs.Questions.{rowOf}
 use Rattle.timetable.specs.declared.Call.{Call}
 use Rattle.rows.specs.declared.WalkRow.{WalkRow}
@@ -23,6 +24,20 @@ rowFor d s a n delay i c = rowOf d s a n delay i c
 -- a time that is not needed, or is stated and not below the one before
 abbrev pub timeFine : Bool → Bool → ℕ → ℕ → Bool
 timeFine free stated before time = free || (stated && leb before time)
+
+-- both times of a call that is neither the first nor the last
+abbrev pub timesPass : ℕ → Call → Bool
+timesPass before c = timeFine false (hasArrival c) before (c .arrival) && timeFine false (hasDeparture c) (c .arrival) (c .departure)
+
+-- the needed times of the calls of a stretch of n legs, from the i-th on
+unfoldable pub timesStand : ℕ → ℕ → ℕ → List Call → Bool
+timesStand n i before [] = true
+timesStand n i before (c ∷ cs) = timesNeeded n i before c && timesStand n (i + 1) (neededLast n i c) cs
+
+-- those of its last calls, as words hold them: m that are neither the first nor the last, and the last
+unfoldable pub laterStand : ℕ → ℕ → List ℕ → Bool
+laterStand zero before w = timeFine false (hasArrival (callAt w)) before (callAt w .arrival)
+laterStand (suc m) before w = timesPass before (callAt w) && laterStand m (callAt w .departure) (drop callSize w)
 
 abbrev pub walkRowWords : WalkRow → List ℕ
 walkRowWords r = r .stop ∷ r .arrival ∷ r .departure ∷ r .flags ∷ r .number ∷ r .high ∷ r .low ∷ r .category ∷ r .first ∷ r .second ∷ []
