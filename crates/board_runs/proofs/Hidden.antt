@@ -1,148 +1,208 @@
--- The needs of the first look at a call: where the opening line and the call say no, nothing leaves. Assumes nothing.
+-- The needs of the first look at a call: how many runs the opening line and the call allow, and where they say no, nothing leaves. Assumes nothing.
 use mathlib.Core.Path.{_≡_, refl, ap, _∙_, sym}
-use mathlib.Core.List.{List, [], map}
+use mathlib.Core.List.{List, [], _∷_}
 use mathlib.Core.Bool.{Bool, true, false, cond, not, _&&_}
 use mathlib.Core.Option.{Option, none, some}
-use Prim.Native.Nat.{ℕ, _+_, _*_, _^_, _≤_, _<_}
+use Prim.Native.Nat.{ℕ, _+_, _-_, _*_, _^_, _≤_, _<_}
 use native.Mathlib.Omega.{arith}
-use lib.ListN.{length, getElem?, drop, length-drop}
-use lib.Dec.{eqb, ltb}
-use borrow.Author.Tests.{lt-ltb, le-ltb, ltb-false, not-true, not-false}
-use Rattle.base.proofs.Laws.{tests, clash, by-ltb}
-use Rattle.base.proofs.Loops.{upto-none}
+use lib.ListN.{length, getD, getElem?, drop, length-drop}
+use lib.Seq.{getD-drop, drop-drop}
+use lib.Dec.{eqb, leb, ltb}
+use borrow.Author.Tests.{lt-ltb, le-ltb, ne-eqb, eqb-true, not-true, not-false}
+use Rattle.base.proofs.Laws.{tests, clash, by-ltb, by-leb}
+use Rattle.base.proofs.Lists.{length-map-upto}
 use Rattle.timetable.specs.Layout.{serviceHead, callSize}
 use Rattle.timetable.specs.Runs.{openingSound}
 use Rattle.timetable.specs.Table.{stops#, services#, calls#, callAt, openingAt, serviceAt, withStop, withStops, recordSound}
 use Rattle.timetable.specs.Run.{courseOn}
 use Rattle.timetable.specs.declared.Call.{Call}
 use Rattle.timetable.specs.declared.Opening.{Opening}
-use Rattle.index.specs.Index.{recordPlaceIn, recordFrom, recordIn, serviceFrom, viewIn}
+use Rattle.index.specs.Index.{servicesFrom, indexSize, recordPlaceIn, recordFrom, recordIn, serviceFrom, viewIn}
 use Rattle.index.specs.declared.ServiceRecord.{ServiceRecord}
 use Rattle.index.specs.declared.ServiceRecord.the-variants.{From, Refused}
-use Rattle.index.proofs.Shows.{ready-head, ready-word}
 use Rattle.spans.specs.Spans.{firstRun, endRun, spanOf}
 use Rattle.spans.specs.declared.Span.{Span}
-use Rattle.board.specs.Board.{boardable, departureOf, runsFrom, callDepartures, leaves}
-use Rattle.board_runs.specs.Batch.{foundAt, departuresAt, Batched, leavesWithin, Hides}
-use Rattle.board_runs.specs.declared.Batch.{Batch}
+use Rattle.spans.proofs.Meaning.{once-before, once-end}
+use Rattle.spans.proofs.Laws.{end-none}
+use Rattle.board.specs.Board.{Departure, boardable, departureOf, runsFrom, callDepartures, leaves}
+use Rattle.board_runs.specs.Batch.{foundAt, departuresAt, Shelved, outside, Quiet, AtMost, MostFrom}
 use Rattle.board_runs.proofs.Interval.{runs-in-a-row}
-use Rattle.board_runs.proofs.Needs.{call-there, call-none, call-within, opening-fine, services}
+use Rattle.board_runs.proofs.Needs.{call-there, call-none, call-within, opening-fine}
 
--- ---- a record that is not sound gives nothing, nor does a place past its calls, nor a call from which no run leaves
+-- ---- how many runs leave a call
+
+pub none-long : (es : List Departure) → length es ≤ 0 → es ≡ []
+none-long [] h = refl
+none-long (e ∷ es) h = absurd (omega arith)
+
+module _ (t u i : ℕ) (o : Opening) (p d : ℕ) (s : openingSound o ≡ true) where
+  runs-long : length (runsFrom t u i o p d) ≡ endRun o d u - firstRun o d t
+  runs-long = ap length (sym (runs-in-a-row t u i o p d s)) ∙ length-map-upto (departureOf i o p d) (endRun o d u - firstRun o d t) (firstRun o d t)
+
+  runs-once : o .repeats ≡ 0 → length (runsFrom t u i o p d) ≤ 1
+  runs-once z = omega (arith, runs-long, once-end o z d u)
+
+  runs-outside : outside d (o .repeats) t u ≡ true → length (runsFrom t u i o p d) ≤ 0
+  runs-outside =
+      by-ltb (λ (a : Bool). cond a true (cond (leb t d) false (eqb (o .repeats) 0)) ≡ true → length (runsFrom t u i o p d) ≤ 0) u d
+      (λ l e. omega (arith, runs-long, end-none o d u l))
+      (λ l. by-leb (λ (b : Bool). cond b false (eqb (o .repeats) 0) ≡ true → length (runsFrom t u i o p d) ≤ 0) t d
+      (λ m e. clash e)
+      (λ m e.
+      let z = eqb-true (o .repeats) 0 e in
+      omega (arith, runs-long, once-end o z d u, once-before o z d t m)))
+
+-- ---- a record that is not sound gives nothing, nor does a place past its calls; a call gives no more than its runs
 
 module _ (w x : List ℕ) (t u i p at : ℕ) (l : i < services# w) (e : at ≡ recordPlaceIn w x i) where
-  abbrev s : List ℕ
-  s = drop at w
-
-  abbrev dep : ℕ
-  dep = callAt (drop (serviceHead + callSize * p) (drop at w)) .departure
-
   found : recordIn w x i ≡ recordFrom w at
   unfolding recordIn
   found = rw (lt-ltb i (services# w) l, ← e)
 
-  quiet : (recordSound (stops# w) (drop at w) ≡ true → p < calls# (drop at w) → runsFrom t u i (openingAt (drop at w)) p (callAt (drop (serviceHead + callSize * p) (drop at w)) .departure) ≡ []) → (n k : ℕ) → departuresAt (viewIn w x) n k t u i p ≡ []
+  pub record-few : (r : ℕ)
+      → (recordSound (stops# w) (drop at w) ≡ true → p < calls# (drop at w) → length (runsFrom t u i (openingAt (drop at w)) p (callAt (drop (serviceHead + callSize * p) (drop at w)) .departure)) ≤ r)
+      → (n k : ℕ) → length (departuresAt (viewIn w x) n k t u i p) ≤ r
   unfolding departuresAt viewIn recordFrom serviceAt
-  quiet q n k = ap (λ (r : ServiceRecord). foundAt (viewIn w x) n k t u i p (serviceFrom w r)) found ∙ by-sound (recordSound (stops# w) (drop at w)) refl
+  record-few r q n k = rw found (by-sound (recordSound (stops# w) (drop at w)) refl)
     where
-      by-call : (o : Option Call) → callDepartures n t u i (openingAt (drop at w)) p o ≡ [] → (b : Bool) → cond b (callDepartures n t u i (openingAt (drop at w)) p o) [] ≡ []
+      by-call : (o : Option Call) → length (callDepartures n t u i (openingAt (drop at w)) p o) ≤ r → (b : Bool) → length (cond b (callDepartures n t u i (openingAt (drop at w)) p o) []) ≤ r
       by-call o z true = z
-      by-call o z false = refl
+      by-call o z false = omega arith
 
-      no-runs : (c : Call) → runsFrom t u i (openingAt (drop at w)) p (c .departure) ≡ [] → callDepartures n t u i (openingAt (drop at w)) p (some c) ≡ []
-      no-runs c z = by-boards (eqb (c .stop) n && boardable c)
+      few-runs : (c : Call) → length (runsFrom t u i (openingAt (drop at w)) p (c .departure)) ≤ r → length (callDepartures n t u i (openingAt (drop at w)) p (some c)) ≤ r
+      few-runs c z = by-boards (eqb (c .stop) n && boardable c)
         where
-          by-boards : (b : Bool) → cond b (runsFrom t u i (openingAt (drop at w)) p (c .departure)) [] ≡ []
+          by-boards : (b : Bool) → length (cond b (runsFrom t u i (openingAt (drop at w)) p (c .departure)) []) ≤ r
           by-boards true = z
-          by-boards false = refl
+          by-boards false = omega arith
 
-      there : recordSound (stops# w) (drop at w) ≡ true → callDepartures n t u i (openingAt (drop at w)) p (getElem? (withStops (viewIn w x .shown) (serviceAt (drop at w)) .calls) p) ≡ []
+      there : recordSound (stops# w) (drop at w) ≡ true → length (callDepartures n t u i (openingAt (drop at w)) p (getElem? (withStops (viewIn w x .shown) (serviceAt (drop at w)) .calls) p)) ≤ r
       there d =
-          by-ltb (λ b. callDepartures n t u i (openingAt (drop at w)) p (getElem? (withStops (viewIn w x .shown) (serviceAt (drop at w)) .calls) p) ≡ []) p (calls# (drop at w))
-          (λ h. rw (call-there (viewIn w x .shown) (drop at w) p h) (no-runs (withStop (viewIn w x .shown) (callAt (drop (serviceHead + callSize * p) (drop at w)))) (q d h)))
-          (λ h. rw (call-none (viewIn w x .shown) (drop at w) p h))
+          by-ltb (λ b. length (callDepartures n t u i (openingAt (drop at w)) p (getElem? (withStops (viewIn w x .shown) (serviceAt (drop at w)) .calls) p)) ≤ r) p (calls# (drop at w))
+          (λ h. rw (call-there (viewIn w x .shown) (drop at w) p h) (few-runs (withStop (viewIn w x .shown) (callAt (drop (serviceHead + callSize * p) (drop at w)))) (q d h)))
+          (λ h. rw (call-none (viewIn w x .shown) (drop at w) p h) (omega arith))
 
-      by-sound : (b : Bool) → recordSound (stops# w) (drop at w) ≡ b → foundAt (viewIn w x) n k t u i p (serviceFrom w (cond b (From at) (Refused 43))) ≡ []
+      by-sound : (b : Bool) → recordSound (stops# w) (drop at w) ≡ b → length (foundAt (viewIn w x) n k t u i p (serviceFrom w (cond b (From at) (Refused 43)))) ≤ r
       by-sound true d = by-call (getElem? (withStops (viewIn w x .shown) (serviceAt (drop at w)) .calls) p) (there d) (leaves (courseOn (viewIn w x) (withStops (viewIn w x .shown) (serviceAt (drop at w))) k) p)
-      by-sound false d = refl
+      by-sound false d = omega arith
 
-  pub hide-short : (m : ℕ) → m ≡ at + serviceHead + callSize * p + callSize → length w < m → Hides w x t u i p false
-  hide-short m d h = record { none = λ f n k. quiet (λ q r. absurd (omega (arith, call-within (stops# w) (drop at w) q p r, length-drop at w, d))) n k }
+-- ---- the place of a record, as the index says; j is the service as a place
 
-  pub hide-told : (s : List ℕ) (r : Bool) → s ≡ drop at w → r ≡ leavesWithin s t u p → Hides w x t u i p r
-  unfolding leavesWithin spanOf
-  hide-told s r d f = record { none = λ g n k. quiet (λ q m. none-leaves q (sym (ap (λ (s : List ℕ). leavesWithin s t u p) d) ∙ sym f ∙ g)) n k }
-    where
-      none-leaves : recordSound (stops# w) (drop at w) ≡ true → leavesWithin (drop at w) t u p ≡ false → runsFrom t u i (openingAt (drop at w)) p (callAt (drop (serviceHead + callSize * p) (drop at w)) .departure) ≡ []
-      none-leaves q g =
-          let o = opening-fine (stops# w) (drop at w) q in
-          let o′ : Opening = openingAt (drop at w) in
-          let z : ltb (firstRun (openingAt (drop at w)) (callAt (drop (serviceHead + callSize * p) (drop at w)) .departure) t) (endRun (openingAt (drop at w)) (callAt (drop (serviceHead + callSize * p) (drop at w)) .departure) u) ≡ false = rw o at g in
-          let y = ltb-false (firstRun (openingAt (drop at w)) (callAt (drop (serviceHead + callSize * p) (drop at w)) .departure) t) (endRun (openingAt (drop at w)) (callAt (drop (serviceHead + callSize * p) (drop at w)) .departure) u) z in
-          sym (runs-in-a-row t u i (openingAt (drop at w)) p (callAt (drop (serviceHead + callSize * p) (drop at w)) .departure) o)
-          ∙ ap (map (departureOf i (openingAt (drop at w)) p (callAt (drop (serviceHead + callSize * p) (drop at w)) .departure))) (upto-none (endRun (openingAt (drop at w)) (callAt (drop (serviceHead + callSize * p) (drop at w)) .departure) u) (firstRun (openingAt (drop at w)) (callAt (drop (serviceHead + callSize * p) (drop at w)) .departure) t) y)
+module _ (w x : List ℕ) (places i j : ℕ) (h : Shelved w x places) (a : j ≡ i) where
+  pub shelf-fits : j < 4294967296 → length x * 4 < 2 ^ 63 → places + j < 2 ^ 64
+  shelf-fits l m = omega (arith, h .from, h .long)
 
-pub hide-past : (w x : List ℕ) (t u i p : ℕ) → services# w ≤ i → Hides w x t u i p false
-unfolding departuresAt viewIn recordIn
-hide-past w x t u i p h = record { none = λ f n k. rw (le-ltb i (services# w) h) }
+  shelf-past : length x ≤ places + j → services# w ≤ i
+  shelf-past l = omega (arith, h .from, h .long)
 
-pub hide-open : (w x : List ℕ) (t u i p : ℕ) → Hides w x t u i p true
-hide-open w x t u i p = record { none = λ f n k. clash (sym f) }
+  module _ (l : places + j < length x) where
+    shelf-some : i < services# w
+    shelf-some = omega (arith, h .from, h .long)
 
--- the words of the call are there
-module _ (w : List ℕ) (at p m : ℕ) (d : m ≡ at + serviceHead + callSize * p + callSize) (h : m ≤ length w) where
-  pub end-within : at ≤ length w
-  end-within = omega (arith, d)
+    shelf-place : (at : ℕ) → at ≡ getD x (places + j) 0 → at ≡ recordPlaceIn w x i
+    unfolding recordPlaceIn
+    shelf-place at e = e ∙ rw (ne-eqb (length x) 0 (λ z. absurd (omega arith)), ← (h .from), a)
 
-  pub end-there : (s : List ℕ) → s ≡ drop at w → serviceHead + callSize * p + callSize ≤ length s
-  end-there s e = omega (arith, d, ap length e, length-drop at w)
+-- ---- the first look
 
-pub ruleset hides = (tests, ready-head, ready-word, hide-past, hide-open, hide-short, hide-told, end-within, end-there)
+module _ (w x : List ℕ) (places t u i p j : ℕ) (h : Shelved w x places) (a : j ≡ i) where
+  past-none : length x ≤ places + j → (n k : ℕ) → departuresAt (viewIn w x) n k t u i p ≡ []
+  unfolding departuresAt viewIn recordIn
+  past-none l n k = rw (le-ltb i (services# w) (shelf-past w x places i j h a l))
 
--- where the words of a call end; j is its place
-module _ (at p j : ℕ) (a : at < 4294967296) (b : j < 4294967296) where
-  pub reach-times : 7 * j < 2 ^ 64
-  reach-times = omega arith
+  pub quiet-past : length x ≤ places + j → Quiet w x places t u i p true
+  quiet-past l = record { none = λ f n k. past-none l n k; there = λ f. clash (sym f); words = λ f. clash (sym f) }
 
-  pub reach-head : at + 12 < 2 ^ 64
-  reach-head = omega arith
+  module _ (l : places + j < length x) (at : ℕ) (e : at ≡ getD x (places + j) 0) (end : ℕ) (q : end ≡ at + serviceHead + callSize * p + callSize) where
+    few-of : (r : ℕ) → (recordSound (stops# w) (drop at w) ≡ true → p < calls# (drop at w) → length (runsFrom t u i (openingAt (drop at w)) p (callAt (drop (serviceHead + callSize * p) (drop at w)) .departure)) ≤ r) → (n k : ℕ) → length (departuresAt (viewIn w x) n k t u i p) ≤ r
+    few-of = record-few w x t u i p at (shelf-some w x places i j h a l) (shelf-place w x places i j h a l at e)
 
-  pub reach-call : at + 12 + 7 * j < 2 ^ 64
-  reach-call = omega arith
+    pub quiet-short : length w < end → Quiet w x places t u i p true
+    quiet-short m = record {
+      none = λ f n k. none-long _ (few-of 0 (λ b c. absurd (omega (arith, call-within (stops# w) (drop at w) b p c, length-drop at w, q))) n k);
+      there = λ f. clash (sym f);
+      words = λ f. clash (sym f);
+    }
 
-  pub reach-end : at + 12 + 7 * j + 7 < 2 ^ 64
-  reach-end = omega arith
+    its-departure : callAt (drop (serviceHead + callSize * p) (drop at w)) .departure ≡ getD w (end - 5) 0
+    its-departure = getD-drop (serviceHead + callSize * p) (drop at w) 2 0 ∙ getD-drop at w (serviceHead + callSize * p + 2) 0 ∙ ap (λ (j : ℕ). getD w j 0) (omega (arith, q))
 
-pub reach-is : (at p j : ℕ) → j ≡ p → at + 12 + 7 * j + 7 ≡ at + serviceHead + callSize * p + callSize
-reach-is at p j e = rw e
+    pub quiet-told : (r : Bool) → end ≤ length w → r ≡ outside (getD w (end - 5) 0) (getD w (at + 4) 0) t u → Quiet w x places t u i p r
+    quiet-told r m d = record {
+      none = λ f n k. none-long _ (few-of 0 (λ b c. runs-outside t u i (openingAt (drop at w)) p _ (opening-fine (stops# w) (drop at w) b) (told f)) n k);
+      there = λ f. omega (arith, a, l);
+      words = λ f. rw (← a, ← e) (omega (arith, q));
+    }
+      where
+        told : r ≡ true → outside (callAt (drop (serviceHead + callSize * p) (drop at w)) .departure) (openingAt (drop at w) .repeats) t u ≡ true
+        told f = (λ z. outside (its-departure z) (getD-drop at w 4 0 z) t u) ∙ sym d ∙ f
 
-pub ruleset reaches = (tests, reach-times, reach-head, reach-call, reach-end, reach-is)
+-- the words of a call that ends within the words
+module _ (w : List ℕ) (at p end : ℕ) (q : end ≡ at + serviceHead + callSize * p + callSize) (m : end ≤ length w) where
+  pub end-reads : 5 ≤ end
+  end-reads = omega (arith, q)
 
--- the opening line and the call
-module _ (s : List ℕ) (t u p : ℕ) (o : Opening) (e : o ≡ openingAt s) (b : Bool) (f : b ≡ openingSound o) where
-  pub within-unsound : not b ≡ true → false ≡ leavesWithin s t u p
-  unfolding leavesWithin
-  within-unsound k = rw (← e, ← f, not-true b k)
+  pub end-inside : end - 5 < length w
+  end-inside = omega (arith, q)
 
-  pub within-sound : not b ≡ false → openingSound o ≡ true
-  within-sound k = sym f ∙ not-false b k
+  pub head-inside : at + 4 < length w
+  head-inside = omega (arith, q)
 
-  pub within-told : not b ≡ false → (c : Call) → c ≡ callAt (drop (serviceHead + callSize * p) s) → (z : Span) → z ≡ spanOf o (c .departure) t u → ltb (z .low) (z .high) ≡ leavesWithin s t u p
-  unfolding leavesWithin
-  within-told k c g z q =
-      let d : c .departure ≡ callAt (drop (serviceHead + callSize * p) s) .departure = ap (λ (c : Call). c .departure) g in
-      let w : z ≡ spanOf (openingAt s) (callAt (drop (serviceHead + callSize * p) s) .departure) t u = q ∙ (λ j. spanOf (e j) (d j) t u) in
-      let so : openingSound (openingAt s) ≡ true = ap openingSound (sym e) ∙ sym f ∙ not-false b k in
-      ap (λ (z : Span). ltb (z .low) (z .high)) w ∙ sym (ap (λ (y : Bool). y && ltb (spanOf (openingAt s) (callAt (drop (serviceHead + callSize * p) s) .departure) t u .low) (spanOf (openingAt s) (callAt (drop (serviceHead + callSize * p) s) .departure) t u .high)) so)
+  pub head-fits : length w * 4 < 2 ^ 63 → at + 4 < 2 ^ 64
+  head-fits b = omega (arith, q)
 
-pub within-head : (s : List ℕ) (p : ℕ) → serviceHead + callSize * p + callSize ≤ length s → 12 ≤ length s
-within-head s p h = omega arith
+pub ruleset quiets = (tests, shelf-fits, quiet-past, quiet-short, quiet-told, end-reads, end-inside, head-inside, head-fits)
 
-pub ruleset withins = (tests, within-head, within-unsound, within-sound, within-told)
+-- ---- how many at most
 
--- ---- and so nothing is listed
+pub most-none : (w x : List ℕ) (places t u i p : ℕ) (b : Bool) → Quiet w x places t u i p b → b ≡ true → AtMost w x t u i p 0
+most-none w x places t u i p b g f = record { few = λ n k. omega (arith, ap length (g .none f n k)) }
 
-pub hidden : (w x : List ℕ) (n k t u i p : ℕ) (r : Bool) (b : Batch) → Hides w x t u i p r → not r ≡ true → Batched b [] → Batched b (departuresAt (viewIn w x) n k t u i p)
-hidden w x n k t u i p r b h o g = rw (h .none (not-true r o) n k) g
+module _ (w x : List ℕ) (places t u i p j : ℕ) (h : Shelved w x places) (a : j ≡ i) (b : Bool) (g : Quiet w x places t u i p b) where
+  pub most-place : b ≡ false → places + j < length x
+  most-place f = omega (arith, a, g .there f)
 
-pub ruleset asks = (services, hidden)
+  module _ (at : ℕ) (e : at ≡ getD x (places + j) 0) (f : b ≡ false) where
+    ends : at + serviceHead + callSize * p + callSize ≤ length w
+    ends = rw (e, a) (g .words f)
+
+    pub most-within : at ≤ length w
+    most-within = omega (arith, ends)
+
+    module _ (s : List ℕ) (d : s ≡ drop at w) where
+      pub most-words : serviceHead + callSize * p + callSize ≤ length s
+      most-words = omega (arith, ends, ap length d, length-drop at w)
+
+      pub most-told : (r : ℕ) → MostFrom s t u p r → AtMost w x t u i p r
+      most-told r m = record {
+        few = record-few w x t u i p at (shelf-some w x places i j h a (most-place f)) (shelf-place w x places i j h a (most-place f) at e) r (λ b c. of-front (rw d at m) b);
+      }
+        where
+          of-front : MostFrom (drop at w) t u p r → recordSound (stops# w) (drop at w) ≡ true → length (runsFrom t u i (openingAt (drop at w)) p (callAt (drop (serviceHead + callSize * p) (drop at w)) .departure)) ≤ r
+          of-front m b = m .few (opening-fine (stops# w) (drop at w) b) i
+
+pub ruleset mosts = (tests, shelf-fits, most-none, most-place, most-within, most-words, most-told)
+
+module _ (s : List ℕ) (t u p : ℕ) (o : Opening) (e : o ≡ openingAt s) where
+  pub from-once : o .repeats ≡ 0 → MostFrom s t u p 1
+  from-once z = record { few = λ a i. runs-once t u i (openingAt s) p _ a (ap (λ (o : Opening). o .repeats) (sym e) ∙ z) }
+
+  module _ (b : Bool) (f : b ≡ openingSound o) where
+    pub from-unsound : not b ≡ true → MostFrom s t u p 0
+    from-unsound k = record { few = λ a i. clash (sym (not-true b k) ∙ f ∙ ap openingSound e ∙ a) }
+
+    pub from-sound : not b ≡ false → openingSound o ≡ true
+    from-sound k = sym f ∙ not-false b k
+
+    pub from-span : not b ≡ false → (c : Call) → c ≡ callAt (drop (serviceHead + callSize * p) s) → (z : Span) → z ≡ spanOf o (c .departure) t u → (r : ℕ) → r ≡ z .high - z .low → MostFrom s t u p r
+    unfolding spanOf
+    from-span k c g z q r m = record {
+      few = λ a i.
+          let same : length (runsFrom t u i o p (c .departure)) ≡ length (runsFrom t u i (openingAt s) p (callAt (drop (serviceHead + callSize * p) s) .departure)) = (λ j. length (runsFrom t u i (e j) p (g j .departure))) in
+          omega (arith, same, m, ap (λ (y : Span). y .high) q, ap (λ (y : Span). y .low) q, runs-long t u i o p (c .departure) (from-sound k));
+    }
+
+pub from-head : (s : List ℕ) (p : ℕ) → serviceHead + callSize * p + callSize ≤ length s → 12 ≤ length s
+from-head s p h = omega arith
+
+pub ruleset mostly = (tests, from-head, from-once, from-unsound, from-sound, from-span)

@@ -7,8 +7,8 @@ use timetable::CALLS_AT;
 use timetable::Call;
 use timetable::Course;
 use timetable::Opening;
+use timetable::REPEATS_AT;
 use timetable::SERVICE_WORDS;
-use timetable::SERVICES_AT;
 ghost use mathlib.Core.Path.{_≡_};
 ghost use mathlib.Core.List.{[], map};
 ghost use mathlib.Core.Bool.{true, _&&_};
@@ -18,13 +18,13 @@ ghost use lib.Dec.{eqb, leb, ltb};
 ghost use Rattle.base.specs.Lists.{gathered, upto};
 ghost use Rattle.timetable.specs.Layout.{mostPeriodDays, serviceHead, callSize, latestTime};
 ghost use Rattle.timetable.specs.Runs.{openingSound};
-ghost use Rattle.timetable.specs.Table.{stops#, services#, callAt, openingAt, serviceAt, withStops, recordSound};
+ghost use Rattle.timetable.specs.Table.{stops#, callAt, openingAt, serviceAt, withStops, recordSound};
 ghost use Rattle.words.specs.Words.{write};
-ghost use Rattle.index.specs.Index.{Ready, recordPlaceIn, viewIn};
+ghost use Rattle.index.specs.Index.{Ready, viewIn};
 ghost use Rattle.sort.specs.Rows.{boardRowSize, boardRowWords};
 ghost use Rattle.spans.specs.Spans.{runs#};
 ghost use Rattle.board.specs.Board.{boardable, departureOf, runsFrom, callDepartures, leaves, placeDepartures};
-ghost use Rattle.board_runs.specs.Batch.{departuresAt, batchRows, Batched, leavesWithin, Hides};
+ghost use Rattle.board_runs.specs.Batch.{departuresAt, batchRows, Batched, Shelved, outside, Quiet, AtMost, MostFrom};
 
 // Departures from one place of a service's route: of the runs from `low` on and below `high`, where run 0 leaves at `departure`.
 pub struct Batch {
@@ -43,9 +43,6 @@ pub fn runs_at(w: &[u32], x: &[u32], n: u32, k: u32, first: u32, last: u32, i: u
     requires { ⌜ Ready (now w) (now x) × (k < mostPeriodDays) ⌝ }
     ensures { λ r. ⌜ Batched r (departuresAt (viewIn (now (w .entry)) (now (x .entry))) n k first last i p) ⌝ }
 {
-    if !may_leave(w, x, first, last, i, p) {
-        return no_runs();
-    }
     let record = index::service_record(w, x, i);
     let ServiceRecord::From(at) = record else {
         return no_runs();
@@ -53,35 +50,26 @@ pub fn runs_at(w: &[u32], x: &[u32], n: u32, k: u32, first: u32, last: u32, i: u
     record_runs(w, x, index::words_from(w, at), n, k, first, last, i, p)
 }
 
-// Whether a run may leave from there within the two minutes, by the opening line and the call alone: most calls at a stop are told here, before a record is checked and
-// its course looked at.
-fn may_leave(w: &[u32], x: &[u32], first: u32, last: u32, i: u32, p: u32) -> bool
-    requires { ⌜ Ready (now w) (now x) ⌝ }
-    ensures { λ r. ⌜ Hides (now (w .entry)) (now (x .entry)) first last i p r ⌝ }
+// ---- a first look, before a record is checked and its course looked at; the places of the services begin at `places` of the index
+
+// Whether two words tell that no run leaves from there within the two minutes: so it is of most calls at a stop.
+pub fn is_quiet(w: &[u32], x: &[u32], places: usize, first: u32, last: u32, i: u32, p: u32) -> bool
+    requires { ⌜ Shelved (now w) (now x) places ⌝ }
+    ensures { λ r. ⌜ Quiet (now (w .entry)) (now (x .entry)) places first last i p r ⌝ }
 {
-    if x.len() == 0 {
+    let place = places + wide(i);
+    if x.len() <= place {
         return true;
     }
-    if w[SERVICES_AT] <= i {
-        return false;
+    let at = wide(x[place]);
+    let end = call_end(at, p);
+    if w.len() < end {
+        return true;
     }
-    let at = place_of(w, x, i);
-    if w.len() < call_end(at, p) {
-        return false;
-    }
-    leaves_within(index::words_from(w, at), first, last, p)
+    is_outside(w[end - AFTER_DEPARTURE], w[at + REPEATS_AT], first, last)
 }
 
-// Where the index says that the record of the i-th service begins.
-fn place_of(w: &[u32], x: &[u32], i: u32) -> usize
-    requires { ⌜ Ready (now w) (now x) × (length (now x) ≡ 0 → ⊥) × (i < services# (now w)) ⌝ }
-    ensures is { λ r. ⌜ r ≡ recordPlaceIn (now (w .entry)) (now (x .entry)) i ⌝ }
-    ensures low { λ r. ⌜ r < 4294967296 ⌝ }
-{
-    wide(x[index::services_from(w) + wide(i)])
-}
-
-// Where the words of place p of a record end.
+// Where the words of place p of a record end, and how far before that its departure stands.
 fn call_end(at: usize, p: u32) -> usize
     requires { ⌜ at < 4294967296 ⌝ }
     ensures { λ r. ⌜ r ≡ at + serviceHead + callSize * p + callSize ⌝ }
@@ -89,18 +77,56 @@ fn call_end(at: usize, p: u32) -> usize
     at + SERVICE_WORDS + CALL_WORDS * wide(p) + CALL_WORDS
 }
 
-// Whether a run leaves from place p of a record within the two minutes, whatever the course.
-fn leaves_within(s: &[u32], first: u32, last: u32, p: u32) -> bool
+const AFTER_DEPARTURE: usize = 5;
+
+// Whether run 0 leaves after the last minute, or before the first with no run after it.
+fn is_outside(departure: u32, repeats: u32, first: u32, last: u32) -> bool
+    ensures { λ r. ⌜ r ≡ outside departure repeats first last ⌝ }
+{
+    if last < departure {
+        return true;
+    }
+    if first <= departure {
+        return false;
+    }
+    repeats == 0
+}
+
+// At most so many runs leave from there within the two minutes, by the opening line and the call alone.
+pub fn most_runs(
+    w: &[u32],
+    x: &[u32],
+    places: usize,
+    first: u32,
+    last: u32,
+    i: u32,
+    p: u32,
+) -> usize
+    requires { ⌜ Shelved (now w) (now x) places ⌝ }
+    ensures { λ r. ⌜ AtMost (now (w .entry)) (now (x .entry)) first last i p r ⌝ }
+{
+    if is_quiet(w, x, places, first, last, i, p) {
+        return 0;
+    }
+    let at = wide(x[places + wide(i)]);
+    most_from(index::words_from(w, at), first, last, p)
+}
+
+// From place p of the record at the front of `s`: a service that runs once needs no division.
+fn most_from(s: &[u32], first: u32, last: u32, p: u32) -> usize
     requires { ⌜ serviceHead + callSize * p + callSize ≤ length (now s) ⌝ }
-    ensures { λ r. ⌜ r ≡ leavesWithin (now (s .entry)) first last p ⌝ }
+    ensures { λ r. ⌜ MostFrom (now (s .entry)) first last p r ⌝ }
 {
     let opening = table::opening_at(s);
+    if opening.repeats == 0 {
+        return 1;
+    }
     if !runs::opening_sound(opening) {
-        return false;
+        return 0;
     }
     let c = call_of(s, p);
     let span = spans::runs_between(opening, c.departure, first, last);
-    span.low < span.high
+    span_size(span.low, span.high)
 }
 
 fn wide(x: u32) -> usize
@@ -244,10 +270,17 @@ fn no_runs() -> Batch
 pub fn batch_size(b: Batch) -> usize
     ensures { λ r. ⌜ r ≡ b .high - b .low ⌝ }
 {
-    if b.high <= b.low {
+    span_size(b.low, b.high)
+}
+
+// How many runs there are from one on and below another.
+fn span_size(low: u32, high: u32) -> usize
+    ensures { λ r. ⌜ r ≡ high - low ⌝ }
+{
+    if high <= low {
         return 0;
     }
-    (b.high - b.low) as usize
+    (high - low) as usize
 }
 
 // Writes the rows of a batch, and says where they end.

@@ -1,14 +1,14 @@
 -- The needs of the functions of src: each value that code computed stands with its equation. Assumes nothing.
 use mathlib.Core.Path.{_≡_, refl, ap, _∙_, sym}
 use mathlib.Core.List.{List, [], _∷_, _++_}
-use mathlib.Core.Bool.{true}
-use Prim.Native.Nat.{ℕ, zero, suc, _+_, _-_, _*_, _^_, _≤_, _<_}
+use mathlib.Core.Bool.{Bool, true, false}
+use Prim.Native.Nat.{ℕ, zero, suc, _+_, _-_, _*_, _/_, _^_, _≤_, _<_}
 use native.Mathlib.Nat.{mul-le-mul}
 use native.Mathlib.Omega.{arith}
 use lib.ListN.{length, getD, take, length-append, length-take}
 use borrow.Author.Tests.{eq-eqb, lt-ltb, le-ltb}
 use Rattle.base.specs.Lists.{gathered}
-use Rattle.base.proofs.Laws.{tests}
+use Rattle.base.proofs.Laws.{tests, clash}
 use Rattle.base.proofs.Lists.{gathered-append, length-map-upto}
 use Rattle.timetable.specs.Layout.{latestTime}
 use Rattle.timetable.specs.Load.{onto}
@@ -19,7 +19,7 @@ use Rattle.table.specs.JustTable.{headerSound}
 use Rattle.table.proofs.Says.{header-says, header-word}
 use Rattle.words.specs.Words.{write}
 use Rattle.words.proofs.Laws.{write-none, write-turn, write-front, length-write}
-use Rattle.index.specs.Index.{stopsFrom, stopSection, sectionEnd, Ready, viewIn}
+use Rattle.index.specs.Index.{servicesFrom, stopsFrom, stopSection, sectionEnd, Ready, viewIn}
 use Rattle.index.proofs.Sections.{sections-fit}
 use Rattle.sort.specs.Rows.{boardRowWords, sortedRows, inOrder}
 use Rattle.sort.proofs.Sorted.{length-sorted}
@@ -29,11 +29,11 @@ use Rattle.spans.specs.Spans.{runs#, mostRuns}
 use Rattle.board.specs.Board.{Departure, departureOf}
 use Rattle.board.specs.Question.{board, boardedBy, boardInto}
 use Rattle.board.specs.declared.BoardAnswer.the-variants.{Listed, Refused}
-use Rattle.board_runs.specs.Batch.{departuresAt, batchRows, Batched}
+use Rattle.board_runs.specs.Batch.{departuresAt, batchRows, Batched, Shelved, Quiet, AtMost}
 use Rattle.board_runs.specs.declared.Batch.{Batch}
 use Rattle.stop_calls.specs.StopCalls.{entries#, entryWord, callsBy, Lent, leftAt, On}
 use Rattle.stop_calls.specs.declared.Cursor.{Cursor}
-use Rattle.boards.specs.ByWords.{entryDepartures, departuresBy, boardBy, Lends, Along, leftDepartures, Putting, most}
+use Rattle.boards.specs.ByWords.{entryDepartures, departuresBy, boardBy, Lends, Along, leftDepartures, Calm, Few, EnoughFrom, Enough, Rooming, Putting, most}
 use Rattle.boards.proofs.Bounds.{call-few, gathered-few}
 
 -- ---- one call
@@ -41,6 +41,31 @@ use Rattle.boards.proofs.Bounds.{call-few, gathered-few}
 pub batch-is : (v : View) (s e n k t u i p : ℕ) (y : List ℕ) (b : Batch) → i ≡ entryWord s y 1 e → p ≡ entryWord s y 3 e → Batched b (departuresAt v n k t u i p) → Batched b (entryDepartures v s y n k t u e)
 unfolding entryDepartures
 batch-is v s e n k t u i p y b a c g = rw (a, c) at g
+
+pub shelved-ready : (w x : List ℕ) (places : ℕ) → Shelved w x places → Ready w x
+shelved-ready w x places h = h .ready
+
+module _ (w x : List ℕ) (places s e t u i p : ℕ) (y : List ℕ) (a : i ≡ entryWord s y 1 e) (c : p ≡ entryWord s y 3 e) where
+  pub calm-is : (r : Bool) → Quiet w x places t u i p r → Calm w x s y t u e r
+  unfolding entryDepartures
+  calm-is r g = record { none = λ f n k. rw (← a, ← c) (g .none f n k) }
+
+pub few-is : (w x : List ℕ) (s e t u i p r : ℕ) (y : List ℕ) → i ≡ entryWord s y 1 e → p ≡ entryWord s y 3 e → AtMost w x t u i p r → Few w x s y t u e r
+unfolding entryDepartures
+few-is w x s e t u i p r y a c g = record { few = λ n k. rw (← a, ← c) (g .few n k) }
+
+pub ruleset looks = (tests, calm-is, few-is)
+
+module _ (w x : List ℕ) (s e n k t u : ℕ) (y : List ℕ) (r : Bool) (g : Calm w x s y t u e r) (f : r ≡ true) where
+  pub calm-count : 0 ≡ length (entryDepartures (viewIn w x) s y n k t u e)
+  calm-count = sym (ap length (g .none f n k))
+
+  pub calm-end : (to : ℕ) → to ≡ to + 4 * length (entryDepartures (viewIn w x) s y n k t u e)
+  calm-end to = omega (arith, calm-count)
+
+  pub calm-words : (l : List ℕ) (to : ℕ) → l ≡ write l to (gathered boardRowWords (entryDepartures (viewIn w x) s y n k t u e))
+  unfolding gathered
+  calm-words l to = sym (write-none l to) ∙ sym (ap (λ (es : List Departure). write l to (gathered boardRowWords es)) (g .none f n k))
 
 module _ (b : Batch) (es : List Departure) (g : Batched b es) where
   pub batch-long : b .high - b .low ≡ length es
@@ -67,7 +92,7 @@ module _ (b : Batch) (es : List Departure) (g : Batched b es) where
   pub batch-words : (t t′ : List ℕ) (to : ℕ) → t′ ≡ write t to (gathered boardRowWords (batchRows b)) → t′ ≡ write t to (gathered boardRowWords es)
   batch-words t t′ to q = q ∙ ap (λ (r : List Departure). write t to (gathered boardRowWords r)) (g .rows)
 
-pub ruleset one = (tests, batch-is, batch-count, batch-sound, batch-there, batch-early, batch-room, batch-end, batch-words)
+pub ruleset one = (tests, shelved-ready, calm-count, calm-end, calm-words, batch-is, batch-count, batch-sound, batch-there, batch-early, batch-room, batch-end, batch-words)
 
 -- ---- from a cursor on
 
@@ -114,6 +139,9 @@ module _ (w x y : List ℕ) (end n from stop k t u : ℕ) where
 
     pub left-count : (total d m : ℕ) → d ≡ length (entryDepartures (viewIn w x) n y stop k t u (c .call)) → total + length (leftDepartures w x y end n from stop k t u c) ≡ m → total + d + length (leftDepartures w x y end n from stop k t u c′) ≡ m
     left-count total d m e h = omega (arith, long, e, h)
+
+    pub left-long : length (leftDepartures w x y end n from stop k t u c) ≡ length (entryDepartures (viewIn w x) n y stop k t u (c .call)) + length (leftDepartures w x y end n from stop k t u c′)
+    left-long = long
 
     module _ (l₀ : List ℕ) (c₀ : Cursor) (l : List ℕ) (to : ℕ) (g : Putting w x y end n from stop k t u l₀ c₀ l c to) where
       fits : to + 4 * length (given (c .call)) ≤ length l
@@ -164,13 +192,41 @@ module _ (w x y : List ℕ) (end n from stop k t u : ℕ) where
     pub put-long : length l ≡ length l₀
     put-long = g .long
 
+    pub put-last : c .call ≡ 0 → to ≡ 4 * length (leftDepartures w x y end n from stop k t u c₀)
+    put-last z = omega (arith, g .count, ap length (left-none c z))
+
     pub put-end : c .call ≡ 0 → l ≡ write l₀ 0 (gathered boardRowWords (leftDepartures w x y end n from stop k t u c₀))
     unfolding gathered
     put-end z = sym (write-none l to) ∙ ap (λ (es : List Departure). write l to (gathered boardRowWords es)) (sym (left-none c z)) ∙ g .words
 
 pub ruleset counts = (tests, along-heads, along-ready, along-lent, on-within, on-some, left-less, left-count, left-fits, left-total)
 
-pub ruleset puts = (tests, along-heads, along-ready, along-lent, on-some, left-less, put-first, put-turn, put-room, put-on, put-within, put-long, put-end)
+pub ruleset puts = (tests, along-heads, along-ready, along-lent, on-some, left-less, put-first, put-turn, put-room, put-on, put-within, put-long, put-last, put-end)
+
+-- ---- room for what is left
+
+module _ (w x y : List ℕ) (end n from stop t u : ℕ) (c₀ : Cursor) (rows : ℕ) where
+  pub room-first : On y n c₀ → Rooming w x y end n from stop t u c₀ rows c₀ rows
+  room-first o = record { on = o; all = λ k. omega arith }
+
+  pub room-unknown : EnoughFrom w x y end n from stop t u c₀ rows false
+  room-unknown = record { enough = λ f k. clash f }
+
+  module _ (c : Cursor) (left : ℕ) (g : Rooming w x y end n from stop t u c₀ rows c left) where
+    pub room-on : On y n c
+    room-on = g .on
+
+    pub room-within : c .call ≤ entries# n y
+    room-within = g .on .call
+
+    pub room-enough : c .call ≡ 0 → EnoughFrom w x y end n from stop t u c₀ rows true
+    room-enough z = record { enough = λ f k. omega (arith, g .all k, ap length (left-none w x y end n from stop k t u c z)) }
+
+    module _ (c′ : Cursor) (q : leftAt w x y end n from stop c ≡ c .call ∷ leftAt w x y end n from stop c′) (m : ℕ) (f : Few w x n y t u (c .call) m) where
+      pub room-turn : m ≤ left → On y n c′ → Rooming w x y end n from stop t u c₀ rows c′ (left - m)
+      room-turn l o = record { on = o; all = λ k. omega (arith, g .all k, left-long w x y end n from stop k t u c c′ q, f .few stop k) }
+
+pub ruleset rooms = (tests, along-heads, along-lent, on-some, left-less, room-first, room-unknown, room-on, room-within, room-enough, room-turn)
 
 -- ---- the stop section, and the whole; b is the number of bit fields, s that of stops
 
@@ -212,6 +268,9 @@ module _ (w x y : List ℕ) (l : Lends w x y) where
   pub lends-word : (i : ℕ) → i < 9 → i < length w
   lends-word i h = header-word w (l .ready .head) i h
 
+  pub lends-shelved : (places : ℕ) → places ≡ servicesFrom w → Shelved w x places
+  lends-shelved places e = record { ready = l .ready; long = l .long; from = e }
+
   pub lends-some : (m : ℕ) → m ≡ getD w 0 0 → 0 < m
   lends-some m e = omega (arith, e, header-says w (l .ready .head) .used-low)
 
@@ -246,6 +305,9 @@ module _ (w x y : List ℕ) (end s from n k t u : ℕ) (c : Cursor) (a : end ≡
   pub whole-count : (r : ℕ) → r ≡ length (leftDepartures w x y end s from n k t u c) → r ≡ length (departuresBy w x y n k t u)
   whole-count r e = e ∙ ap length whole-is
 
+  pub whole-rows : (r : ℕ) → r ≡ 4 * length (leftDepartures w x y end s from n k t u c) → r / 4 ≡ length (departuresBy w x y n k t u)
+  whole-rows r e = omega (arith, e, ap length whole-is)
+
   pub whole-low : (r : ℕ) → m < 4294967296 → r ≡ length (leftDepartures w x y end s from n k t u c) → r ≤ most
   whole-low r h e = rw e (whole-few h)
 
@@ -255,9 +317,16 @@ module _ (w x y : List ℕ) (end s from n k t u : ℕ) (c : Cursor) (a : end ≡
   pub whole-words : (l l′ : List ℕ) → l′ ≡ write l 0 (gathered boardRowWords (leftDepartures w x y end s from n k t u c)) → l′ ≡ write l 0 (gathered boardRowWords (departuresBy w x y n k t u))
   whole-words l l′ e = e ∙ ap (λ (es : List Departure). write l 0 (gathered boardRowWords es)) whole-is
 
-pub ruleset wholes = (tests, lends-head, lends-word, lends-some, lends-lent, lends-along, whole-few, whole-count, whole-low, whole-room, whole-words)
+pub whole-enough : (w x y : List ℕ) (end s from n t u : ℕ) (c : Cursor) → end ≡ sectionEnd (stopSection w) → s ≡ getD w 4 0 → from ≡ stopsFrom w → (m : ℕ) → m ≡ getD w 0 0
+    → leftAt w x y end s from n c ≡ take m (callsBy w x y end s from n) → (rows : ℕ) (r : Bool) → EnoughFrom w x y end s from n t u c rows r → Enough w x y n t u rows r
+whole-enough w x y end s from n t u c a b d m z q rows r g = record { enough = λ f k. omega (arith, g .enough f k, ap length (whole-is w x y end s from n k t u c a b d m z q)) }
+
+pub ruleset wholes = (tests, lends-head, lends-word, lends-shelved, lends-some, lends-lent, lends-along, whole-few, whole-count, whole-low, whole-room, whole-rows, whole-words, whole-enough)
 
 -- ---- the board
+
+pub board-enough : (w x y l : List ℕ) (n k t u : ℕ) (r : Bool) → Enough w x y n t u (length l / 4) r → r ≡ true → 4 * length (departuresBy w x y n k t u) ≤ length l
+board-enough w x y l n k t u r g f = omega (arith, g .enough f k)
 
 module _ (w x y : List ℕ) (n k t u m : ℕ) (e : m ≡ length (departuresBy w x y n k t u)) where
   board-long : length (boardBy w x y n k t u) ≡ m
@@ -274,22 +343,29 @@ module _ (w x y : List ℕ) (n k t u m : ℕ) (e : m ≡ length (departuresBy w 
     pub board-stays : length l < 4 * m → l ≡ boardInto (board (boardBy w x y n k t u)) l
     board-stays h = rw (board-long, lt-ltb (length l) (4 * m) h)
 
-    module _ (h : 4 * m ≤ length l) where
-      pub board-room : 4 * length (departuresBy w x y n k t u) ≤ length l
-      board-room = rw e at h
+    pub board-room : 4 * m ≤ length l → 4 * length (departuresBy w x y n k t u) ≤ length l
+    board-room h = rw e at h
+
+    module _ (h : 4 * length (departuresBy w x y n k t u) ≤ length l) where
+      has : 4 * m ≤ length l
+      has = rw e h
 
       pub board-listed : Listed m ≡ boardedBy (board (boardBy w x y n k t u)) (length l)
-      board-listed = rw (board-long, le-ltb (length l) (4 * m) h)
+      board-listed = rw (board-long, le-ltb (length l) (4 * m) has)
 
       module _ (l′ : List ℕ) (p : l′ ≡ write l 0 (gathered boardRowWords (departuresBy w x y n k t u))) where
         pub board-sortable : 4 * m ≤ length l′
-        board-sortable = omega (arith, h, ap length p, length-write l 0 (gathered boardRowWords (departuresBy w x y n k t u)) (omega (arith, h, e, words-long (departuresBy w x y n k t u))))
+        board-sortable = omega (arith, has, ap length p, length-write l 0 (gathered boardRowWords (departuresBy w x y n k t u)) (omega (arith, h, words-long (departuresBy w x y n k t u))))
 
         pub board-sorted : (l″ : List ℕ) → l″ ≡ inOrder m l′ → l″ ≡ boardInto (board (boardBy w x y n k t u)) l
         unfolding boardBy onto
         board-sorted l″ q =
             written-sorted l l′ l″ (departuresBy w x y n k t u) m e p q
             ∙ write-front l (gathered boardRowWords (sortedRows (departuresBy w x y n k t u)))
-            ∙ sym (rw (length-sorted notAfter (departuresBy w x y n k t u), ← e, le-ltb (length l) (4 * m) h))
+            ∙ sym (rw (length-sorted notAfter (departuresBy w x y n k t u), ← e, le-ltb (length l) (4 * m) has))
 
-pub ruleset lists = (tests, board-fits, board-short, board-stays, board-room, board-listed, board-sortable, board-sorted)
+pub ruleset lists = (tests, board-enough)
+
+pub ruleset counted = (tests, board-fits, board-short, board-stays, board-room)
+
+pub ruleset alls = (tests, board-listed, board-sortable, board-sorted)

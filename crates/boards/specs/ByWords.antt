@@ -2,7 +2,8 @@
 -- board_agrees/proofs/Own): nobody has to believe this file for that. Assumes nothing.
 use Prim.Native.Nat.{ℕ, _+_, _*_, _≤_}
 use mathlib.Core.Path.{_≡_}
-use mathlib.Core.List.{List}
+use mathlib.Core.List.{List, []}
+use mathlib.Core.Bool.{Bool, true}
 use lib.ListN.{length, take}
 use Rattle.base.specs.Lists.{gathered}
 use Rattle.timetable.specs.Table.{usedWords, stops#}
@@ -51,6 +52,26 @@ pub record Putting (w x y : List ℕ) (end n from stop k t u : ℕ) (l₀ : List
   pub count : to + boardRowSize * length (leftDepartures w x y end n from stop k t u c) ≡ boardRowSize * length (leftDepartures w x y end n from stop k t u c₀)
   pub room : boardRowSize * length (leftDepartures w x y end n from stop k t u c₀) ≤ length l₀
   pub words : write l to (gathered boardRowWords (leftDepartures w x y end n from stop k t u c)) ≡ write l₀ 0 (gathered boardRowWords (leftDepartures w x y end n from stop k t u c₀))
+
+-- where the answer is yes, call e gives no departure, whatever stop and day
+pub record Calm (w x : List ℕ) (n : ℕ) (y : List ℕ) (t u e : ℕ) (r : Bool) : Type 0 where
+  pub none : r ≡ true → (stop k : ℕ) → entryDepartures (viewIn w x) n y stop k t u e ≡ []
+
+-- at most r
+pub record Few (w x : List ℕ) (n : ℕ) (y : List ℕ) (t u e r : ℕ) : Type 0 where
+  pub few : (stop k : ℕ) → length (entryDepartures (viewIn w x) n y stop k t u e) ≤ r
+
+-- where the answer is yes, so many rows are enough for what is left from a cursor on, whatever day; for all of it
+pub record EnoughFrom (w x y : List ℕ) (end n from stop t u : ℕ) (c : Cursor) (rows : ℕ) (r : Bool) : Type 0 where
+  pub enough : r ≡ true → (k : ℕ) → length (leftDepartures w x y end n from stop k t u c) ≤ rows
+
+pub record Enough (w x y : List ℕ) (stop t u rows : ℕ) (r : Bool) : Type 0 where
+  pub enough : r ≡ true → (k : ℕ) → length (departuresBy w x y stop k t u) ≤ rows
+
+-- on the way, with room for `left` rows of what is still to come
+pub record Rooming (w x y : List ℕ) (end n from stop t u : ℕ) (c₀ : Cursor) (rows : ℕ) (c : Cursor) (left : ℕ) : Type 0 where
+  pub on : On y n c
+  pub all : (k : ℕ) → length (leftDepartures w x y end n from stop k t u c₀) + left ≤ length (leftDepartures w x y end n from stop k t u c) + rows
 
 -- `mostRuns` for each of 2^32 calls
 abbrev pub most : ℕ

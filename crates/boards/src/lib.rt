@@ -21,12 +21,35 @@ ghost use Rattle.words.specs.Words.{write};
 ghost use Rattle.index.specs.Index.{stopsFrom, stopSection, sectionEnd, Ready, viewIn};
 ghost use Rattle.sort.specs.Rows.{boardRowSize, boardRowWords};
 ghost use Rattle.board.specs.Question.{board, boardedBy, boardInto};
-ghost use Rattle.board_runs.specs.Batch.{Batched};
+ghost use Rattle.board_runs.specs.Batch.{Batched, Shelved};
 ghost use Rattle.stop_calls.specs.StopCalls.{entries#, On};
-ghost use Rattle.boards.specs.ByWords.{entryDepartures, departuresBy, boardBy, Lends, Along, leftDepartures, most};
+ghost use Rattle.boards.specs.ByWords.{entryDepartures, departuresBy, boardBy, Lends, Along, leftDepartures, Calm, Few, EnoughFrom, Enough, most};
 
 // The board of stop number n on day k of the period, within two minutes of the day: 29 with the words needed, and the list then stays.
+// Where the list has room for as many rows as the opening lines and the calls alone allow, each course is looked at once; for a shorter list the departures are counted first.
 pub fn list_board(
+    w: &[u32],
+    x: &[u32],
+    y: &[u32],
+    n: u32,
+    k: u32,
+    first: u32,
+    last: u32,
+    list: &mut [u32],
+) -> BoardAnswer
+    requires { ⌜ Lends (now w) (now x) (now y) × (k < mostPeriodDays) ⌝ }
+    ensures answer { λ r. ⌜ r ≡ boardedBy (board (boardBy (now (w .entry)) (now (x .entry)) (now (y .entry)) n k first last)) (length (now (list .entry))) ⌝ }
+    ensures rows { λ _. ⌜ now (list .exit) ≡ boardInto (board (boardBy (now (w .entry)) (now (x .entry)) (now (y .entry)) n k first last)) (now (list .entry)) ⌝ }
+{
+    let rows = list.len() / ROW_WORDS;
+    if has_room(w, x, y, n, first, last, rows) {
+        return list_all(w, x, y, n, k, first, last, list);
+    }
+    list_counted(w, x, y, n, k, first, last, list)
+}
+
+// The same, counted first.
+fn list_counted(
     w: &[u32],
     x: &[u32],
     y: &[u32],
@@ -47,9 +70,115 @@ pub fn list_board(
             needed: ROW_WORDS * count,
         };
     }
-    put_board(w, x, y, n, k, first, last, list);
+    list_all(w, x, y, n, k, first, last, list)
+}
+
+// The same, where the list has room.
+fn list_all(
+    w: &[u32],
+    x: &[u32],
+    y: &[u32],
+    n: u32,
+    k: u32,
+    first: u32,
+    last: u32,
+    list: &mut [u32],
+) -> BoardAnswer
+    requires { ⌜ Lends (now w) (now x) (now y) × (k < mostPeriodDays) ⌝ }
+    requires { ⌜ boardRowSize * length (departuresBy (now w) (now x) (now y) n k first last) ≤ length (now list) ⌝ }
+    ensures answer { λ r. ⌜ r ≡ boardedBy (board (boardBy (now (w .entry)) (now (x .entry)) (now (y .entry)) n k first last)) (length (now (list .entry))) ⌝ }
+    ensures rows { λ _. ⌜ now (list .exit) ≡ boardInto (board (boardBy (now (w .entry)) (now (x .entry)) (now (y .entry)) n k first last)) (now (list .entry)) ⌝ }
+{
+    let count = put_board(w, x, y, n, k, first, last, list);
     sort::sort_rows(list, count);
     BoardAnswer::Listed(count)
+}
+
+// ---- room
+
+// Whether so many rows are enough on any day, by the opening lines and the calls alone: no record is checked, and no course looked at.
+fn has_room(w: &[u32], x: &[u32], y: &[u32], n: u32, first: u32, last: u32, rows: usize) -> bool
+    requires { ⌜ Lends (now w) (now x) (now y) ⌝ }
+    ensures { λ r. ⌜ Enough (now (w .entry)) (now (x .entry)) (now (y .entry)) n first last rows r ⌝ }
+{
+    let s = w[STOPS_AT];
+    let end = stops_end(w);
+    let from = stops_from(w);
+    let places = index::services_from(w);
+    let c = stop_calls::first_call(w, x, y, end, s, from, n, most_calls(w[USED_AT]));
+    room_from(w, x, y, end, s, from, places, n, first, last, c, rows)
+}
+
+// From a cursor on.
+fn room_from(
+    w: &[u32],
+    x: &[u32],
+    y: &[u32],
+    end: usize,
+    s: u32,
+    from: usize,
+    places: usize,
+    n: u32,
+    first: u32,
+    last: u32,
+    start: Cursor,
+    rows: usize,
+) -> bool
+    requires { ⌜ Along (now w) (now x) (now y) end s from × Shelved (now w) (now x) places ⌝ }
+    requires { ⌜ On (now y) s start ⌝ }
+    ensures { λ r. ⌜ EnoughFrom (now (w .entry)) (now (x .entry)) (now (y .entry)) end s from n first last start rows r ⌝ }
+{
+    let mut c = start;
+    let mut left = rows;
+    while c.call != 0 {
+        let most = most_of(w, x, y, s, places, first, last, c.call);
+        if left < most {
+            return false;
+        }
+        left -= most;
+        c = stop_calls::next_call(w, x, y, end, s, from, n, c.call, c.stop, c.left);
+    }
+    true
+}
+
+// At most how many departures there are from call e.
+fn most_of(
+    w: &[u32],
+    x: &[u32],
+    y: &[u32],
+    s: u32,
+    places: usize,
+    first: u32,
+    last: u32,
+    e: u32,
+) -> usize
+    requires { ⌜ Shelved (now w) (now x) places ⌝ }
+    requires { ⌜ (s ≤ length (now y)) × (0 < e) × (e ≤ entries# s (now y)) ⌝ }
+    ensures { λ r. ⌜ Few (now (w .entry)) (now (x .entry)) s (now (y .entry)) first last e r ⌝ }
+{
+    let i = stop_calls::entry_word(y, s, 1, e);
+    let p = stop_calls::entry_word(y, s, 3, e);
+    board_runs::most_runs(w, x, places, first, last, i, p)
+}
+
+// Whether call e is told to give no departure, before its record is checked.
+fn gives_none(
+    w: &[u32],
+    x: &[u32],
+    y: &[u32],
+    s: u32,
+    places: usize,
+    first: u32,
+    last: u32,
+    e: u32,
+) -> bool
+    requires { ⌜ Shelved (now w) (now x) places ⌝ }
+    requires { ⌜ (s ≤ length (now y)) × (0 < e) × (e ≤ entries# s (now y)) ⌝ }
+    ensures { λ r. ⌜ Calm (now (w .entry)) (now (x .entry)) s (now (y .entry)) first last e r ⌝ }
+{
+    let i = stop_calls::entry_word(y, s, 1, e);
+    let p = stop_calls::entry_word(y, s, 3, e);
+    board_runs::is_quiet(w, x, places, first, last, i, p)
 }
 
 // ---- counted
@@ -63,8 +192,9 @@ fn count_board(w: &[u32], x: &[u32], y: &[u32], n: u32, k: u32, first: u32, last
     let s = w[STOPS_AT];
     let end = stops_end(w);
     let from = stops_from(w);
+    let places = index::services_from(w);
     let c = stop_calls::first_call(w, x, y, end, s, from, n, most_calls(w[USED_AT]));
-    count_from(w, x, y, end, s, from, n, k, first, last, c)
+    count_from(w, x, y, end, s, from, places, n, k, first, last, c)
 }
 
 // From a cursor on.
@@ -75,13 +205,14 @@ fn count_from(
     end: usize,
     s: u32,
     from: usize,
+    places: usize,
     n: u32,
     k: u32,
     first: u32,
     last: u32,
     start: Cursor,
 ) -> usize
-    requires { ⌜ Along (now w) (now x) (now y) end s from × (k < mostPeriodDays) ⌝ }
+    requires { ⌜ Along (now w) (now x) (now y) end s from × Shelved (now w) (now x) places × (k < mostPeriodDays) ⌝ }
     requires { ⌜ On (now y) s start ⌝ }
     requires { ⌜ length (leftDepartures (now w) (now x) (now y) end s from n k first last start) ≤ most ⌝ }
     ensures { λ r. ⌜ r ≡ length (leftDepartures (now (w .entry)) (now (x .entry)) (now (y .entry)) end s from n k first last start) ⌝ }
@@ -89,7 +220,7 @@ fn count_from(
     let mut c = start;
     let mut total: usize = 0;
     while c.call != 0 {
-        total += count_call(w, x, y, s, n, k, first, last, c.call);
+        total += count_call(w, x, y, s, places, n, k, first, last, c.call);
         c = stop_calls::next_call(w, x, y, end, s, from, n, c.call, c.stop, c.left);
     }
     total
@@ -101,16 +232,20 @@ fn count_call(
     x: &[u32],
     y: &[u32],
     s: u32,
+    places: usize,
     n: u32,
     k: u32,
     first: u32,
     last: u32,
     e: u32,
 ) -> usize
-    requires { ⌜ Ready (now w) (now x) × (k < mostPeriodDays) ⌝ }
+    requires { ⌜ Shelved (now w) (now x) places × (k < mostPeriodDays) ⌝ }
     requires { ⌜ (s ≤ length (now y)) × (0 < e) × (e ≤ entries# s (now y)) ⌝ }
     ensures { λ r. ⌜ r ≡ length (entryDepartures (viewIn (now (w .entry)) (now (x .entry))) s (now (y .entry)) n k first last e) ⌝ }
 {
+    if gives_none(w, x, y, s, places, first, last, e) {
+        return 0;
+    }
     let b = call_batch(w, x, y, s, n, k, first, last, e);
     board_runs::batch_size(b)
 }
@@ -138,7 +273,7 @@ fn call_batch(
 
 // ---- written
 
-// Writes their rows, in the order in which they are met.
+// Writes their rows, in the order in which they are met, and says how many they are.
 fn put_board(
     w: &[u32],
     x: &[u32],
@@ -148,19 +283,21 @@ fn put_board(
     first: u32,
     last: u32,
     list: &mut [u32],
-)
+) -> usize
     requires { ⌜ Lends (now w) (now x) (now y) × (k < mostPeriodDays) ⌝ }
     requires { ⌜ boardRowSize * length (departuresBy (now w) (now x) (now y) n k first last) ≤ length (now list) ⌝ }
-    ensures { λ _. ⌜ now (list .exit) ≡ write (now (list .entry)) 0 (gathered boardRowWords (departuresBy (now (w .entry)) (now (x .entry)) (now (y .entry)) n k first last)) ⌝ }
+    ensures count { λ r. ⌜ r ≡ length (departuresBy (now (w .entry)) (now (x .entry)) (now (y .entry)) n k first last) ⌝ }
+    ensures words { λ _. ⌜ now (list .exit) ≡ write (now (list .entry)) 0 (gathered boardRowWords (departuresBy (now (w .entry)) (now (x .entry)) (now (y .entry)) n k first last)) ⌝ }
 {
     let s = w[STOPS_AT];
     let end = stops_end(w);
     let from = stops_from(w);
+    let places = index::services_from(w);
     let c = stop_calls::first_call(w, x, y, end, s, from, n, most_calls(w[USED_AT]));
-    put_from(w, x, y, end, s, from, n, k, first, last, c, list);
+    put_from(w, x, y, end, s, from, places, n, k, first, last, c, list) / ROW_WORDS
 }
 
-// From a cursor on.
+// From a cursor on, and says where the rows end.
 fn put_from(
     w: &[u32],
     x: &[u32],
@@ -168,24 +305,27 @@ fn put_from(
     end: usize,
     s: u32,
     from: usize,
+    places: usize,
     n: u32,
     k: u32,
     first: u32,
     last: u32,
     start: Cursor,
     list: &mut [u32],
-)
-    requires { ⌜ Along (now w) (now x) (now y) end s from × (k < mostPeriodDays) ⌝ }
+) -> usize
+    requires { ⌜ Along (now w) (now x) (now y) end s from × Shelved (now w) (now x) places × (k < mostPeriodDays) ⌝ }
     requires { ⌜ On (now y) s start ⌝ }
     requires { ⌜ boardRowSize * length (leftDepartures (now w) (now x) (now y) end s from n k first last start) ≤ length (now list) ⌝ }
-    ensures { λ _. ⌜ now (list .exit) ≡ write (now (list .entry)) 0 (gathered boardRowWords (leftDepartures (now (w .entry)) (now (x .entry)) (now (y .entry)) end s from n k first last start)) ⌝ }
+    ensures end { λ r. ⌜ r ≡ boardRowSize * length (leftDepartures (now (w .entry)) (now (x .entry)) (now (y .entry)) end s from n k first last start) ⌝ }
+    ensures words { λ _. ⌜ now (list .exit) ≡ write (now (list .entry)) 0 (gathered boardRowWords (leftDepartures (now (w .entry)) (now (x .entry)) (now (y .entry)) end s from n k first last start)) ⌝ }
 {
     let mut c = start;
     let mut to: usize = 0;
     while c.call != 0 {
-        to = put_call(w, x, y, s, n, k, first, last, c.call, list, to);
+        to = put_call(w, x, y, s, places, n, k, first, last, c.call, list, to);
         c = stop_calls::next_call(w, x, y, end, s, from, n, c.call, c.stop, c.left);
     }
+    to
 }
 
 // From call e, and says where the rows end.
@@ -194,6 +334,7 @@ fn put_call(
     x: &[u32],
     y: &[u32],
     s: u32,
+    places: usize,
     n: u32,
     k: u32,
     first: u32,
@@ -202,12 +343,15 @@ fn put_call(
     list: &mut [u32],
     to: usize,
 ) -> usize
-    requires { ⌜ Ready (now w) (now x) × (k < mostPeriodDays) ⌝ }
+    requires { ⌜ Shelved (now w) (now x) places × (k < mostPeriodDays) ⌝ }
     requires { ⌜ (s ≤ length (now y)) × (0 < e) × (e ≤ entries# s (now y)) ⌝ }
     requires { ⌜ to + boardRowSize * length (entryDepartures (viewIn (now w) (now x)) s (now y) n k first last e) ≤ length (now list) ⌝ }
     ensures end { λ r. ⌜ r ≡ to + boardRowSize * length (entryDepartures (viewIn (now (w .entry)) (now (x .entry))) s (now (y .entry)) n k first last e) ⌝ }
     ensures words { λ _. ⌜ now (list .exit) ≡ write (now (list .entry)) to (gathered boardRowWords (entryDepartures (viewIn (now (w .entry)) (now (x .entry))) s (now (y .entry)) n k first last e)) ⌝ }
 {
+    if gives_none(w, x, y, s, places, first, last, e) {
+        return to;
+    }
     let b = call_batch(w, x, y, s, n, k, first, last, e);
     board_runs::put_batch(list, to, b)
 }

@@ -1,11 +1,11 @@
 -- What the numbers of a span mean: `has-below`, `within-runs`, and `span-runs`, which a board stands on. Assumes nothing.
-use mathlib.Core.Path.{_≡_, refl, sym, _∙_}
+use mathlib.Core.Path.{_≡_, refl, ap, sym, _∙_}
 use mathlib.Core.Bool.{Bool, true, false, cond, _&&_}
-use Prim.Native.Nat.{ℕ, _+_, _-_, _*_, _/_, _≤_}
-use native.Mathlib.Nat.{le-div-iff-mul-le, mul-zero, div-le-self}
+use Prim.Native.Nat.{ℕ, _+_, _-_, _*_, _/_, _≤_, _<_}
+use native.Mathlib.Nat.{le-div-iff-mul-le, mul-zero, zero-div, div-le-self}
 use native.Mathlib.Omega.{arith}
 use lib.Dec.{ltb, leb, eqb}
-use borrow.Author.Tests.{eq-eqb, ne-eqb, lt-ltb, le-leb, ltb-true, leb-true}
+use borrow.Author.Tests.{eq-eqb, ne-eqb, lt-ltb, le-leb, lt-leb, ltb-true, leb-true}
 use Rattle.base.proofs.Laws.{clash, by-ltb, by-leb, by-eqb}
 use Rattle.base.proofs.Loops.{and-true}
 use Rattle.timetable.specs.Layout.{kindZ, kindT, mostRepeats, mostRunning}
@@ -196,3 +196,26 @@ module _ (o : Opening) (s : openingSound o ≡ true) where
 
   pub end-few : (d u : ℕ) → endRun o d u ≤ mostRuns
   end-few d u = omega (arith, end-runs d u, few-runs)
+
+-- ---- a service that runs once is never late
+
+module _ (o : Opening) (z : o .repeats ≡ 0) where
+  none-later : (x : ℕ) → less (o .repeats) x ≡ 0
+  none-later x = omega (arith, less-is (o .repeats) x .left)
+
+  within-once : (x : ℕ) → runsWithin o x ≡ 1
+  unfolding runsWithin
+  within-once x = go (eqb (o .kind) kindT) (eqb (o .offset) 0)
+    where
+      go : (a b : Bool) → cond a (60 * less (runningTime o) x / density o + 1) (cond b (o .repeats + 1) (less (o .repeats) (x / o .offset) + 1)) ≡ 1
+      go true b = rw (none-later x) (ap (λ (m : ℕ). m + 1) (zero-div (density o)))
+      go false true = rw z
+      go false false = rw (none-later (x / o .offset))
+
+  pub once-before : (d t : ℕ) → d < t → firstRun o d t ≡ 1
+  unfolding firstRun
+  once-before d t h = rw (lt-leb t d h) (within-once (t - d - 1))
+
+  pub once-end : (d u : ℕ) → endRun o d u ≤ 1
+  unfolding endRun
+  once-end d u = by-ltb (λ t. cond t 0 (runsWithin o (u - d)) ≤ 1) u d (λ l. omega arith) (λ l. omega (arith, within-once (u - d)))

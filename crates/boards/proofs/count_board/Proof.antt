@@ -11,6 +11,9 @@ stops-end-requires c κs = search wholes
 stops-from-requires : tie.Need-stops-from-requires
 stops-from-requires c κs = search wholes
 
+services-from-requires : tie.Need-services-from-requires
+services-from-requires c κs = search wholes
+
 shared-slice-read-most-calls : tie.Need-shared-slice-read-most-calls
 shared-slice-read-most-calls c = search wholes
 
@@ -21,7 +24,7 @@ first-call-requires : tie.Need-first-call-requires
 first-call-requires c κs = (search wholes, search wholes)
 
 count-from-requires : tie.Need-count-from-requires
-count-from-requires c κs = ((search wholes, search wholes), (search wholes, search wholes))
+count-from-requires c κs = ((search wholes, search wholes, search wholes), (search wholes, search wholes))
 
 returns : tie.Need-returns
 returns c = (search wholes, search wholes)
@@ -33,6 +36,7 @@ count-board-spec =
     shared-slice-read-s
     stops-end-requires
     stops-from-requires
+    services-from-requires
     shared-slice-read-most-calls
     most-calls-requires
     first-call-requires

@@ -8,11 +8,11 @@ use Rattle.boards.proofs.count_from.Statement.{statement}
 use Rattle.boards.proofs.count_from.Tie as tie
 
 abbrev Inv-loop : tie.InvT-loop
-Inv-loop w x y end s from n k first last c₀ total₀ c total =
+Inv-loop w x y end s from places n k first last c₀ total₀ c total =
     On y s c × (total + length (leftDepartures w x y end s from n k first last c) ≡ length (leftDepartures w x y end s from n k first last c₀))
 
 abbrev μ-loop : tie.MeasureT-loop
-μ-loop w x y end s from n k first last c₀ total₀ c total = length (leftAt w x y end s from n c)
+μ-loop w x y end s from places n k first last c₀ total₀ c total = length (leftAt w x y end s from n c)
 
 loop-holds : tie.Need-loop-holds Inv-loop μ-loop
 loop-holds c = search counts

@@ -2,26 +2,23 @@ use Rattle.boards.proofs.Needs.{lists}
 use Rattle.boards.proofs.list_board.Statement.{statement}
 use Rattle.boards.proofs.list_board.Tie as tie
 
-count-board-requires : tie.Need-count-board-requires
-count-board-requires c κs = search lists
+has-room-requires : tie.Need-has-room-requires
+has-room-requires c κs = search lists
 
-mul-if1 : tie.Need-mul-if1
-mul-if1 c = search lists
+list-all-requires : tie.Need-list-all-requires
+list-all-requires c κs = search lists
 
-mul-t13 : tie.Need-mul-t13
-mul-t13 c = search lists
+same-length : tie.Need-same-length
+same-length c = search lists
 
 returns : tie.Need-returns
 returns c = search lists
 
-put-board-requires : tie.Need-put-board-requires
-put-board-requires c κs = search lists
+list-counted-requires : tie.Need-list-counted-requires
+list-counted-requires c κs = search lists
 
-sort-rows-requires : tie.Need-sort-rows-requires
-sort-rows-requires c κs = search lists
-
-same-length : tie.Need-same-length
-same-length c = search lists
+same-length-2 : tie.Need-same-length-2
+same-length-2 c = search lists
 
 returns-2 : tie.Need-returns-2
 returns-2 c = search lists
@@ -30,11 +27,10 @@ pub list-board-spec : {M : Type 1} → statement M
 list-board-spec =
     tie.close
     (tie.spec
-    count-board-requires
-    mul-if1
-    mul-t13
-    returns
-    put-board-requires
-    sort-rows-requires
+    has-room-requires
+    list-all-requires
     same-length
+    returns
+    list-counted-requires
+    same-length-2
     returns-2)

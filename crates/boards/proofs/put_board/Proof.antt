@@ -11,6 +11,9 @@ stops-end-requires c κs = search wholes
 stops-from-requires : tie.Need-stops-from-requires
 stops-from-requires c κs = search wholes
 
+services-from-requires : tie.Need-services-from-requires
+services-from-requires c κs = search wholes
+
 shared-slice-read-most-calls : tie.Need-shared-slice-read-most-calls
 shared-slice-read-most-calls c = search wholes
 
@@ -21,7 +24,7 @@ first-call-requires : tie.Need-first-call-requires
 first-call-requires c κs = (search wholes, search wholes)
 
 put-from-requires : tie.Need-put-from-requires
-put-from-requires c κs = ((search wholes, search wholes), (search wholes, search wholes))
+put-from-requires c κs = ((search wholes, search wholes, search wholes), (search wholes, search wholes))
 
 same-length : tie.Need-same-length
 same-length c = search wholes
@@ -36,6 +39,7 @@ put-board-spec =
     shared-slice-read-s
     stops-end-requires
     stops-from-requires
+    services-from-requires
     shared-slice-read-most-calls
     most-calls-requires
     first-call-requires

@@ -2,6 +2,12 @@ use Rattle.boards.proofs.Needs.{one}
 use Rattle.boards.proofs.put_call.Statement.{statement}
 use Rattle.boards.proofs.put_call.Tie as tie
 
+gives-none-requires : tie.Need-gives-none-requires
+gives-none-requires c κs = search one
+
+returns : tie.Need-returns
+returns c = search one
+
 call-batch-requires : tie.Need-call-batch-requires
 call-batch-requires c κs = search one
 
@@ -11,8 +17,16 @@ put-batch-requires c κs = search one
 same-length : tie.Need-same-length
 same-length c = search one
 
-returns : tie.Need-returns
-returns c = search one
+returns-2 : tie.Need-returns-2
+returns-2 c = search one
 
 pub put-call-spec : {M : Type 1} → statement M
-put-call-spec = tie.close (tie.spec call-batch-requires put-batch-requires same-length returns)
+put-call-spec =
+    tie.close
+    (tie.spec
+    gives-none-requires
+    returns
+    call-batch-requires
+    put-batch-requires
+    same-length
+    returns-2)

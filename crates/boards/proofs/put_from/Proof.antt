@@ -6,10 +6,10 @@ use Rattle.boards.proofs.put_from.Statement.{statement}
 use Rattle.boards.proofs.put_from.Tie as tie
 
 abbrev Inv-loop : tie.InvT-loop
-Inv-loop w x y end s from n k first last list₀ c₀ to₀ list c to = Putting w x y end s from n k first last list₀ c₀ list c to
+Inv-loop w x y end s from places n k first last list₀ c₀ to₀ list c to = Putting w x y end s from n k first last list₀ c₀ list c to
 
 abbrev μ-loop : tie.MeasureT-loop
-μ-loop w x y end s from n k first last list₀ c₀ to₀ list c to = length (leftAt w x y end s from n c)
+μ-loop w x y end s from places n k first last list₀ c₀ to₀ list c to = length (leftAt w x y end s from n c)
 
 loop-holds : tie.Need-loop-holds Inv-loop μ-loop
 loop-holds c = search puts
