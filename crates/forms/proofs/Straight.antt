@@ -1,4 +1,4 @@
--- A form read row by row: what each step asks, and the usual lines of BITFELD, BAHNHOF and UMSTEIGB. For callers: `step-next`, `step-gap`,
+-- A form read row by row: what each step asks, and the usual lines of BITFELD, BAHNHOF, UMSTEIGB and ZUGART. For callers: `step-next`, `step-gap`,
 -- `step-wide` (a row behind none, one or several columns that no field names), `end-fit`, `fit`. Assumes nothing.
 use mathlib.Core.Path.{_≡_, refl, ap, sym, _∙_}
 use mathlib.Core.List.{List, [], _∷_}
@@ -13,8 +13,8 @@ use Rattle.columns.specs.Columns.{padTo, columns, column, isBlank, isHex, blank
 use Rattle.columns.specs.declared.ByteClass.the-variants.{Byte}
 use Rattle.forms.specs.Form.{mostFileBytes, FieldRule, hasForm, formOf, isFit, before, brokenUnless, strayFrom, unnamed, rowForm, formFrom}
 use Rattle.forms.specs.Form as Fm
-use Rattle.forms.specs.Columns.{bitFieldColumns, stopColumns, interchangeColumns, columnsOf}
-use Rattle.forms.specs.Inner.Usual.{bitFieldFits, stopFits, interchangeFits}
+use Rattle.forms.specs.Columns.{bitFieldColumns, stopColumns, interchangeColumns, classColumns, columnsOf}
+use Rattle.forms.specs.Inner.Usual.{bitFieldFits, stopFits, interchangeFits, classFits, tariffFits, supplementFits}
 use Rattle.forms.specs.declared.LineKind.{LineKind}
 use Rattle.forms.specs.declared.Form.{Form}
 use Rattle.forms.specs.declared.Form.the-variants.{Fits, Broken as BrokenForm}
@@ -146,6 +146,33 @@ interchange-same l h =
     (step-gap 10 (Fm.fieldRule 12 13 (Fm.aCount 99)) (Fm.restRule 15 Fm.free ∷ []) l _ refl
     (step-gap 13 (Fm.restRule 15 Fm.free) [] l true refl (end-fit mostFileBytes l h) ∙ and-one _)))
 
+-- the rows of a class line from its output text on, from its tariff group on, and all
+abbrev fromText : List FieldRule
+fromText = Fm.fieldRule 12 19 Fm.free ∷ Fm.columnRule 21 (Fm.aCount 2) ∷ Fm.columnRule 23 (Fm.orBlank Fm.transportFlag) ∷ Fm.restRule 25 Fm.free ∷ []
+
+abbrev fromTariff : List FieldRule
+fromTariff = Fm.columnRule 8 (Fm.orBlank (Fm.letterTo 72)) ∷ Fm.columnRule 10 (Fm.aCount 7) ∷ fromText
+
+supplement-same : (l : List ℕ) → length l ≤ mostFileBytes → isFit (formFrom 10 fromText l) ≡ (isBlank (column 11 l) && supplementFits l)
+unfolding supplementFits
+supplement-same l h =
+    step-gap 10 (Fm.fieldRule 12 19 Fm.free) (Fm.columnRule 21 (Fm.aCount 2) ∷ Fm.columnRule 23 (Fm.orBlank Fm.transportFlag) ∷ Fm.restRule 25 Fm.free ∷ []) l _ refl
+    (step-gap 19 (Fm.columnRule 21 (Fm.aCount 2)) (Fm.columnRule 23 (Fm.orBlank Fm.transportFlag) ∷ Fm.restRule 25 Fm.free ∷ []) l _ refl
+    (step-gap 21 (Fm.columnRule 23 (Fm.orBlank Fm.transportFlag)) (Fm.restRule 25 Fm.free ∷ []) l _ refl
+    (step-gap 23 (Fm.restRule 25 Fm.free) [] l true refl (end-fit mostFileBytes l h) ∙ and-one _)))
+
+tariff-same : (l : List ℕ) → length l ≤ mostFileBytes → isFit (formFrom 6 fromTariff l) ≡ (isBlank (column 7 l) && tariffFits l)
+unfolding tariffFits
+tariff-same l h =
+    step-gap 6 (Fm.columnRule 8 (Fm.orBlank (Fm.letterTo 72))) (Fm.columnRule 10 (Fm.aCount 7) ∷ fromText) l _ refl
+    (step-gap 8 (Fm.columnRule 10 (Fm.aCount 7)) fromText l _ refl (supplement-same l h))
+
+class-same : (l : List ℕ) → length l ≤ mostFileBytes → hasForm classColumns l ≡ classFits l
+unfolding classFits
+class-same l h =
+    step-next 0 (Fm.fieldRule 1 3 Fm.firstNotBlank) (Fm.fieldRule 5 6 (Fm.aCount 13) ∷ fromTariff) l _ refl
+    (step-gap 3 (Fm.fieldRule 5 6 (Fm.aCount 13)) fromTariff l _ refl (tariff-same l h))
+
 -- ---- for `search usual`: t is what the columns said, u what is answered
 
 module _ (l : List ℕ) (t : Bool) where
@@ -158,6 +185,9 @@ module _ (l : List ℕ) (t : Bool) where
   pub interchange-usual : length l ≤ mostFileBytes → t ≡ interchangeFits l → t ≡ true → formOf interchangeColumns l ≡ Fits
   interchange-usual h e y = fit (formOf interchangeColumns l) (interchange-same l h ∙ sym e ∙ y)
 
+  pub class-usual : length l ≤ mostFileBytes → t ≡ classFits l → t ≡ true → formOf classColumns l ≡ Fits
+  class-usual h e y = fit (formOf classColumns l) (class-same l h ∙ sym e ∙ y)
+
 pub not-usual : (f : Form) → false ≡ true → f ≡ Fits
 not-usual f e = clash e
 
@@ -167,4 +197,4 @@ of-usual l kind k t e v y = rw e (v y)
 pub is-usual : (f : Form) (t : Bool) → t ≡ true → (t ≡ true → f ≡ Fits) → Fits ≡ f
 is-usual f t y v = sym (v y)
 
-pub ruleset usual = (tests, bit-field-usual, stop-usual, interchange-usual, not-usual, of-usual, is-usual)
+pub ruleset usual = (tests, bit-field-usual, stop-usual, interchange-usual, class-usual, not-usual, of-usual, is-usual)

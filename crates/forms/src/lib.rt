@@ -25,9 +25,9 @@ ghost use Rattle.columns.specs.Columns as C;
 ghost use Rattle.columns.specs.Columns.{isOf, isBlank, blank};
 ghost use Rattle.forms.specs.Form.{aDate, isTime, isEnd, isStop, isDetail, detailOf, offsetOf, fromOne, orBlank, letterTo, transportFlag, unnamed, rowForm, formOf};
 ghost use Rattle.forms.specs.Inner.Rows.{ruleOf, toOf, rowOf, rowsOf};
-ghost use Rattle.forms.specs.Columns.{bitFieldColumns, stopColumns, interchangeColumns, columnsOf};
+ghost use Rattle.forms.specs.Columns.{bitFieldColumns, stopColumns, interchangeColumns, classColumns, columnsOf};
 ghost use Rattle.forms.specs.declared.Form.the-variants.{Fits};
-ghost use Rattle.forms.specs.Inner.Usual.{bitFieldFits, stopFits, interchangeFits};
+ghost use Rattle.forms.specs.Inner.Usual.{bitFieldFits, stopFits, interchangeFits, classFits, tariffFits, supplementFits};
 ghost use Rattle.forms.specs.Kinds.{starred, kindOf};
 
 // Which kind a line of FPLAN is.
@@ -284,7 +284,7 @@ fn tabled_form(kind: LineKind, line: &[u8]) -> Form
     }
 }
 
-// ---- usual lines of BITFELD, BAHNHOF and UMSTEIGB are tested column by column: with the length known, each test is a few loads at fixed places.
+// ---- usual lines of BITFELD, BAHNHOF, UMSTEIGB and ZUGART are tested column by column: with the length known, each test is a few loads at fixed places.
 // Where a test fails, the table of columns says which column is broken. Lines of FPLAN are read so in `told`.
 
 // Whether a line is seen to have the form of a kind without its table.
@@ -296,7 +296,7 @@ fn usual_form(kind: LineKind, line: &[u8]) -> bool
         LineKind::BitField => usual_bit_field(line),
         LineKind::Stop => usual_stop(line),
         LineKind::Interchange => usual_interchange(line),
-        LineKind::CategoryClass => false,
+        LineKind::CategoryClass => usual_class(line),
         LineKind::Opening => false,
         LineKind::Frequency => false,
         LineKind::Category => false,
@@ -382,6 +382,65 @@ fn interchange_fits(line: &[u8]) -> bool
                     if columns::count_in(line, interchange::SECOND, interchange::SECOND_END, 99) {
                         return blank_at(line, 14);
                     }
+                }
+            }
+        }
+    }
+    false
+}
+
+fn usual_class(line: &[u8]) -> bool
+    ensures { λ r. ⌜ (r ≡ true → formOf classColumns (now (line .entry)) ≡ Fits) ⌝ }
+{
+    if line.len() < class::SUPPLEMENT {
+        return false;
+    }
+    if line.len() <= MOST_FILE_BYTES {
+        return class_fits(line);
+    }
+    false
+}
+
+fn class_fits(line: &[u8]) -> bool
+    ensures { λ r. ⌜ r ≡ classFits (now (line .entry)) ⌝ }
+{
+    if first_filled(line, class::CODE, class::CODE_END) {
+        if blank_at(line, 4) {
+            if columns::count_in(line, class::NUMBER, class::NUMBER_END, 13) {
+                if blank_at(line, 7) {
+                    return tariff_fits(line);
+                }
+            }
+        }
+    }
+    false
+}
+
+// From the tariff group on.
+fn tariff_fits(line: &[u8]) -> bool
+    ensures { λ r. ⌜ r ≡ tariffFits (now (line .entry)) ⌝ }
+{
+    if letter_or_blank(line, class::TARIFF, class::TARIFF, b'H' as u32) {
+        if blank_at(line, 9) {
+            if columns::count_in(line, class::CONTROL, class::CONTROL, 7) {
+                if blank_at(line, 11) {
+                    return supplement_fits(line);
+                }
+            }
+        }
+    }
+    false
+}
+
+// From the supplement on.
+fn supplement_fits(line: &[u8]) -> bool
+    ensures { λ r. ⌜ r ≡ supplementFits (now (line .entry)) ⌝ }
+{
+    if blank_at(line, 20) {
+        if columns::count_in(line, class::SUPPLEMENT, class::SUPPLEMENT, 2) {
+            if blank_at(line, 22) {
+                if flag_or_blank(line, class::FLAG, class::FLAG) {
+                    return blank_at(line, 24);
                 }
             }
         }

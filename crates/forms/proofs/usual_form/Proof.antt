@@ -26,6 +26,9 @@ usual-interchange-requires c κs = search usual
 enum-told-5 : tie.Need-enum-told-5
 enum-told-5 c = search usual
 
+usual-class-requires : tie.Need-usual-class-requires
+usual-class-requires c κs = search usual
+
 enum-told-6 : tie.Need-enum-told-6
 enum-told-6 c = search usual
 
@@ -83,6 +86,7 @@ usual-form-spec =
     enum-told-4
     usual-interchange-requires
     enum-told-5
+    usual-class-requires
     enum-told-6
     enum-told-7
     enum-told-8
