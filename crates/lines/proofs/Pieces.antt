@@ -9,7 +9,7 @@ use native.Mathlib.Decide.{decLt}
 use lib.ListN.{length, getD, take, drop, drop-of-length-le, length-drop}
 use lib.Seq.{drop-cons, drop-drop, getD-drop, getD-take, length-take-le, take-all}
 use lib.Dec.{eqb, leb, lit≤}
-use borrow.Author.Tests.{eq-eqb, ne-eqb, eqb-true, le-leb, lt-leb, leb-true}
+use borrow.Author.Tests.{eq-eqb, ne-eqb, eqb-true, lt-ltb, le-leb, lt-leb, leb-true}
 use Rattle.base.proofs.Laws.{tests, by-eqb, by-leb}
 use Rattle.base.specs.Lists.{every}
 use Rattle.columns.specs.Columns.{column, padTo, isOf}
@@ -216,6 +216,10 @@ module _ (f : List ℕ) (at end : ℕ) (e : end ≡ at + toLF (drop at f)) where
   cut-is stop next n s x =
       let d : end - at ≡ toLF (drop at f) = omega arith in
       rw (s, x, d, e)
+
+-- an empty line
+pub cut-empty : (f : List ℕ) (at n : ℕ) → at < length f → getD f at 0 ≡ 10 → _≡_ {A = Cut} (record { stop = at; next = at + 1; no = n + 1 }) (cutAt f at n)
+cut-empty f at n h b = cut-is f at at (omega (arith, toLF-here f at h b)) at (at + 1) n (cr-empty f at at (omega arith) (omega arith)) (rw (lt-ltb at (length f) h) refl)
 
 pub ruleset cuts = (tests, end-again, end-out, end-done, cr-dropped, cr-none, cr-empty, end-low, end-high, cut-is)
 

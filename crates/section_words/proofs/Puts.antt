@@ -4,19 +4,21 @@ use mathlib.Core.List.{List, [], _∷_, _++_}
 use Prim.Native.Nat.{ℕ, _+_, _-_, _≤_, _<_}
 use native.Mathlib.Nat.{add-zero}
 use native.Mathlib.Omega.{arith}
-use lib.ListN.{length, take, drop, set, length-append, length-set}
+use lib.ListN.{length, getD, take, drop, set, length-append, length-set}
 use Rattle.base.specs.Lists.{gathered}
 use Rattle.base.proofs.Laws.{len-trans, tests}
 use Rattle.columns.specs.Columns.{columns, number}
 use Rattle.lines.specs.Lines.{linesAt, cutAt}
 use Rattle.lines.specs.declared.Cut.{Cut}
 use Rattle.lines.proofs.Laws.{cutting, lines-none, walk}
+use Rattle.lines.proofs.Pieces.{cut-empty}
 use Rattle.bitfield.specs.BitField.{bitWords, bitsIn}
 use Rattle.words.specs.Words.{write}
 use Rattle.words.proofs.Laws.{write-none, write-one, write-write}
 use Rattle.timetable.specs.Layout.{mostFileBytes, bitFieldSize, stopSize, interchangeSize, classSize}
 use Rattle.timetable.specs.Files.{nameLength}
 use Rattle.sections.specs.Inner.Sections.{numberOn}
+use Rattle.sections.proofs.Held.{empty-skipped}
 use Rattle.sections.specs.declared.Section.{Section}
 use Rattle.sections.specs.declared.Section.the-variants.{BitFields, Stops, Interchanges, Classes}
 use Rattle.sections.specs.declared.Numbered.{Numbered}
@@ -157,6 +159,19 @@ module _ (f : List ℕ) (at no : ℕ) (r : Cut) (h : at < length f) (e : r ≡ c
           → write t′ q′ (sectionWords s (linesAt f (r .next) (r .no))) ≡ w
       put-again t′ w k v = rw (k, next) (write-write t q here after put-room ∙ sym (ap (write t q) words-step) ∙ v)
 
+-- an empty line, passed at once
+module _ (f : List ℕ) (at no : ℕ) (h : at < length f) (b : getD f at 0 ≡ 10) (s : Section) (q : ℕ) where
+  empty-words : sectionWords s (linesAt f at no) ≡ sectionWords s (linesAt f (at + 1) (no + 1))
+  empty-words =
+      words-step f at no _ h (cut-empty f at no h b) s
+      ∙ ap (λ (ws : List ℕ). ws ++ sectionWords s (linesAt f (at + 1) (no + 1))) (words-skipped s at (take (at - at) (drop at f)) Skipped (empty-skipped s f at) refl)
+
+  pub empty-count : (m : ℕ) → q + length (sectionWords s (linesAt f at no)) ≡ m → q + length (sectionWords s (linesAt f (at + 1) (no + 1))) ≡ m
+  empty-count m v = rw empty-words at v
+
+  pub empty-again : (t w : List ℕ) → write t q (sectionWords s (linesAt f at no)) ≡ w → write t q (sectionWords s (linesAt f (at + 1) (no + 1))) ≡ w
+  empty-again t w v = rw empty-words at v
+
 module _ (f : List ℕ) (at no : ℕ) (h : length f ≤ at) (s : Section) (q : ℕ) where
   pub put-last : (m : ℕ) → q + length (sectionWords s (linesAt f at no)) ≡ m → q ≡ m
   unfolding sectionWords gathered
@@ -167,3 +182,5 @@ module _ (f : List ℕ) (at no : ℕ) (h : length f ≤ at) (s : Section) (q : �
   put-done t w v = sym (write-none t q) ∙ (rw (lines-none f at no h) at v)
 
 pub ruleset section-puts = (tests, walk, start-small, number-small, put-room, put-count, put-again, put-last, put-done, len-trans)
+
+pub ruleset empty-puts = (tests, empty-count, empty-again)

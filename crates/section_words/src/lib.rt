@@ -20,7 +20,7 @@ ghost use Rattle.timetable.specs.Layout.{mostFileBytes, bitFieldSize, stopSize,
 ghost use Rattle.timetable.specs.Files.{nameLength};
 ghost use Rattle.section_words.specs.Inner.Words.{wordsOn, sectionWords};
 
-// Writes the words of a section from place p on; the place after them.
+// Writes the words of a section from place p on; the place after them. Empty lines are passed at once.
 pub fn put_section(section: Section, f: &[u8], t: &mut [u32], p: usize) -> usize
     requires { ⌜ length (now f) ≤ mostFileBytes ⌝ }
     requires { ⌜ p + length (sectionWords section (linesOf (now f))) ≤ length (now t) ⌝ }
@@ -30,6 +30,11 @@ pub fn put_section(section: Section, f: &[u8], t: &mut [u32], p: usize) -> usize
     let mut no: u32 = 1;
     let mut q = p;
     while at < f.len() {
+        if f[at] == b'\n' {
+            at += 1;
+            no += 1;
+            continue;
+        }
         let cut = reader::line_from(f, at, no);
         let stop = cut.stop;
         q = put_line(section, &f[at..stop], at, t, q);

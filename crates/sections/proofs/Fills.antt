@@ -6,7 +6,7 @@ use mathlib.Core.Bool.{false}
 use Prim.Native.Nat.{ℕ, _+_, _*_, _-_, _≤_, _<_}
 use native.Mathlib.Nat.{sub-zero}
 use native.Mathlib.Omega.{arith}
-use lib.ListN.{length, take, drop, replicate, length-drop, drop-of-length-le}
+use lib.ListN.{length, getD, take, drop, replicate, length-drop, drop-of-length-le}
 use lib.Seq.{take-all, drop-at, length-take-le}
 use borrow.Rule.Slice.PartMut.{same-len-mid, take-put}
 use Rattle.base.specs.Lists.{gathered}
@@ -15,6 +15,7 @@ use Rattle.base.proofs.Lists.{gathered-append}
 use Rattle.lines.specs.Lines.{Line, linesOf, cutAt}
 use Rattle.lines.specs.declared.Cut.{Cut}
 use Rattle.lines.proofs.Laws.{lines-nil}
+use Rattle.lines.proofs.Pieces.{cut-empty}
 use Rattle.map.specs.Inner.Map.{mapRecordSize, wordValues, column, Chained, Added, Distinct}
 use Rattle.map.proofs.Puts.{empty-zeros}
 use Rattle.map.proofs.Meaning.{distinct-none, distinct-more}
@@ -31,7 +32,7 @@ use Rattle.sections.specs.Inner.SectionMap.{ifHeld, texts, Filled, Lent,
 use Rattle.sections.specs.declared.Section.{Section}
 use Rattle.sections.specs.declared.Numbered.{Numbered}
 use Rattle.sections.specs.declared.Numbered.the-variants.{Number, Skipped, Broken}
-use Rattle.sections.proofs.Held.{map-append}
+use Rattle.sections.proofs.Held.{map-append, empty-skipped}
 use Rattle.sections.proofs.Lookups.{own-part}
 use Rattle.sections.proofs.Bits.{text-some}
 use Rattle.sections.proofs.Offences.{record-unseen}
@@ -178,10 +179,22 @@ module _ (f : List ℕ) (at no : ℕ) (r : Cut) (h : at < length f) (e : r ≡ c
         };
       }
 
+-- an empty line, passed at once
+pub fill-empty : (s : Section) (f m₀ m : List ℕ) (split at line count : ℕ) → at < length f → getD f at 0 ≡ 10 → Walked f at line → Filling s f m₀ split at count m → Filling s f m₀ split (at + 1) count m
+fill-empty s f m₀ m split at line count h b w v =
+    fill-turn f at line _ h (cut-empty f at line h b) w s Skipped (empty-skipped s f at) 0 [] Fine refl m₀ m m split count count refl v (record {
+      same = refl;
+      front = refl;
+      counted = omega arith;
+      chained = v .filled .chained;
+      numbers-held = rw append-nil refl;
+      places-held = rw append-nil refl;
+    })
+
 pub fill-done : (s : Section) (f m₀ m : List ℕ) (split at count line : ℕ) → length f ≤ at → Filling s f m₀ split at count m → MapAfter s f (Holds count line) (drop split m)
 fill-done s f m₀ m split at count line h v = record { held = λ c n e. record { count = count; filled = rw (take-all at f h) at (v .filled) } }
 
 pub fill-refused : (s : Section) (f m : List ℕ) (o : Offence) → MapAfter s f (Refused o) m
 fill-refused s f m o = record { held = λ c n e. apart cc }
 
-pub ruleset fills = (tests, fill-first, fill-reached, fill-ready, fill-turn, fill-done, fill-refused)
+pub ruleset fills = (tests, fill-first, fill-reached, fill-ready, fill-turn, fill-empty, fill-done, fill-refused)

@@ -3,10 +3,10 @@ use mathlib.Core.Path.{_≡_, refl, ap, sym}
 use mathlib.Core.List.{List, [], _∷_, _++_, map}
 use mathlib.Core.Bool.{Bool, true, false, cond}
 use mathlib.Core.Option.{Option}
-use Prim.Native.Nat.{ℕ, _≤_}
+use Prim.Native.Nat.{ℕ, _-_, _≤_}
 use native.Mathlib.Omega.{arith}
-use lib.ListN.{length, length-append}
-use Rattle.base.specs.Lists.{gathered}
+use lib.ListN.{length, take, drop, length-append}
+use Rattle.base.specs.Lists.{every, gathered}
 use Rattle.columns.specs.Columns.{number}
 use Rattle.lines.specs.Lines.{Line, skipped, linesOf}
 use Rattle.lines.proofs.Laws.{lines-le}
@@ -53,6 +53,11 @@ pub by-number : {X : Type 0} (off : X → Option Offence) (own : ℕ → Option 
 by-number off own line true g x k e = refl
 by-number off own line false Fits x k e = e
 by-number off own line false (BrokenForm c) x k e = refl
+
+-- an empty line, as it stands in its file
+pub empty-skipped : (s : Section) (f : List ℕ) (at : ℕ) → Skipped ≡ numberOn s (take (at - at) (drop at f))
+unfolding numberOn skipped every
+empty-skipped s f at = let e : at - at ≡ 0 = omega arith in rw e refl
 
 pub map-append : {X Y : Type 0} (f : X → Y) (a b : List X) → map f (a ++ b) ≡ map f a ++ map f b
 map-append f [] b = refl

@@ -2,13 +2,17 @@
 use mathlib.Core.Path.{_≡_, refl, ap, sym, _∙_}
 use mathlib.Core.List.{List, [], _∷_, map}
 use mathlib.Core.Bool.{Bool, true, false, _||_}
-use Prim.Native.Nat.{ℕ, _-_}
-use native.Mathlib.Nat.{sub-zero}
+use Prim.Native.Nat.{ℕ, _-_, _≤_}
+use native.Mathlib.Nat.{sub-zero, div-one}
 use native.Mathlib.Omega.{arith}
 use lib.ListN.{length, take, drop, length-drop}
 use lib.Seq.{take-all}
+use lib.Dec.{lit≤}
 use Rattle.base.specs.Lists.{some-of}
 use Rattle.base.proofs.Laws.{tests}
+use Rattle.columns.specs.Columns.{columns, number}
+use Rattle.byte_words.specs.Inner.Words.{bytesOf}
+use Rattle.byte_words.proofs.Lines.{columns-word}
 use Rattle.lines.specs.Lines.{Line, skipped, linesOf}
 use Rattle.forms.specs.Form.{formOf}
 use Rattle.forms.specs.Columns.{columnsOf}
@@ -20,10 +24,11 @@ use Rattle.map.specs.declared.Found.{Found}
 use Rattle.map.specs.declared.Found.the-variants.{At, Nowhere}
 use Rattle.map.proofs.Meaning.{found-none, found-some}
 use Rattle.timetable.specs.Files.{held-in, bitFieldOf, stopOf, interchangeOf, classOf, hasField, hasStop, hasInterchange, hasClass}
-use Rattle.sections.specs.Inner.Sections.{lineKind, keyOn, numberOn, numbers, hasNumber}
+use Rattle.sections.specs.Inner.Sections.{lineKind, keyOn, numberedBy, numberOn, numbers, hasNumber}
 use Rattle.sections.specs.Inner.SectionMap.{Seen, MapOf, Reached}
 use Rattle.sections.specs.declared.Section.{Section}
 use Rattle.sections.specs.declared.Section.the-variants.{BitFields, Stops, Interchanges, Classes}
+use Rattle.sections.specs.declared.Numbered.{Numbered}
 use Rattle.sections.specs.declared.Numbered.the-variants.{Number, Skipped, Broken}
 use Rattle.sections.proofs.Held.{field-numbers, stop-numbers, interchange-numbers, class-numbers}
 
@@ -32,25 +37,42 @@ use Rattle.sections.proofs.Held.{field-numbers, stop-numbers, interchan
 pub key-is : (s t : Section) (text : List ℕ) (n : ℕ) → s ≡ t → n ≡ keyOn t text → n ≡ keyOn s text
 key-is s t text n e d = rw e d
 
--- t is whether the line is skipped, k the kind of its section's lines, g its form
+-- w are a line's first eight bytes, of which k are digits
+module _ (text : List ℕ) (w n : ℕ) (h : 8 ≤ length text) (e : bytesOf 8 w ≡ take 8 (drop 0 text)) where
+  first-columns : (k : ℕ) → k ≤ 8 → columns 1 k text ≡ bytesOf k w
+  first-columns k l = columns-word text 0 w e (omega arith) 0 k 1 k refl (omega arith) (omega arith) ∙ ap (bytesOf k) (div-one w)
+
+  pub six-is : n ≡ number (bytesOf 6 w) → n ≡ number (columns 1 6 text)
+  six-is d = d ∙ sym (ap number (first-columns 6 (lit≤ tt)))
+
+  pub seven-is : n ≡ number (bytesOf 7 w) → n ≡ number (columns 1 7 text)
+  seven-is d = d ∙ sym (ap number (first-columns 7 (lit≤ tt)))
+
+pub digits-are : (t u : Bool) → t ≡ u → t ≡ true → u ≡ true
+digits-are t u e y = sym e ∙ y
+
+-- t is whether the line is skipped, n what a line has that is not
 module _ (s : Section) (text : List ℕ) (t : Bool) (e : t ≡ skipped text) where
   pub number-skipped : t ≡ true → Skipped ≡ numberOn s text
   unfolding numberOn
   number-skipped y = rw (sym e ∙ y) refl
 
-  module _ (y : t ≡ false) (k : LineKind) (q : k ≡ lineKind s) (g : Form) (d : g ≡ formOf (columnsOf k) text) where
-    form-is : g ≡ formOf (columnsOf (lineKind s)) text
-    form-is = rw (← q) d
+  pub number-formed : (n : Numbered) → t ≡ false → n ≡ numberedBy (formOf (columnsOf (lineKind s)) text) (keyOn s text) → n ≡ numberOn s text
+  unfolding numberOn
+  number-formed n y d = rw (sym e ∙ y) d
 
-    pub number-broken : (c : ℕ) → g ≡ BrokenForm c → Broken c ≡ numberOn s text
-    unfolding numberOn
-    number-broken c z = rw (sym e ∙ y, sym form-is ∙ z) refl
+-- k is the kind of its section's lines, g its form
+module _ (s : Section) (text : List ℕ) (k : LineKind) (q : k ≡ lineKind s) (g : Form) (d : g ≡ formOf (columnsOf k) text) where
+  form-is : g ≡ formOf (columnsOf (lineKind s)) text
+  form-is = rw (← q) d
 
-    pub number-fits : (n : ℕ) → g ≡ Fits → n ≡ keyOn s text → Number n ≡ numberOn s text
-    unfolding numberOn
-    number-fits n z v = rw (sym e ∙ y, sym form-is ∙ z) (ap Number v)
+  pub number-broken : (c : ℕ) → g ≡ BrokenForm c → Broken c ≡ numberedBy (formOf (columnsOf (lineKind s)) text) (keyOn s text)
+  number-broken c z = rw (sym form-is ∙ z) refl
 
-pub ruleset numbering = (tests, key-is, number-skipped, number-broken, number-fits)
+  pub number-fits : (n : ℕ) → g ≡ Fits → n ≡ keyOn s text → Number n ≡ numberedBy (formOf (columnsOf (lineKind s)) text) (keyOn s text)
+  number-fits n z v = rw (sym form-is ∙ z) (ap Number v)
+
+pub ruleset numbering = (tests, key-is, six-is, seven-is, digits-are, number-skipped, number-formed, number-broken, number-fits)
 
 -- ---- a number looked up among the records of lines, for `search looks`: r is what the map answers
 

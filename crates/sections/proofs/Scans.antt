@@ -3,16 +3,17 @@
 use mathlib.Core.Path.{_≡_, refl, ap, sym, _∙_}
 use mathlib.Core.List.{List, [], _∷_, _++_, append-nil}
 use mathlib.Core.Option.{Option, none}
-use Prim.Native.Nat.{ℕ, suc, _+_, _-_, _≤_, _<_}
+use Prim.Native.Nat.{ℕ, suc, _+_, _-_, _≤_, _<_, _^_}
 use native.Mathlib.Nat.{zero-add, add-zero, sub-zero}
 use native.Mathlib.Omega.{arith}
-use lib.ListN.{length, take, drop, length-append}
+use lib.ListN.{length, getD, take, drop, length-append}
 use Rattle.base.specs.Lists.{gathered}
 use Rattle.base.proofs.Laws.{tests}
 use Rattle.base.proofs.Lists.{gathered-append}
 use Rattle.lines.specs.Lines.{Line, linesFrom, linesOf, cutAt}
 use Rattle.lines.specs.declared.Cut.{Cut}
 use Rattle.lines.proofs.Laws.{cutting, lines-none, lines-nil, cut-low, cut-high, cut-less}
+use Rattle.lines.proofs.Pieces.{cut-empty}
 use Rattle.timetable.specs.Layout.{mostFileBytes}
 use Rattle.timetable.specs.Delivery.{StopRecord}
 use Rattle.timetable.specs.Offences.{_<|>_, first, verdictBy, checkedBy}
@@ -26,6 +27,7 @@ use Rattle.sections.specs.Inner.Sections.{numberOn, asNumber, numbers, r
 use Rattle.sections.specs.declared.Section.{Section}
 use Rattle.sections.specs.declared.Numbered.{Numbered}
 use Rattle.sections.specs.declared.Numbered.the-variants.{Number, Skipped, Broken}
+use Rattle.sections.proofs.Held.{empty-skipped}
 use Rattle.sections.proofs.Walk.{Walked, walked-first, walked-number, walked-before, walked-next}
 
 -- ---- how many records lines have
@@ -110,4 +112,20 @@ module _ (f : List ℕ) (at no count : ℕ) (r : Cut) (h : at < length f) (e : r
     pub scan-again : (c′ : ℕ) → own ≡ Fine → c′ ≡ count + length (asNumber n) → scanFrom (lineOffence s days stops) s (linesOf (take (r .next) f)) c′ (r .no) (linesFrom (r .no) (r .next) (drop (r .next) f)) ≡ q
     scan-again c′ z d = rw (walked-before f at no w r h e, cutting f at no r h e .count) (sym (scan-turn (lineOffence s days stops) s (linesOf (take at f)) count no c′ here _ (verdict-fine _ own own-is z) (rw y at d)) ∙ rw (cutting f at no r h e .count) at turn)
 
-pub ruleset scans = (tests, cut-low, cut-high, cut-less, walked-first, walked-next, scan-first, count-first, place-inside, number-small, part-count, count-next, scan-out, scan-again, scan-done)
+-- an empty line, passed at once
+module _ (f : List ℕ) (at no : ℕ) (h : at < length f) (b : getD f at 0 ≡ 10) (w : Walked f at no) where
+  pub empty-walked : Walked f (at + 1) (no + 1)
+  empty-walked = walked-next f at no w _ h (cut-empty f at no h b)
+
+  pub empty-count : (s : Section) (count : ℕ) → count ≡ length (numbers s (linesOf (take at f))) → count ≡ length (numbers s (linesOf (take (at + 1) f)))
+  empty-count s count c = count-next f at no count _ h (cut-empty f at no h b) w s Skipped count c (empty-skipped s f at) (omega arith)
+
+  pub empty-scan : (s : Section) (count days : ℕ) (stops : List StopRecord) (q : Checked)
+      → scanFrom (lineOffence s days stops) s (linesOf (take at f)) count no (linesFrom no at (drop at f)) ≡ q
+      → scanFrom (lineOffence s days stops) s (linesOf (take (at + 1) f)) count (no + 1) (linesFrom (no + 1) (at + 1) (drop (at + 1) f)) ≡ q
+  empty-scan s count days stops q v = scan-again f at no count _ h (cut-empty f at no h b) w s Skipped (empty-skipped s f at) days stops q Fine refl v count refl (omega arith)
+
+pub number-next : (f : List ℕ) (at n : ℕ) → Walked f at n → at < length f → length f ≤ mostFileBytes → n + 1 < 2 ^ 32
+number-next f at n w h l = omega (arith, walked-number f at n w)
+
+pub ruleset scans = (tests, empty-walked, empty-count, empty-scan, number-next, cut-low, cut-high, cut-less, walked-first, walked-next, scan-first, count-first, place-inside, number-small, part-count, count-next, scan-out, scan-again, scan-done)

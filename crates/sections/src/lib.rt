@@ -3,7 +3,6 @@
 // crate `classes` checks them.
 use columns::line_fields::bit_field;
 use columns::line_fields::class;
-use columns::line_fields::interchange;
 use columns::line_fields::stop;
 use forms::Form;
 use forms::LineKind;
@@ -18,8 +17,11 @@ ghost use mathlib.Core.Bool.{true, cond, not, _||_};
 ghost use Prim.Native.Nat.{_+_, _%_, _≤_};
 ghost use lib.ListN.{length, take, drop};
 ghost use lib.Dec.{eqb};
-ghost use Rattle.columns.specs.LineFields.{classCode};
+ghost use Rattle.columns.specs.Columns.{number};
+ghost use Rattle.columns.specs.LineFields.{fieldIn, bitFieldNumber, stopNumber, classCode};
 ghost use Rattle.lines.specs.Lines.{linesOf};
+ghost use Rattle.forms.specs.Form.{formOf};
+ghost use Rattle.forms.specs.Columns.{columnsOf};
 ghost use Rattle.bitfield.specs.BitField.{bitsIn};
 ghost use Rattle.timetable.specs.Layout.{mostFileBytes, mostPeriodDays};
 ghost use Rattle.timetable.specs.Offences.{first, verdictBy, checkedBy};
@@ -28,7 +30,7 @@ ghost use Rattle.timetable.specs.Files.{stopsIn, defaultStop, hasStop, stopOffe
 ghost use Rattle.timetable.specs.Files.{interchangesIn, interchangeOffence, interchangesFirst};
 ghost use Rattle.timetable.specs.Plan.{threeBytes};
 ghost use Rattle.timetable.specs.Table.{stopPlace};
-ghost use Rattle.sections.specs.Inner.Sections.{lineKind, keyOn, numberOn, asNumber, numbers, hasNumber};
+ghost use Rattle.sections.specs.Inner.Sections.{lineKind, keyOn, numberedBy, numberOn, asNumber, numbers, hasNumber};
 ghost use Rattle.sections.specs.Inner.Sections.{recordOffence, numberedOffence, lineOffence, wordsOf};
 ghost use Rattle.sections.specs.Inner.SectionMap.{textAt, Seen, MapOf, Lent, MapAfter, Ready, Reached, PutReady, Put};
 ghost use Rattle.sections.specs.declared.Section.the-variants.{BitFields, Stops, Interchanges};
@@ -166,6 +168,13 @@ pub fn number_on(section: Section, text: &[u8]) -> Numbered
     if lines::skips(text) {
         return Numbered::Skipped;
     }
+    formed_number(section, text)
+}
+
+// The same of a line that is not skipped.
+fn formed_number(section: Section, text: &[u8]) -> Numbered
+    ensures { λ r. ⌜ r ≡ numberedBy (formOf (columnsOf (lineKind section)) (now (text .entry))) (keyOn section (now (text .entry))) ⌝ }
+{
     let form = forms::line_form(line_kind(section), text);
     match form {
         Form::Fits => Numbered::Number(key_on(section, text)),
@@ -190,11 +199,37 @@ fn key_on(section: Section, text: &[u8]) -> u32
     ensures { λ r. ⌜ r ≡ keyOn section (now (text .entry)) ⌝ }
 {
     match section {
-        Section::BitFields => columns::number_in(text, bit_field::NUMBER, bit_field::NUMBER_END),
-        Section::Stops => columns::number_in(text, stop::NUMBER, stop::NUMBER_END),
-        Section::Interchanges => columns::number_in(text, interchange::STOP, interchange::STOP_END),
+        Section::BitFields => field_number(text),
+        Section::Stops => stop_number(text),
+        Section::Interchanges => stop_number(text),
         Section::Classes => code_on(text),
     }
+}
+
+// A bit field's number: six digits, which a word holds.
+fn field_number(text: &[u8]) -> u32
+    ensures { λ r. ⌜ r ≡ number (fieldIn bitFieldNumber (now (text .entry))) ⌝ }
+{
+    if 8 <= text.len() {
+        let w = byte_words::word_at(text, 0);
+        if byte_words::six_digits(w) {
+            return byte_words::six_number(w);
+        }
+    }
+    columns::number_in(text, bit_field::NUMBER, bit_field::NUMBER_END)
+}
+
+// A stop's: seven.
+fn stop_number(text: &[u8]) -> u32
+    ensures { λ r. ⌜ r ≡ number (fieldIn stopNumber (now (text .entry))) ⌝ }
+{
+    if 8 <= text.len() {
+        let w = byte_words::word_at(text, 0);
+        if byte_words::seven_digits(w) {
+            return byte_words::seven_number(w);
+        }
+    }
+    columns::number_in(text, stop::NUMBER, stop::NUMBER_END)
 }
 
 // A category's code as one number.
@@ -207,7 +242,7 @@ fn code_on(text: &[u8]) -> u32
 // ---- checks
 
 // The own checks of every line of a file, whose records go into the words from `split` on. The words before it are the map of BAHNHOF, where UMSTEIGB is
-// checked.
+// checked. An empty line is passed at once: there may be as many as bytes.
 fn check_section(
     section: Section,
     f: &[u8],
@@ -227,6 +262,11 @@ fn check_section(
     let mut no: u32 = 1;
     let mut count: u32 = 0;
     while at < f.len() {
+        if f[at] == b'\n' {
+            at += 1;
+            no += 1;
+            continue;
+        }
         let cut = reader::line_from(f, at, no);
         let stop = cut.stop;
         let text = &f[at..stop];

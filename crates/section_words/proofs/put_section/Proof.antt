@@ -2,11 +2,12 @@
 -- Assumes nothing.
 use mathlib.Core.Path.{_≡_}
 use Prim.Native.Nat.{_+_, _-_, _≤_}
+use native.Mathlib.Omega.{arith}
 use lib.ListN.{length, drop}
 use Rattle.lines.specs.Lines.{linesFrom, linesOf}
 use Rattle.words.specs.Words.{write}
 use Rattle.section_words.specs.Inner.Words.{sectionWords}
-use Rattle.section_words.proofs.Puts.{section-puts}
+use Rattle.section_words.proofs.Puts.{section-puts, empty-puts, put-room}
 use Rattle.section_words.proofs.put_section.Statement.{statement}
 use Rattle.section_words.proofs.put_section.Tie as tie
 
@@ -22,6 +23,21 @@ abbrev μ-loop : tie.MeasureT-loop
 loop-holds : tie.Need-loop-holds Inv-loop μ-loop
 loop-holds c = search section-puts
 
+shared-slice-read-if1 : tie.Need-shared-slice-read-if1 Inv-loop μ-loop
+shared-slice-read-if1 c = search section-puts
+
+add-at : tie.Need-add-at Inv-loop μ-loop
+add-at c = search section-puts
+
+add-no : tie.Need-add-no Inv-loop μ-loop
+add-no c = search section-puts
+
+loop-less : tie.Need-loop-less Inv-loop μ-loop
+loop-less c = search section-puts
+
+loop-again : tie.Need-loop-again Inv-loop μ-loop
+loop-again c = (omega arith, search empty-puts, search empty-puts, search empty-puts)
+
 line-from-requires : tie.Need-line-from-requires Inv-loop μ-loop
 line-from-requires c κs = search section-puts
 
@@ -35,13 +51,13 @@ part-put-line-end : tie.Need-part-put-line-end Inv-loop μ-loop
 part-put-line-end c = search section-puts
 
 put-line-requires : tie.Need-put-line-requires Inv-loop μ-loop
-put-line-requires c κs = search section-puts
+put-line-requires c κs = (search section-puts, search put-room)
 
-loop-less : tie.Need-loop-less Inv-loop μ-loop
-loop-less c = search section-puts
+loop-less-2 : tie.Need-loop-less-2 Inv-loop μ-loop
+loop-less-2 c = search section-puts
 
-loop-again : tie.Need-loop-again Inv-loop μ-loop
-loop-again c = search section-puts
+loop-again-2 : tie.Need-loop-again-2 Inv-loop μ-loop
+loop-again-2 c = search section-puts
 
 same-length : tie.Need-same-length Inv-loop μ-loop
 same-length c = search section-puts
@@ -56,12 +72,17 @@ put-section-spec =
     Inv-loop
     μ-loop
     loop-holds
+    shared-slice-read-if1
+    add-at
+    add-no
+    loop-less
+    loop-again
     line-from-requires
     sub-put-line
     part-put-line-start
     part-put-line-end
     put-line-requires
-    loop-less
-    loop-again
+    loop-less-2
+    loop-again-2
     same-length
     returns)

@@ -27,6 +27,21 @@ abbrev μ-loop : tie.MeasureT-loop
 loop-holds : tie.Need-loop-holds Inv-loop μ-loop
 loop-holds c = (search scans, search scans, search scans, search fills)
 
+shared-slice-read-if1 : tie.Need-shared-slice-read-if1 Inv-loop μ-loop
+shared-slice-read-if1 c = search scans
+
+add-at : tie.Need-add-at Inv-loop μ-loop
+add-at c = search scans
+
+add-no : tie.Need-add-no Inv-loop μ-loop
+add-no c = search scans
+
+loop-less : tie.Need-loop-less Inv-loop μ-loop
+loop-less c = search scans
+
+loop-again : tie.Need-loop-again Inv-loop μ-loop
+loop-again c = (search scans, search scans, search scans, search fills)
+
 line-from-requires : tie.Need-line-from-requires Inv-loop μ-loop
 line-from-requires c κs = search scans
 
@@ -69,11 +84,11 @@ enum-told c = search scans
 put-number-requires : tie.Need-put-number-requires Inv-loop μ-loop
 put-number-requires c κs = search fills
 
-loop-less : tie.Need-loop-less Inv-loop μ-loop
-loop-less c = search scans
+loop-less-2 : tie.Need-loop-less-2 Inv-loop μ-loop
+loop-less-2 c = search scans
 
-loop-again : tie.Need-loop-again Inv-loop μ-loop
-loop-again c = (search scans, search scans, search scans, search fills)
+loop-again-2 : tie.Need-loop-again-2 Inv-loop μ-loop
+loop-again-2 c = (search scans, search scans, search scans, search fills)
 
 same-length-2 : tie.Need-same-length-2 Inv-loop μ-loop
 same-length-2 c = search scans
@@ -88,6 +103,11 @@ check-section-spec =
     Inv-loop
     μ-loop
     loop-holds
+    shared-slice-read-if1
+    add-at
+    add-no
+    loop-less
+    loop-again
     line-from-requires
     sub-text
     part-text-start
@@ -102,7 +122,7 @@ check-section-spec =
     returns
     enum-told
     put-number-requires
-    loop-less
-    loop-again
+    loop-less-2
+    loop-again-2
     same-length-2
     returns-2)

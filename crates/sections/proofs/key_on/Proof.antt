@@ -5,20 +5,20 @@ use Rattle.sections.proofs.key_on.Tie as tie
 enum-told : tie.Need-enum-told
 enum-told c = search numbering
 
-number-in-requires : tie.Need-number-in-requires
-number-in-requires c κs = search numbering
+field-number-requires : tie.Need-field-number-requires
+field-number-requires c κs = search numbering
 
 enum-told-2 : tie.Need-enum-told-2
 enum-told-2 c = search numbering
 
-number-in-requires-2 : tie.Need-number-in-requires-2
-number-in-requires-2 c κs = search numbering
+stop-number-requires : tie.Need-stop-number-requires
+stop-number-requires c κs = search numbering
 
 enum-told-3 : tie.Need-enum-told-3
 enum-told-3 c = search numbering
 
-number-in-requires-3 : tie.Need-number-in-requires-3
-number-in-requires-3 c κs = search numbering
+stop-number-requires-2 : tie.Need-stop-number-requires-2
+stop-number-requires-2 c κs = search numbering
 
 enum-told-4 : tie.Need-enum-told-4
 enum-told-4 c = search numbering
@@ -43,11 +43,11 @@ key-on-spec =
     tie.close
     (tie.spec
     enum-told
-    number-in-requires
+    field-number-requires
     enum-told-2
-    number-in-requires-2
+    stop-number-requires
     enum-told-3
-    number-in-requires-3
+    stop-number-requires-2
     enum-told-4
     code-on-requires
     returns
