@@ -14,18 +14,15 @@ pub fn is_named(text: &[u8]) -> bool
     names::is_name_list(&name[0..size])
 }
 
-// As many columns as a name list may have bytes.
-const NAME_COLUMNS: u32 = names::MOST_NAME_BYTES as u32;
-
 // The length of the name field without trailing blanks.
 pub fn name_length(text: &[u8]) -> u32
     ensures { λ r. ⌜ r ≡ nameLength (fieldIn stopNames (now (text .entry))) ⌝ }
 {
     let name = columns::part(text, stop::NAMES, stop::NAMES_END);
-    let mut k: u32 = NAME_COLUMNS;
+    let mut k = name.len();
     while 0 < k {
-        if columns::byte_at(name, k as usize - 1) != b' ' {
-            return k;
+        if name[k - 1] != b' ' {
+            return k as u32;
         }
         k -= 1;
     }

@@ -2,7 +2,7 @@
 use mathlib.Core.Path.{_≡_}
 use Prim.Native.Nat.{_≤_}
 use native.Mathlib.Omega.{arith}
-use lib.ListN.{take}
+use lib.ListN.{length, take}
 use Rattle.columns.specs.Columns.{columns}
 use Rattle.timetable.specs.Files.{nameLength}
 use Rattle.name_field.proofs.Names.{names}
@@ -10,7 +10,7 @@ use Rattle.name_field.proofs.name_length.Statement.{statement}
 use Rattle.name_field.proofs.name_length.Tie as tie
 
 abbrev Inv-loop : tie.InvT-loop
-Inv-loop text name k₀ k = (k ≤ 50) × (nameLength (take k (columns 13 62 text)) ≡ nameLength (columns 13 62 text))
+Inv-loop text name k₀ k = (k ≤ length name) × (k ≤ 50) × (nameLength (take k (columns 13 62 text)) ≡ nameLength (columns 13 62 text))
 
 abbrev μ-loop : tie.MeasureT-loop
 μ-loop text name k₀ k = k
@@ -19,16 +19,16 @@ part-requires : tie.Need-part-requires Inv-loop μ-loop
 part-requires c κs = search names
 
 loop-holds : tie.Need-loop-holds Inv-loop μ-loop
-loop-holds c = search names
+loop-holds c = (search names, search names, search names)
 
-cast-byte-at : tie.Need-cast-byte-at Inv-loop μ-loop
-cast-byte-at c = search names
+sub-if1 : tie.Need-sub-if1 Inv-loop μ-loop
+sub-if1 c = search names
 
-sub-byte-at : tie.Need-sub-byte-at Inv-loop μ-loop
-sub-byte-at c = search names
+shared-slice-read-if1 : tie.Need-shared-slice-read-if1 Inv-loop μ-loop
+shared-slice-read-if1 c = search names
 
-byte-at-requires : tie.Need-byte-at-requires Inv-loop μ-loop
-byte-at-requires c κs = search names
+cast-result : tie.Need-cast-result Inv-loop μ-loop
+cast-result c = search names
 
 returns : tie.Need-returns Inv-loop μ-loop
 returns c = search names
@@ -40,7 +40,7 @@ loop-less : tie.Need-loop-less Inv-loop μ-loop
 loop-less c = search names
 
 loop-again : tie.Need-loop-again Inv-loop μ-loop
-loop-again c = (omega arith, search names)
+loop-again c = (omega arith, omega arith, search names)
 
 returns-2 : tie.Need-returns-2 Inv-loop μ-loop
 returns-2 c = search names
@@ -53,9 +53,9 @@ name-length-spec =
     μ-loop
     part-requires
     loop-holds
-    cast-byte-at
-    sub-byte-at
-    byte-at-requires
+    sub-if1
+    shared-slice-read-if1
+    cast-result
     returns
     sub-k
     loop-less
