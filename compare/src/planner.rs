@@ -5,7 +5,9 @@ use compare::boundary::{size_word, Boundary};
 use compare::reader::Combination;
 use estelunya_planner::by_number::{load, load_with, room, BitField, Date, Loaded, Table, Walk};
 use estelunya_planner::layout::{BIT_WORDS, FIRST_SERVICE_AT, HEADER_WORDS, PERIOD_DAYS_AT, USED_AT};
-use estelunya_planner::{Class, File, Files, Language, LoadError, LoadRefusal, NameType, Refusal, Scope, Timetable};
+use estelunya_planner::{
+    Class, File, Files, Language, LoadError, LoadRefusal, Minutes, Moment, NameType, Refusal, Scope, Stop, Timetable,
+};
 
 pub struct Planner;
 
@@ -187,6 +189,7 @@ fn handled(timetable: Scope<'_>) {
         let last = timetable.days().next_back();
         assert_eq!(last.map(|day| field.has(day)), Some(field.days().next_back() == last));
     }
+    timetable.stops().take(2).for_each(|stop| departing(timetable, stop));
     for category in timetable.categories() {
         assert_eq!(timetable.category_by_code(category.code()), Some(category), "a code that is listed once");
         for stop in timetable.stops().take(3) {
@@ -201,6 +204,17 @@ fn handled(timetable: Scope<'_>) {
             assert_eq!([of(0, 2), of(3, 0)], record.times.map(Some));
         }
     }
+}
+
+/// What leaves a stop in the first day and a half of the period, by calendar and clock: what the boards of its days have.
+fn departing<'t>(timetable: Scope<'t>, stop: Stop<'t>) {
+    let (first, until) = (timetable.period().first, Minutes::new(36, 0));
+    let (from, until) = (Moment::new(first, Minutes::default()), Moment::new(first, until));
+    let listed: Vec<_> = stop.departures(from).take_while(|leaves| leaves.moment() <= until).collect();
+    let boards = timetable.days().take(2).flat_map(|day| stop.board(day, from.time()..=until.time()));
+    let mut boards: Vec<_> = boards.filter(|leaves| leaves.moment() <= until).collect();
+    boards.sort_by_key(|leaves| leaves.moment());
+    assert!(listed == boards, "what leaves {:?}", stop);
 }
 
 fn dated([day, month, year]: [u32; 3]) -> Date {
