@@ -72,7 +72,7 @@ fn other_machine(archive: &Path, bytes: &[u8]) -> Option<String> {
     (!fits).then(|| {
         format!(
             "{} is made for {} Linux, and this build is for {} {}: `rt staticlib estelunya` writes it for x86-64 Linux; \
-             build with --target x86_64-unknown-linux-gnu, or name the directory of a fitting archive in ESTELUNYA_LIB",
+             tools/native.sh estelunya makes one for the machine at hand, for which ESTELUNYA_LIB is to name target/native",
             archive.display(),
             made_for,
             machine,
