@@ -10,8 +10,8 @@ use estelunya_planner::{Date, Period};
 use super::dates::period;
 use super::json;
 use super::lines::{
-    column, columns, digits, gives_days, kind, lines, passed_over, text, trimmed, Delivery, Kind, BAHNHOF, BITFELD,
-    ECKDATEN, UMSTEIGB, ZUGART,
+    column, columns, digits, gives_days, kind, lines, number, passed_over, text, trimmed, Delivery, Kind, BAHNHOF,
+    BITFELD, ECKDATEN, UMSTEIGB, ZUGART,
 };
 use super::read::read;
 use super::report::{outcome, Accepted, Options, Outcome, LOOK, UNREAD};
@@ -151,7 +151,7 @@ pub fn changes(sides: [&Delivery; 2], tables: [&Accepted; 2]) -> Vec<Change> {
     let another = |_: &str, was: &String, is: &String| format!("is `{}`, and was `{}`", is, was);
     found.extend(listed("stop", &sides.map(|side| entries(side.file(BAHNHOF), 7, (13, 62))), another));
     found.extend(listed("category", &sides.map(|side| entries(side.file(ZUGART), 3, (5, 6))), another));
-    found.extend(listed("interchange", &sides.map(|side| entries(side.file(UMSTEIGB), 7, (9, 13))), another));
+    found.extend(listed("interchange", &sides.map(minutes_of), another));
     found.sort();
     found
 }
@@ -159,6 +159,14 @@ pub fn changes(sides: [&Delivery; 2], tables: [&Accepted; 2]) -> Vec<Change> {
 /// What a file lists: number or code, and the columns that say something of it.
 fn entries(file: &[u8], width: usize, (first, last): (usize, usize)) -> BTreeMap<String, String> {
     let entry = |line: &[u8]| (text(&columns(line, 1, width)), text(trimmed(&columns(line, first, last))));
+    lines(file).filter(|line| !passed_over(line)).map(entry).collect()
+}
+
+/// The minutes of each record of UMSTEIGB, as numbers.
+fn minutes_of(side: &Delivery) -> BTreeMap<String, String> {
+    let file = side.file(UMSTEIGB);
+    let number = |line: &[u8], first: usize| number(trimmed(&columns(line, first, first + 1))).unwrap_or(0);
+    let entry = |line: &[u8]| (text(&columns(line, 1, 7)), format!("{} {}", number(line, 9), number(line, 12)));
     lines(file).filter(|line| !passed_over(line)).map(entry).collect()
 }
 

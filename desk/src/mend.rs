@@ -1,7 +1,7 @@
 //! What a number means, what the cause may be, and how to mend it so that what is meant stays as it is: a mend that says what to write where is safe to obey, and where only who made
 //! the file can know, it says so.
 
-use super::dates::period;
+use super::dates::{existing, period};
 use super::explain::Answer;
 use super::form::{counted_digits, frame, offences};
 use super::lines::{
@@ -137,7 +137,8 @@ fn of_line(answer: &Answer, bytes: &[u8], file: &[u8]) -> Option<Cause> {
     }
     let moved = moved(of, bytes, answer.column)?;
     let marks = vec![(answer.line, vec![(moved.first, moved.last)])];
-    Some(Cause { marks: Some(marks), ..Cause::only(moved.says(), moved.mend()) })
+    let looks = moved.look().into_iter().collect();
+    Some(Cause { marks: Some(marks), looks, ..Cause::only(moved.says(), moved.mend()) })
 }
 
 /// How many blanks each tab stands for, if so many in the place of each make a good line.
@@ -306,9 +307,12 @@ fn of_field(delivery: &Delivery, answer: &Answer, bytes: &[u8]) -> Cause {
             "the standard has it in each line, 0 for none; some exporters leave it out",
             format!("write `0` in column {}", at),
         ),
-        _ => Cause::mend(
-            rewritten(delivery, of, bytes, field).map_or_else(|| meant(of, field), |good| written(&good, field)),
-        ),
+        _ => match rewritten(delivery, of, bytes, field) {
+            Some(good) => {
+                Cause { looks: lost(bytes, field).into_iter().collect(), ..Cause::mend(written(&good, field)) }
+            }
+            None => Cause::mend(meant(of, field)),
+        },
     }
 }
 
@@ -355,18 +359,21 @@ fn rewritten(delivery: &Delivery, of: u32, line: &[u8], field: &Field) -> Option
             // a number that has zeros in front and is still too short has lost a digit
             let short = counted_digits(piece) && piece[0] != b'0' && piece.len() < width;
             let padded = format!("{:0>width$}", told, width = width);
-            let listed = match name {
+            let sure = match name {
                 "bit field" => lines(delivery.file(BITFELD)).any(|line| line.starts_with(padded.as_bytes())),
-                "stop" | "number of the stop" => false,
+                "repeats" => counted_digits(trimmed(&columns(line, 27, 29))),
+                "offset" => counted_digits(&columns(line, 23, 25)),
+                // a stop's number has no zeros in front, and a call changes its service's number rarely
+                "stop" | "number of the stop" | "number" => false,
                 _ => true,
             };
-            (short && listed && !(rule == Rule::Offset && blank(&columns(line, 23, 25)))).then_some(padded)
+            (short && sure).then_some(padded)
         }
         Rule::Count(most) => {
             let fits = counted_digits(piece) && told.parse::<u32>().map_or(false, |value| value <= most);
             fits.then(|| format!("{:>width$}", told, width = width))
         }
-        Rule::Filled | Rule::FilledOrBlank => (bytes.starts_with(piece) && !piece.is_empty() && !piece.contains(&b' '))
+        Rule::Filled => (bytes.starts_with(piece) && piece.len() > 1 && !piece.contains(&b' '))
             .then(|| format!("{:_<width$}", told, width = width)),
         Rule::OneOf(taken, _) => {
             let capital = bytes[0].to_ascii_uppercase();
@@ -377,7 +384,22 @@ fn rewritten(delivery: &Delivery, of: u32, line: &[u8], field: &Field) -> Option
         Rule::Date => date(&String::from_utf8_lossy(trimmed(&columns(line, 1, line.len().clamp(10, 20))))),
         _ => None,
     }
-    .filter(|_| of != ECKDATEN || rule == Rule::Date)
+    // in a line whose "%" is moved too, a byte of the field is gone
+    .filter(|_| of != FPLAN || column(line, 59) == b'%')
+}
+
+/// Where one byte is missing to fill a field it may have been lost.
+fn lost(line: &[u8], field: &Field) -> Option<String> {
+    let (first, last, name, rule) = *field;
+    let bytes = columns(line, first, last.min(first + 50));
+    let (piece, short) = match rule {
+        Rule::Digits | Rule::DigitsOrBlank | Rule::Offset | Rule::Filled | Rule::Count(_) => {
+            (trimmed(&bytes).len(), last - first)
+        }
+        Rule::Time if !bytes.contains(&b':') => (bytes.iter().filter(|byte| byte.is_ascii_digit()).count(), 4),
+        _ => return None,
+    };
+    (piece == short).then(|| format!("the {} may lack a byte: then find out which", name))
 }
 
 /// Four digits, or hours and minutes with a colon: HHHMM with its sign.
@@ -406,7 +428,7 @@ fn date(told: &str) -> Option<String> {
         [day, month, year] if year.len() == 2 => (number(day)?, number(month)?, 2000 + number(year)?),
         _ => return None,
     };
-    Some(format!("{:02}.{:02}.{:04}", day, month, year))
+    existing((day, month, year)).map(|date| date.to_string())
 }
 
 /// What to write where only who made the file knows what is meant.
@@ -550,7 +572,7 @@ fn of_number(delivery: &Delivery, answer: &Answer, bytes: &[u8]) -> Cause {
         (8, _) => other_period(delivery),
         (9, _) => absent(delivery, BAHNHOF, "stop", &columns(bytes, 1, 7)),
         (10, _) => absent(delivery, BITFELD, "bit field", &columns(bytes, 23, 28)),
-        (11, _) if bytes.first() == Some(&b'*') && column(bytes, 2).is_ascii_uppercase() => {
+        (11, _) if of_the_standard(bytes) => {
             Cause::mend("put a \"%\" in column 1 of the line: other lines of the standard are not taken")
         }
         (11, _) => Cause::mend("find out what the line is, and write it as one of these; a remark begins with \"%\""),
@@ -568,6 +590,12 @@ fn of_number(delivery: &Delivery, answer: &Answer, bytes: &[u8]) -> Cause {
         (39, _) => Cause::mend(name_list(bytes)),
         _ => Cause::mend("see the paper"),
     }
+}
+
+/// Whether a line is of another kind of the standard: `*` and one to three capitals, then a blank.
+fn of_the_standard(bytes: &[u8]) -> bool {
+    let word = bytes.split(|byte| *byte == b' ').next().unwrap_or(b"");
+    word.first() == Some(&b'*') && (2..=4).contains(&word.len()) && word[1..].iter().all(u8::is_ascii_uppercase)
 }
 
 /// 9 and 10: a number that is not listed: nothing is, or its line is passed over, or stands inside another; else it is mistyped, or new.
@@ -671,7 +699,10 @@ fn category(delivery: &Delivery, bytes: &[u8]) -> Cause {
 /// 39: what to do about the list of names.
 fn name_list(bytes: &[u8]) -> String {
     match super::form::names(bytes) {
-        Some((at, why)) if why.starts_with("no \"$\"") => format!("put `$` in before column {}", at),
+        // behind another sign the "$" may have been mistyped
+        Some((at, why)) if why.starts_with("no \"$\"") && column(bytes, at - 1).is_ascii_alphabetic() => {
+            format!("put `$` in before column {}", at)
+        }
         Some((at, why)) if why.ends_with("no name after it") && column(bytes, 63) == b' ' => format!("take out column {}", at),
         Some((_, why)) if why.contains("not closed") || column(bytes, 63) != b' ' => {
             "find out the names that are meant, and shorten them to 50 columns; the \"$\" after a pattern may be left out".to_string()

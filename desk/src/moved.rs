@@ -44,6 +44,21 @@ impl Moved {
         )
     }
 
+    /// What is to be looked at first: where bytes are missing they may not have been blanks, and a number that is not at its right edge may have lost a digit.
+    pub fn look(&self) -> Option<String> {
+        let number = matches!(self.field.3, Rule::Count(_));
+        match (number, self.by > 0, self.first == self.last) {
+            (true, true, false) => Some(format!("`{}` may have a digit too many: then find out which", self.what)),
+            (true, false, true) => Some(format!("`{}` may lack a digit behind it: then find out which", self.what)),
+            (_, false, _) if self.rest => Some(format!(
+                "the line is {} too short before column {}: if more than blanks are missing, find out what stood there",
+                bytes(self.by.unsigned_abs()),
+                self.first
+            )),
+            _ => None,
+        }
+    }
+
     /// What to do.
     pub fn mend(&self) -> String {
         let (by, side) = (self.by.unsigned_abs(), if self.by > 0 { "left" } else { "right" });
@@ -53,6 +68,10 @@ impl Moved {
             format!("move {} by {} to the {}; the rest of the line stays", place(self.first, self.last), by, side)
         }
     }
+}
+
+fn bytes(count: usize) -> String {
+    format!("{} byte{}", count, if count == 1 { "" } else { "s" })
 }
 
 /// Columns in words.
@@ -137,7 +156,8 @@ fn spans(file: u32, line: &[u8], by: isize) -> Vec<(usize, usize, bool)> {
         let bounded = |field: &&Field| field.1 < usize::MAX && field.3 != Rule::Percent;
         first > last || fields(file, line).iter().filter(bounded).any(|field| field.0 == first && last <= field.1)
     };
-    for field in fields(file, line).iter().filter(|field| named(field)) {
+    let of_one_width = |field: &&Field| named(field) && !matches!(field.3, Rule::Count(_));
+    for field in fields(file, line).iter().filter(of_one_width) {
         let shifted = |at: usize| usize::try_from(at as isize + by).ok();
         if let (Some(first), Some(last)) = (shifted(field.0), shifted(field.1)) {
             let within = |piece: &&(usize, usize)| piece.0 <= first && last <= piece.1;

@@ -659,3 +659,31 @@ fn survey_begins_with_the_answer() {
         report::told(&broken, &Options { all: true, most: Some(usize::MAX), ..options() });
     }
 }
+
+/// Bytes put in, taken out and replaced by chance: what is refused and then mended by its screens is the same timetable, or somebody was told to look.
+#[test]
+fn obeying_by_chance() {
+    let mut seed = 3_u64;
+    let mut next = move |below: usize| {
+        seed = seed.wrapping_mul(6_364_136_223_846_793_005).wrapping_add(1_442_695_040_888_963_407);
+        (seed >> 33) as usize % below
+    };
+    let count = std::env::var("DESK_CASES").map_or(300, |count| count.parse().unwrap());
+    let mut other = Vec::new();
+    for _ in 0..count {
+        let mut delivery = good();
+        let place = [0, 1, 2, 3, 4, 4, 4, 4, 4, 5][next(10)];
+        let bytes = &mut delivery.files[place];
+        let at = next(bytes.len());
+        match next(4) {
+            0 => drop(bytes.drain(at..at + 1)),
+            1 => bytes[at] = b" 0#-9A%\n"[next(8)],
+            _ => bytes.insert(at, b"   0#\n"[next(6)]),
+        }
+        let mended = obeyed(&delivery);
+        if mended.screens > 0 && !mended.same && mended.looks == 0 {
+            other.push(report::told(&delivery, &options()).1);
+        }
+    }
+    assert!(other.is_empty(), "{} of {}:\n{}", other.len(), count, other.join("\n"));
+}
