@@ -1,30 +1,50 @@
 #!/bin/sh
-# install.sh [DIRECTORY]: proves the library and puts libestelunya.a and its headers into DIRECTORY (lib/). `rt staticlib` writes the archive below target/, which a
-# run of the gate removes before it proves; what stands in lib/ stays, and the planner's crate links it where target/ has none.
+# install.sh [DIRECTORY]: proves the library and puts libestelunya.a and its headers into DIRECTORY (lib/); where there is cargo also the data desk's program, `desk`, with its REFUSALS.md. On a machine that is
+# not x86-64 the archive is the proved module compiled for the machine at hand (native.sh). `rt staticlib` writes the archive below target/, which a run of the gate removes before it proves; what
+# stands in lib/ stays, and the planner's crate links it where target/ has none.
 #
-# On the way it writes `proved K of N: CRATE` for each crate that is proved; all that rt says is in target/install.log, and is shown if it fails.
+# On the way it writes `proved K of N: CRATE` for each crate that is proved; all that rt says is in target/install.log, and is shown if it fails. What was made of these very sources is not made again.
 set -eu
 cd "$(dirname "$0")/.."
+. tools/progress.sh
 place=${1:-lib}
-log=target/install.log
-mkdir -p target
+mkdir -p target "$place"
+place=$(cd "$place" && pwd)
 
-# The crate and all that it stands on, by crates.txt, in which each stands below what it names.
-count=$(awk -F '[: ]+' '/^[a-z]/ { below[$1] = $0 }
-    function take(crate, names, i) {
-        if (crate in taken || !(crate in below)) return
-        taken[crate] = ++count
-        split(below[crate], names, /[: ]+/)
-        for (i in names) take(names[i])
-    }
-    END { take("estelunya"); print count }' crates.txt)
+command -v rt >/dev/null || {
+    echo 'install.sh: no rt on the path: it is the command of the Rattle kit (README.md)' >&2
+    exit 1
+}
 
-# A pipe has the status of its last part: awk is told of rt's.
-{ rt staticlib estelunya 2>&1 || echo 'install.sh: rt failed'; } | awk -v n="$count" -v log_file="$log" '
-    { print >log_file }
-    /^rt: [a-z_]+ proved/ { printf "proved %d of %d: %s\n", ++k, n, $2; fflush() }
-    /^install.sh: rt failed$/ { failed = 1 }
-    END { exit failed }' || { cat "$log" >&2; exit 1; }
-mkdir -p "$place"
-cp target/staticlib/libestelunya.a include/estelunya.h include/estelunya_texts.h "$place"
+# What the archive is made of, and the archive itself.
+sums() {
+    rt version
+    uname -m
+    find crates crates.txt include -type f | LC_ALL=C sort | xargs cksum | cksum
+    cksum <"$place/libestelunya.a"
+}
+
+if [ -f "$place/libestelunya.a" ] && [ "$(sums)" = "$(cat "$place/made-of" 2>/dev/null)" ]; then
+    echo "install.sh: $place/libestelunya.a is of these sources: nothing to prove" >&2
+else
+    rm -f "$place/made-of"
+    if [ "$(uname -m)" = x86_64 ]; then
+        proving estelunya target/install.log staticlib estelunya
+        made=target/staticlib
+    else
+        tools/native.sh estelunya
+        made=target/native
+    fi
+    cp "$made/libestelunya.a" "$place"
+    sums >"$place/made-of"
+fi
+cp include/estelunya.h include/estelunya_texts.h "$place"
 echo "install.sh: $place/libestelunya.a"
+
+if command -v cargo >/dev/null; then
+    ESTELUNYA_LIB=$place cargo build --quiet --release --manifest-path desk/Cargo.toml --target-dir target/desk
+    cp target/desk/release/desk docs/REFUSALS.md "$place"
+    echo "install.sh: $place/desk, with REFUSALS.md"
+else
+    echo 'install.sh: no cargo on the path, so the data desk'"'"'s program is not made' >&2
+fi

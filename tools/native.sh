@@ -1,9 +1,12 @@
 #!/bin/sh
 # native.sh NAME: proves the library NAME as `rt staticlib` does, and compiles the very LLVM module that the prover hands to the kit's compiler for the
 # machine at hand: target/native/libNAME.a, and target/native/plain/libNAME.a without optimisation, in which every function stands by itself and its
-# calls can be counted. For tests and timings only: what is delivered, and what the gate links, is the archive of `rt staticlib NAME`.
+# calls can be counted. For tests, timings and machines that are not x86-64: what is delivered, and what the gate links, is the archive of `rt staticlib NAME`.
+#
+# On the way it writes `proved K of N: CRATE` on standard error, and what it compiles; all that rt says is in target/native/NAME.log.
 set -eu
 cd "$(dirname "$0")/.."
+. tools/progress.sh
 [ $# -eq 1 ] || { echo 'native.sh NAME' >&2; exit 2; }
 name=$1
 machine=$(uname -m)
@@ -14,7 +17,7 @@ ar=$own/toolchain/bin/llvm-ar
 out=$PWD/target/native
 wrap=$out/wrap
 mkdir -p "$wrap/bin" "$out/plain"
-rt check "$name" >"$out/$name.log" 2>&1 || { cat "$out/$name.log" >&2; exit 1; }
+proving "$name" "$out/$name.log" check "$name"
 # The prover writes the library anew whenever it or what it stands on has changed.
 if [ -f "$out/plain/lib$name.a" ] && [ -z "$(find "target/rlib/$name.rlib" -newer "$out/plain/lib$name.a")" ]; then exit 0; fi
 
@@ -36,6 +39,7 @@ externs() {
     done
 }
 
+echo "native.sh: making the module of $name, which takes a minute or two" >&2
 rm -f "$wrap/module.bc"
 # shellcheck disable=SC2046 # externs are words
 "$own/bin/rattle" build --crate-name "$name" "crates/$name/src/lib.rt" --extern "std=$own/rlib/std.rlib" $(externs) \
@@ -64,6 +68,7 @@ archive() {
     rm -f "$1/lib$name.a"
     "$ar" crs "$1/lib$name.a" "$1/$name.o"
 }
+echo "native.sh: compiling it for $machine" >&2
 archive "$out" -O3
 archive "$out/plain" -O0
-echo "target/native/lib$name.a: $name for $machine, for tests and timings"
+echo "target/native/lib$name.a: $name for $machine"

@@ -65,8 +65,16 @@ pub fn run(old: &Path, new: &Path, options: &Options) -> (i32, String) {
 fn told(sides: &[Delivery], before: &Accepted, after: &Accepted, options: &Options) -> (i32, String) {
     let changes = changes([&sides[0], &sides[1]], [before, after]);
     let accident = |change: &&Change| (change.what, change.how) == ("bit field", "changed");
+    let most = options.most.unwrap_or(MOST_SHOWN);
+    let other: Vec<&Change> = changes.iter().filter(accident).collect();
     let mut looks: Vec<String> =
-        changes.iter().filter(accident).map(|change| format!("bit field {} {}", change.name, change.says)).collect();
+        other.iter().take(most).map(|change| format!("bit field {} {}", change.name, change.says)).collect();
+    if other.len() > most {
+        looks.push(format!(
+            "{} more bit fields have other days than before: numbers were given anew",
+            other.len() - most
+        ));
+    }
     looks.extend(fewer(before, after));
     let status = if looks.is_empty() && after.looks.is_empty() { 0 } else { LOOK };
     if options.json {
@@ -77,7 +85,6 @@ fn told(sides: &[Delivery], before: &Accepted, after: &Accepted, options: &Optio
         text.push_str(&format!("look: {}\n", look));
     }
     text.push_str(&periods(before, after));
-    let most = options.most.unwrap_or(MOST_SHOWN);
     let mut kinds: BTreeMap<(&str, &str), Vec<&Change>> = BTreeMap::new();
     for change in changes.iter().filter(|change| !accident(change)) {
         kinds.entry((change.what, change.how)).or_default().push(change);
@@ -129,22 +136,26 @@ pub fn changes(sides: [&Delivery; 2], tables: [&Accepted; 2]) -> Vec<Change> {
     let fields = [0, 1].map(|side| days_of(sides[side], periods[side], &dates));
     let services = [0, 1].map(|side| services_of(tables[side], &fields[side]));
     let mut found = service_changes(&services);
-    let means = |number: &str| {
-        let of = |blocks: &&Vec<Block>| blocks.iter().any(|block| block.fields.contains(number));
-        services[1].values().filter(of).count()
-    };
+    let mut means: BTreeMap<&str, u32> = BTreeMap::new();
+    for number in services[1].values().flatten().flat_map(|block| &block.fields) {
+        *means.entry(number).or_default() += 1;
+    }
     found.extend(listed("bit field", &fields, |name, was, is| {
-        let named = |days: Vec<&Date>| {
-            let shown: Vec<String> = days.iter().take(MOST_DATES).map(|date| date.to_string()).collect();
-            format!("{}{}", shown.join(", "), if days.len() > MOST_DATES { " .." } else { "" })
+        let on = |wanted: &dyn Fn(usize) -> bool| -> Vec<String> {
+            (0..dates.len()).filter(|day| wanted(*day)).map(|day| dates[day].to_string()).collect()
         };
-        let (gone, new): (Vec<&Date>, Vec<&Date>) = (was.difference(is).collect(), is.difference(was).collect());
-        let mut says = format!("has other days than before ({} services mean it)", means(name));
+        let named = |days: &[String]| {
+            let shown = days[..days.len().min(MOST_DATES)].join(", ");
+            format!("{} days: {}{}", days.len(), shown, if days.len() > MOST_DATES { " .." } else { "" })
+        };
+        let (gone, new) = (on(&|day| was[day] && !is[day]), on(&|day| is[day] && !was[day]));
+        let count = means.get(name).copied().unwrap_or(0);
+        let mut says = format!("has other days than before (services that mean it: {})", count);
         if !gone.is_empty() {
-            says.push_str(&format!("; no more on {} days: {}", gone.len(), named(gone)));
+            says.push_str(&format!("; no more on {}", named(&gone)));
         }
         if !new.is_empty() {
-            says.push_str(&format!("; newly on {} days: {}", new.len(), named(new)));
+            says.push_str(&format!("; newly on {}", named(&new)));
         }
         says
     }));
@@ -170,13 +181,13 @@ fn minutes_of(side: &Delivery) -> BTreeMap<String, String> {
     lines(file).filter(|line| !passed_over(line)).map(entry).collect()
 }
 
-/// The days of each bit field among the dates.
-fn days_of(side: &Delivery, period: Option<Period>, dates: &[Date]) -> BTreeMap<String, BTreeSet<Date>> {
+/// Whether each bit field runs, for each of the dates.
+fn days_of(side: &Delivery, period: Option<Period>, dates: &[Date]) -> BTreeMap<String, Vec<bool>> {
     let start = period.map_or(0, |period| period.first.day_number());
-    let runs = |line: &[u8], date: &&Date| bit(line, (date.day_number() - start) as usize + 2);
+    let runs = |line: &[u8], date: &Date| bit(line, (date.day_number() - start) as usize + 2);
     lines(side.file(BITFELD))
         .filter(|line| !passed_over(line))
-        .map(|line| (text(&columns(line, 1, 6)), dates.iter().filter(|date| runs(line, date)).copied().collect()))
+        .map(|line| (text(&columns(line, 1, 6)), dates.iter().map(|date| runs(line, date)).collect()))
         .collect()
 }
 
@@ -236,7 +247,7 @@ impl Block {
 }
 
 /// The services by number and administration.
-fn services_of(table: &Accepted, fields: &BTreeMap<String, BTreeSet<Date>>) -> BTreeMap<String, Vec<Block>> {
+fn services_of(table: &Accepted, fields: &BTreeMap<String, Vec<bool>>) -> BTreeMap<String, Vec<Block>> {
     let mut found: BTreeMap<String, Vec<Block>> = BTreeMap::new();
     let mut last = String::new();
     for line in lines(&Table::new(&table.words).fplan().unwrap_or_default()) {
@@ -251,8 +262,8 @@ fn services_of(table: &Accepted, fields: &BTreeMap<String, BTreeSet<Date>>) -> B
         };
         if kind(&line) == Kind::Attribute && column(&line, 23) != b' ' && digits(&line, 23, 28) != Some(0) {
             let number = text(&columns(&line, 23, 28));
-            let days: Vec<String> = fields.get(&number).into_iter().flatten().map(Date::to_string).collect();
-            line.splice(22..28, days.concat().into_bytes());
+            let days = fields.get(&number).into_iter().flatten().map(|runs| u8::from(*runs));
+            line.splice(22..28, days.collect::<Vec<u8>>());
             block.fields.insert(number);
         }
         block.lines.push(line);

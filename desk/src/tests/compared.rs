@@ -63,7 +63,7 @@ fn the_same() {
 fn days_changed() {
     let new = changed(|files| files[at(BITFELD)] = files[at(BITFELD)].replace("000010 C86", "000010 D06"));
     let (status, text) = compared("days", &good(), &new);
-    let look = "look: bit field 000010 has other days than before (1 services mean it); no more on 1 days: 03.12.2025; newly on 1 days: 02.12.2025\n";
+    let look = "look: bit field 000010 has other days than before (services that mean it: 1); no more on 1 days: 03.12.2025; newly on 1 days: 02.12.2025\n";
     assert!(status == 3 && text.contains(look), "{}", text);
     assert!(text.contains("changed: service 1\n  00043 FERRY_ in days\n"), "{}", text);
 }
