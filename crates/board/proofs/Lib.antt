@@ -3,3 +3,4 @@ pub mod Ascending
 pub mod Meaning
 pub mod Complete
 pub mod Examples
+pub mod Walks

@@ -1,3 +1,4 @@
 pub mod Gather
 pub mod Own
 pub mod Table
+pub mod Walks
