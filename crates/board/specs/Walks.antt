@@ -1,5 +1,5 @@
 -- No. 9's theorem, as a type: "The answer equals the one from walking every run; a run whose walk is refused gives none." A walk's rows are of ten words, "stop, arrival,
--- departure .., flags" first. Proved in proofs/Walks of a view, and of any words in board_agrees/proofs/Table (`asked-walks`). Assumes nothing.
+-- departure .., flags" first. Proved in proofs/Walks of a view, and of any words in board_agrees/proofs/Walks (`asked-walks`). Assumes nothing.
 use Prim.Native.Nat.{ℕ, _+_, _*_, _/_, _%_, _≤_, _<_}
 use mathlib.Core.Path.{_≡_}
 use mathlib.Core.List.{List}
