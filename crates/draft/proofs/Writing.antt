@@ -246,84 +246,39 @@ pub ruleset holds = (tests, last-none, last-some, before-said, before-blank, cal
 
 -- ---- the needs of `draft_call`, `draft_range` and `count_part`, for `search drafted`
 
-no-call : (t : Told) → OneOf (0 ∷ 1 ∷ 2 ∷ 3 ∷ 4 ∷ []) (tagOf the-type t) → asCall t ≡ []
-no-call Skip e = refl
-no-call Other e = refl
-no-call (Broken c) e = refl
-no-call (Opens o) e = refl
-no-call (Ranges r) e = refl
-no-call (Calls c) e = absurd (⊎-elim (λ w. omega arith) (⊎-elim (λ w. omega arith) (⊎-elim (λ w. omega arith) (⊎-elim (λ w. omega arith) (λ w. omega arith)))) e)
+module _ (k : Counts) (c : CallLine) where
+  pub call-room : (n : ℕ) → Within (countCalls k (c ∷ [])) → callsLent ≤ n → draftCall * k .calls + draftCall ≤ n
+  call-room n w h = omega (arith, w .calls)
 
-no-range : (t : Told) → OneOf (0 ∷ 1 ∷ 2 ∷ 3 ∷ 5 ∷ []) (tagOf the-type t) → asRange t ≡ []
-no-range Skip e = refl
-no-range Other e = refl
-no-range (Broken c) e = refl
-no-range (Opens o) e = refl
-no-range (Ranges r) e = absurd (⊎-elim (λ w. omega arith) (⊎-elim (λ w. omega arith) (⊎-elim (λ w. omega arith) (⊎-elim (λ w. omega arith) (λ w. omega arith)))) e)
-no-range (Calls c) e = refl
+  pub call-fits : Within (countCalls k (c ∷ [])) → k .calls + 1 < 2 ^ 32
+  call-fits w = omega (arith, w .calls)
 
-module _ (t : Told) (k : Counts) where
-  pub call-passed : OneOf (0 ∷ 1 ∷ 2 ∷ 3 ∷ 4 ∷ []) (tagOf the-type t) → k ≡ countCalls k (asCall t)
-  call-passed e = rw (no-call t e) refl
+  pub calls-behind : (n : ℕ) → Within (countCalls k (c ∷ [])) → callsLent ≤ n → draftCall * k .calls ≤ n
+  calls-behind n w h = omega (arith, call-room n w h)
 
-  pub range-passed : OneOf (0 ∷ 1 ∷ 2 ∷ 3 ∷ 5 ∷ []) (tagOf the-type t) → k ≡ countRanges k (asRange t)
-  range-passed e = rw (no-range t e) refl
-
-  pub call-passed-on : (o : Opening) (line : ℕ) (w : List ℕ) → OneOf (0 ∷ 1 ∷ 2 ∷ 3 ∷ 4 ∷ []) (tagOf the-type t)
-      → callsOn (k .calls) w ≡ callsAfter o (callsOn (k .calls) w) line (asCall t)
+  -- a held before, x is the call
+  pub call-drafted : (o : Opening) (line : ℕ) (w w′ : List ℕ) (a : Announced) (x : Call) → Within (countCalls k (c ∷ [])) → callsLent ≤ length w
+      → a ≡ lastOf (opened o) (callsOn (k .calls) w) → x ≡ callBy a c → w′ ≡ write w (draftCall * k .calls) (callDraft (line, x))
+      → callsOn (k .calls + 1) w′ ≡ callsAfter o (callsOn (k .calls) w) line (c ∷ [])
   unfolding onLine callsAfter holding
-  call-passed-on o line w e = rw (no-call t e, append-nil) refl
+  call-drafted o line w w′ a x h l p q v = rw (v, ← p, ← q) (calls-more (k .calls) w (line, x) (omega (arith, call-room (length w) h l)))
 
-  pub range-passed-on : (line : ℕ) (w : List ℕ) → OneOf (0 ∷ 1 ∷ 2 ∷ 3 ∷ 5 ∷ []) (tagOf the-type t) → rangesOn (ranges# k) w ≡ rangesOn (ranges# k) w ++ onLine line (asRange t)
+module _ (k : Counts) (r : RangeLine) where
+  within-part : (p : Part) → Within (countPart k p) → ranges# k + 1 ≤ mostRanges
+  within-part Category w = omega (arith, w .categories, w .days, w .extras)
+  within-part Days w = omega (arith, w .categories, w .days, w .extras)
+  within-part Extra w = omega (arith, w .categories, w .days, w .extras)
+
+  pub range-room : (c n : ℕ) → c ≡ ranges# k → Within (countRanges k (r ∷ [])) → rangesLent ≤ n → draftRange * c + draftRange ≤ n
+  range-room c n e w h = omega (arith, e, within-part (r .part) w)
+
+  pub range-fits : Within (countRanges k (r ∷ [])) → ranges# k ≤ mostRanges
+  range-fits w = omega (arith, within-part (r .part) w)
+
+  pub range-drafted : (k′ : Counts) (line c : ℕ) (w w′ : List ℕ) → k′ ≡ countPart k (r .part) → c ≡ ranges# k → Within (countRanges k (r ∷ [])) → rangesLent ≤ length w → w′ ≡ write w (draftRange * c) (rangeDraft (line, r))
+      → rangesOn (ranges# k′) w′ ≡ rangesOn (ranges# k) w ++ onLine line (r ∷ [])
   unfolding onLine
-  range-passed-on line w e = rw (no-range t e, append-nil) refl
-
-  module _ (c : CallLine) (e : t ≡ Calls c) where
-    pub call-room : (n : ℕ) → Within (countCalls k (asCall t)) → callsLent ≤ n → draftCall * k .calls + draftCall ≤ n
-    call-room n w h = let v : Within (countCalls k (asCall (Calls c))) = rw e at w in omega (arith, v .calls)
-
-    pub call-fits : Within (countCalls k (asCall t)) → k .calls + 1 < 2 ^ 32
-    call-fits w = let v : Within (countCalls k (asCall (Calls c))) = rw e at w in omega (arith, v .calls)
-
-    pub call-counted : record { calls = k .calls + 1; categories = k .categories; days = k .days; extras = k .extras } ≡ countCalls k (asCall t)
-    call-counted = rw e refl
-
-    pub calls-behind : (n : ℕ) → Within (countCalls k (asCall t)) → callsLent ≤ n → draftCall * k .calls ≤ n
-    calls-behind n w h = omega (arith, call-room n w h)
-
-    -- a held before, x is the call
-    pub call-drafted : (o : Opening) (line : ℕ) (w w′ : List ℕ) (a : Announced) (x : Call) → Within (countCalls k (asCall t)) → callsLent ≤ length w
-        → a ≡ lastOf (opened o) (callsOn (k .calls) w) → x ≡ callBy a c → w′ ≡ write w (draftCall * k .calls) (callDraft (line, x))
-        → callsOn (k .calls + 1) w′ ≡ callsAfter o (callsOn (k .calls) w) line (asCall t)
-    unfolding onLine callsAfter holding
-    call-drafted o line w w′ a x h l p q v = rw (v, e, ← p, ← q) (calls-more (k .calls) w (line, x) (omega (arith, call-room (length w) h l)))
-
-  module _ (r : RangeLine) (e : t ≡ Ranges r) where
-    range-within : Within (countRanges k (asRange t)) → Within (countPart k (r .part))
-    range-within w = rw e at w
-
-    within-part : (p : Part) → Within (countPart k p) → ranges# k + 1 ≤ mostRanges
-    within-part Category w = omega (arith, w .categories, w .days, w .extras)
-    within-part Days w = omega (arith, w .categories, w .days, w .extras)
-    within-part Extra w = omega (arith, w .categories, w .days, w .extras)
-
-    pub range-room : (c n : ℕ) → c ≡ ranges# k → Within (countRanges k (asRange t)) → rangesLent ≤ n → draftRange * c + draftRange ≤ n
-    range-room c n e w h = omega (arith, e, within-part (r .part) (range-within w))
-
-    pub range-fits : Within (countRanges k (asRange t)) → ranges# k ≤ mostRanges
-    range-fits w = omega (arith, within-part (r .part) (range-within w))
-
-    pub part-requires : Within (countRanges k (asRange t)) → Within (countPart k (r .part))
-    part-requires = range-within
-
-    module _ (k′ : Counts) (d : k′ ≡ countPart k (r .part)) where
-      pub range-counted : k′ ≡ countRanges k (asRange t)
-      range-counted = d ∙ rw e refl
-
-      pub range-drafted : (line c : ℕ) (w w′ : List ℕ) → c ≡ ranges# k → Within (countRanges k (asRange t)) → rangesLent ≤ length w → w′ ≡ write w (draftRange * c) (rangeDraft (line, r))
-          → rangesOn (ranges# k′) w′ ≡ rangesOn (ranges# k) w ++ onLine line (asRange t)
-      unfolding onLine
-      range-drafted line c w w′ n h l v = rw (d, part-counts k (r .part), v, n, e) (ranges-more (ranges# k) w (line, r) (omega (arith, range-room (ranges# k) (length w) refl h l)))
+  range-drafted k′ line c w w′ d n h l v = rw (d, part-counts k (r .part), v, n) (ranges-more (ranges# k) w (line, r) (omega (arith, range-room (ranges# k) (length w) refl h l)))
 
 pub category-fits : (k : Counts) (p : Part) → p ≡ Category → Within (countPart k p) → k .categories + 1 < 2 ^ 32
 category-fits k p e w = let v : Within (countPart k Category) = rw e at w in omega (arith, v .categories)
@@ -346,42 +301,83 @@ module _ (k : Counts) (p : Part) where
 
 pub ruleset parts = (tests, category-fits, days-fit, extra-fits, category-counted, days-counted, extra-counted)
 
-pub ruleset call-drafts = (tests, call-passed, call-passed-on, call-room, calls-behind, call-fits, call-counted, call-drafted)
+pub ruleset call-drafts = (tests, call-room, calls-behind, call-fits, call-drafted)
 
-pub ruleset range-drafts = (tests, range-passed, range-passed-on, range-room, range-fits, part-requires, range-counted, range-drafted)
+pub ruleset range-drafts = (tests, range-room, range-fits, range-drafted)
 
--- ---- the needs of `draft_line`, for `search lines-drafted`: k′ counts the call, and r the range too
+-- ---- a line that says t, for `search line-drafts`: k counts before it
 
-within-call : (k : Counts) (t : Told) → Within (counted k t) → Within (countCalls k (asCall t))
-within-call k Skip w = w
-within-call k Other w = w
-within-call k (Broken c) w = w
-within-call k (Opens o) w = w
-within-call k (Ranges r) w = go (r .part) w
-  where
-    go : (p : Part) → Within (countPart k p) → Within k
-    go Category v = record { calls = v .calls; categories = omega (arith, v .categories); days = v .days; extras = v .extras }
-    go Days v = record { calls = v .calls; categories = v .categories; days = omega (arith, v .days); extras = v .extras }
-    go Extra v = record { calls = v .calls; categories = v .categories; days = v .days; extras = omega (arith, v .extras) }
-within-call k (Calls c) w = w
+no-call : (t : Told) → OneOf (0 ∷ 1 ∷ 2 ∷ 3 ∷ 4 ∷ []) (tagOf the-type t) → asCall t ≡ []
+no-call Skip e = refl
+no-call Other e = refl
+no-call (Broken c) e = refl
+no-call (Opens o) e = refl
+no-call (Ranges r) e = refl
+no-call (Calls c) e = absurd (⊎-elim (λ w. omega arith) (⊎-elim (λ w. omega arith) (⊎-elim (λ w. omega arith) (⊎-elim (λ w. omega arith) (λ w. omega arith)))) e)
+
+no-range : (t : Told) → OneOf (0 ∷ 1 ∷ 2 ∷ 3 ∷ 5 ∷ []) (tagOf the-type t) → asRange t ≡ []
+no-range Skip e = refl
+no-range Other e = refl
+no-range (Broken c) e = refl
+no-range (Opens o) e = refl
+no-range (Ranges r) e = absurd (⊎-elim (λ w. omega arith) (⊎-elim (λ w. omega arith) (⊎-elim (λ w. omega arith) (⊎-elim (λ w. omega arith) (λ w. omega arith)))) e)
+no-range (Calls c) e = refl
 
 module _ (k : Counts) (t : Told) where
-  pub call-within : Within (counted k t) → Within (countCalls k (asCall t))
-  call-within w = within-call k t w
+  -- neither a call nor a range
+  module _ (c : asCall t ≡ []) (r : asRange t ≡ []) where
+    pub none-counted : k ≡ counted k t
+    none-counted = rw (c, r) refl
 
-  module _ (k′ : Counts) (d : k′ ≡ countCalls k (asCall t)) where
-    pub ranges-within : Within (counted k t) → Within (countRanges k′ (asRange t))
-    ranges-within w = rw d w
+    pub none-called : (o : Opening) (line : ℕ) (w : List ℕ) → callsOn (k .calls) w ≡ callsAfter o (callsOn (k .calls) w) line (asCall t)
+    unfolding onLine callsAfter holding
+    none-called o line w = rw (c, append-nil) refl
 
-    module _ (r : Counts) (e : r ≡ countRanges k′ (asRange t)) where
-      pub line-counted : r ≡ counted k t
-      line-counted = rw d at e
+    pub none-ranged : (line : ℕ) (w : List ℕ) → rangesOn (ranges# k) w ≡ rangesOn (ranges# k) w ++ onLine line (asRange t)
+    unfolding onLine
+    none-ranged line w = rw (r, append-nil) refl
 
-      pub line-called : (o : Opening) (line : ℕ) (w w′ : List ℕ) → callsOn (k′ .calls) w′ ≡ callsAfter o (callsOn (k .calls) w) line (asCall t)
-          → callsOn (r .calls) w′ ≡ callsAfter o (callsOn (k .calls) w) line (asCall t)
-      line-called o line w w′ v = ap (λ (n : ℕ). callsOn n w′) (ap (λ (c : Counts). c .calls) e ∙ calls-kept k′ (asRange t)) ∙ v
+  -- a call
+  module _ (c : CallLine) (e : t ≡ Calls c) where
+    pub call-within : Within (counted k t) → Within (countCalls k (c ∷ []))
+    call-within w = rw e at w
 
-      pub line-ranged : (line : ℕ) (w w′ : List ℕ) → rangesOn (ranges# r) w′ ≡ rangesOn (ranges# k′) w ++ onLine line (asRange t) → rangesOn (ranges# r) w′ ≡ rangesOn (ranges# k) w ++ onLine line (asRange t)
-      line-ranged line w w′ v = v ∙ ap (λ (n : ℕ). rangesOn n w ++ onLine line (asRange t)) (ap ranges# d ∙ ranges-kept k (asCall t))
+    pub call-counted : (r : Counts) → r ≡ countCalls k (c ∷ []) → r ≡ counted k t
+    call-counted r d = rw e d
 
-pub ruleset line-drafts = (tests, call-within, ranges-within, line-counted, line-called, line-ranged)
+    pub call-called : (o : Opening) (line n : ℕ) (w w′ : List ℕ) → callsOn n w′ ≡ callsAfter o (callsOn (k .calls) w) line (c ∷ []) → callsOn n w′ ≡ callsAfter o (callsOn (k .calls) w) line (asCall t)
+    call-called o line n w w′ v = rw e v
+
+    pub call-ranged : (r : Counts) (line : ℕ) (w : List ℕ) → r ≡ countCalls k (c ∷ []) → rangesOn (ranges# r) w ≡ rangesOn (ranges# k) w ++ onLine line (asRange t)
+    unfolding onLine
+    call-ranged r line w d = rw (e, d, append-nil) refl
+
+  -- a range
+  module _ (x : RangeLine) (e : t ≡ Ranges x) where
+    pub range-within : Within (counted k t) → Within (countRanges k (x ∷ []))
+    range-within w = rw e at w
+
+    pub range-counted : (r : Counts) → r ≡ countRanges k (x ∷ []) → r ≡ counted k t
+    range-counted r d = rw e d
+
+    pub range-called : (r : Counts) (o : Opening) (line : ℕ) (w : List ℕ) → r ≡ countRanges k (x ∷ []) → callsOn (r .calls) w ≡ callsAfter o (callsOn (k .calls) w) line (asCall t)
+    unfolding onLine callsAfter holding
+    range-called r o line w d = rw (e, d, calls-kept k (x ∷ []), append-nil) refl
+
+    pub range-ranged : (r : Counts) (line : ℕ) (w w′ : List ℕ) → rangesOn (ranges# r) w′ ≡ rangesOn (ranges# k) w ++ onLine line (x ∷ []) → rangesOn (ranges# r) w′ ≡ rangesOn (ranges# k) w ++ onLine line (asRange t)
+    range-ranged r line w w′ v = rw e v
+
+-- t is neither, by its tag
+module _ (k : Counts) (t : Told) (c : OneOf (0 ∷ 1 ∷ 2 ∷ 3 ∷ 4 ∷ []) (tagOf the-type t)) (r : OneOf (0 ∷ 1 ∷ 2 ∷ 3 ∷ 5 ∷ []) (tagOf the-type t)) where
+  pub other-counted : k ≡ counted k t
+  other-counted = none-counted k t (no-call t c) (no-range t r)
+
+  pub other-called : (o : Opening) (line : ℕ) (w : List ℕ) → callsOn (k .calls) w ≡ callsAfter o (callsOn (k .calls) w) line (asCall t)
+  other-called = none-called k t (no-call t c) (no-range t r)
+
+  pub other-ranged : (line : ℕ) (w : List ℕ) → rangesOn (ranges# k) w ≡ rangesOn (ranges# k) w ++ onLine line (asRange t)
+  other-ranged = none-ranged k t (no-call t c) (no-range t r)
+
+pub ruleset line-drafts = (tests, call-within, call-counted, call-called, call-ranged, range-within, range-counted, range-called, range-ranged)
+
+pub ruleset other-drafts = (tests, other-counted, other-called, other-ranged)

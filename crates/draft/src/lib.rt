@@ -16,7 +16,7 @@ use timetable::Part;
 use timetable::RangeLine;
 use timetable::Told;
 ghost use mathlib.Core.Path.{_≡_};
-ghost use mathlib.Core.List.{_++_};
+ghost use mathlib.Core.List.{[], _∷_, _++_};
 ghost use mathlib.Core.Bool.{cond};
 ghost use Prim.Native.Nat.{_+_, _*_, _≤_};
 ghost use lib.ListN.{length, drop};
@@ -104,20 +104,29 @@ pub fn draft_line(
     ensures { λ r. ⌜ callsOn (r .calls) (now (calls .exit)) ≡ callsAfter opening (callsOn (counts .calls) (now (calls .entry))) line (asCall said) ⌝ }
     ensures { λ r. ⌜ rangesOn (ranges# r) (now (ranges .exit)) ≡ rangesOn (ranges# counts) (now (ranges .entry)) ++ onLine line (asRange said) ⌝ }
 {
-    let k = draft_call(opening, said, line, counts, calls);
-    draft_range(said, line, k, ranges)
-}
-
-// "Only schedule lines are taken as calls; every other kind is passed over when the route is gathered."
-fn draft_call(opening: Opening, said: Told, line: u32, counts: Counts, calls: &mut [u32]) -> Counts
-    requires { ⌜ Within (countCalls counts (asCall said)) ⌝ }
-    requires { ⌜ callsLent ≤ length (now calls) ⌝ }
-    ensures { λ r. ⌜ r ≡ countCalls counts (asCall said) ⌝ }
-    ensures { λ r. ⌜ callsOn (r .calls) (now (calls .exit)) ≡ callsAfter opening (callsOn (counts .calls) (now (calls .entry))) line (asCall said) ⌝ }
-{
-    let Told::Calls(call) = said else {
+    // "Only schedule lines are taken as calls; every other kind is passed over when the route is gathered."
+    if let Told::Calls(call) = said {
+        return draft_call(opening, call, line, counts, calls);
+    }
+    let Told::Ranges(range) = said else {
         return counts;
     };
+    draft_range(range, line, counts, ranges)
+}
+
+// Drafts the call of a schedule line.
+pub fn draft_call(
+    opening: Opening,
+    call: CallLine,
+    line: u32,
+    counts: Counts,
+    calls: &mut [u32],
+) -> Counts
+    requires { ⌜ Within (countCalls counts (call ∷ [])) ⌝ }
+    requires { ⌜ callsLent ≤ length (now calls) ⌝ }
+    ensures { λ r. ⌜ r ≡ countCalls counts (call ∷ []) ⌝ }
+    ensures { λ r. ⌜ callsOn (r .calls) (now (calls .exit)) ≡ callsAfter opening (callsOn (counts .calls) (now (calls .entry))) line (call ∷ []) ⌝ }
+{
     let before = announced_last(opening, counts.calls, calls);
     put_call(
         calls,
@@ -175,15 +184,13 @@ fn or_before(says: bool, said: u32, before: u32) -> u32
     before
 }
 
-fn draft_range(said: Told, line: u32, counts: Counts, ranges: &mut [u32]) -> Counts
-    requires { ⌜ Within (countRanges counts (asRange said)) ⌝ }
+// Drafts the range of a *G or *A line.
+pub fn draft_range(range: RangeLine, line: u32, counts: Counts, ranges: &mut [u32]) -> Counts
+    requires { ⌜ Within (countRanges counts (range ∷ [])) ⌝ }
     requires { ⌜ rangesLent ≤ length (now ranges) ⌝ }
-    ensures { λ r. ⌜ r ≡ countRanges counts (asRange said) ⌝ }
-    ensures { λ r. ⌜ rangesOn (ranges# r) (now (ranges .exit)) ≡ rangesOn (ranges# counts) (now (ranges .entry)) ++ onLine line (asRange said) ⌝ }
+    ensures { λ r. ⌜ r ≡ countRanges counts (range ∷ []) ⌝ }
+    ensures { λ r. ⌜ rangesOn (ranges# r) (now (ranges .exit)) ≡ rangesOn (ranges# counts) (now (ranges .entry)) ++ onLine line (range ∷ []) ⌝ }
 {
-    let Told::Ranges(range) = said else {
-        return counts;
-    };
     put_range(
         ranges,
         DRAFT_RANGE_WORDS * range_count(counts) as usize,

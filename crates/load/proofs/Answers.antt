@@ -22,8 +22,8 @@ use Rattle.timetable.specs.Load.{Where, delivered, lengthOffence, contentOffenc
 use Rattle.timetable.specs.declared.Offence.{Offence}
 use Rattle.timetable.specs.declared.Loaded.{Loaded}
 use Rattle.timetable.specs.declared.Loaded.the-variants.{Accepted, Refused as LoadRefused}
-use Rattle.plan.specs.Inner.Services.{withinLimits}
-use Rattle.plan.proofs.Within.{head-none, plan-within}
+use Rattle.plan.specs.Inner.Services.{allSound}
+use Rattle.plan.proofs.Within.{head-none, plan-sound}
 use Rattle.table_words.specs.Inner.Words.{headerWords, bodyWords}
 use Rattle.table_words.specs.declared.Header.{Header}
 use Rattle.load.specs.Inner.Delivered.{longIn, headerOf, deliveredBy, answered, left}
@@ -142,8 +142,8 @@ module _ (e b s u p z : List ℕ) (d : Delivered)
     pub none-stray : headFirst (linesOf p) ≡ none
     none-stray = head-none (bitFieldsIn b) (stopsIn s) (classesIn z) (periodIn (linesOf e) .n) (linesOf p) (plan-none e b s u p z (clean .0))
 
-    pub none-over : withinLimits (blocks (linesOf p)) ≡ true
-    none-over = plan-within (bitFieldsIn b) (stopsIn s) (classesIn z) (periodIn (linesOf e) .n) (linesOf p) (plan-none e b s u p z (clean .0))
+    pub none-over : allSound (blocks (linesOf p)) ≡ true
+    none-over = plan-sound (bitFieldsIn b) (stopsIn s) (classesIn z) (periodIn (linesOf e) .n) (linesOf p) (plan-none e b s u p z (clean .0))
 
     words-known : g .words ≡ headerSize + length (bodyWords b s u z p)
     words-known = ap (λ (x : Header). x .words) (sym (clean .1)) ∙ words-needed e b s u p z

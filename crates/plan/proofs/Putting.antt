@@ -1,7 +1,7 @@
 -- Services written one after the other: what is left to write at a place, and what was to be written, end alike. Assumes nothing.
 use mathlib.Core.Path.{_≡_, refl, sym, ap, _∙_}
 use mathlib.Core.List.{List, [], _∷_, _++_, map}
-use mathlib.Core.Bool.{true}
+use mathlib.Core.Bool.{true, _&&_}
 use mathlib.Core.Option.{Option, none, some}
 use Prim.Native.Nat.{ℕ, _+_, _-_, _*_, _^_, _≤_, _<_}
 use native.Mathlib.Omega.{arith}
@@ -20,10 +20,10 @@ use Rattle.timetable.specs.Table.{serviceWords, pointing}
 use Rattle.timetable.specs.declared.Offence.{Offence}
 use Rattle.timetable.specs.declared.Opening.{Opening}
 use Rattle.timetable.proofs.Records.{service-length}
-use Rattle.draft.specs.Inner.Draft.{draftCall, draftRange, mostRanges, callsLent, rangesLent, countsOf, ranges#, Within}
+use Rattle.draft.specs.Inner.Draft.{draftCall, draftRange, mostRanges, callsLent, rangesLent, countsOf, ranges#}
 use Rattle.draft.specs.declared.Drafted.{Drafted}
 use Rattle.draft.proofs.Drafts.{draft-service, ranges-within}
-use Rattle.reading.specs.Inner.Reading.{serviceLinesAt, Boundary, ServiceRead, HeadClear, HeadAs}
+use Rattle.reading.specs.Inner.Reading.{serviceLinesAt, Boundary, Sound, allFormed, ServiceRead, HeadClear, HeadAs}
 use Rattle.reading.specs.declared.Head.{Head}
 use Rattle.reading.specs.declared.Head.the-variants.{Clear, Stray}
 use Rattle.reading.proofs.Heads.{after, service-here, services-none}
@@ -31,7 +31,7 @@ use Rattle.service_words.specs.Inner.Parts.{serviceIn, sizesOf}
 use Rattle.service_words.specs.declared.Sizes.{Sizes}
 use Rattle.service.specs.Inner.Answers.{ServiceTaken}
 use Rattle.stop_places.proofs.Laws.{pointed-size, calls-inside, pointed-written}
-use Rattle.plan.specs.Inner.Services.{blockWords, placedWords, countsWithin, withinLimits}
+use Rattle.plan.specs.Inner.Services.{blockWords, placedWords, countsWithin, allSound}
 use Rattle.plan.proofs.Within.{within-says}
 use Rattle.plan.proofs.Sizes.{words-fit}
 
@@ -58,13 +58,16 @@ placed-size stops (b ∷ bs) =
       length-append (serviceWords (serviceOf b)) (gathered serviceWords (map serviceOf bs)),
     )
 
-within-cons : (b : List Line) (bs : List (List Line)) → withinLimits (b ∷ bs) ≡ true → (countsWithin (countsOf b) ≡ true) × (withinLimits bs ≡ true)
-unfolding withinLimits every
-within-cons b bs e = and-true _ _ e
+sound-cons : (b : List Line) (bs : List (List Line)) → allSound (b ∷ bs) ≡ true → Sound b × (allSound bs ≡ true)
+unfolding allSound every
+sound-cons b bs e =
+    let x = and-true (countsWithin (countsOf b) && allFormed b) (every (λ (b : List Line). countsWithin (countsOf b) && allFormed b) bs) e in
+    let y = and-true (countsWithin (countsOf b)) (allFormed b) (x .0) in
+    (record { countsWithin = within-says (countsOf b) (y .0); formed = y .1 }, x .1)
 
 module _ (f : List ℕ) (at n : ℕ) (b : Boundary f at n) (h : at < length f) where
-  pub here-within : withinLimits (blocks (linesAt f at n)) ≡ true → Within (countsOf (serviceLinesAt f at n))
-  here-within w = within-says (countsOf (serviceLinesAt f at n)) (within-cons (serviceLinesAt f at n) (blocks (after f (cutAt f at n))) (rw (service-here f at n b h) at w) .0)
+  pub here-sound : allSound (blocks (linesAt f at n)) ≡ true → Sound (serviceLinesAt f at n)
+  here-sound w = sound-cons (serviceLinesAt f at n) (blocks (after f (cutAt f at n))) (rw (service-here f at n b h) at w) .0
 
   here-words : length (serviceWords (serviceOf (serviceLinesAt f at n))) ≤ length (blockWords (blocks (linesAt f at n)))
   here-words =
@@ -145,8 +148,8 @@ module _ (f : List ℕ) (at n w end m : ℕ) (s : ServiceTaken f at n w end m) w
   pub next-less : at < length f → length f - end < length f - at
   next-less h = omega (arith, s .past)
 
-  pub next-within : withinLimits (blocks (linesAt f at n)) ≡ true → withinLimits (blocks (linesAt f end m)) ≡ true
-  next-within v = within-cons (serviceLinesAt f at n) (blocks (linesAt f end m)) (rw (s .services) at v) .1
+  pub next-sound : allSound (blocks (linesAt f at n)) ≡ true → allSound (blocks (linesAt f end m)) ≡ true
+  next-sound v = sound-cons (serviceLinesAt f at n) (blocks (linesAt f end m)) (rw (s .services) at v) .1
 
   -- `to` words stand before it, q in all
   module _ (to q : ℕ) (count : to + length (blockWords (blocks (linesAt f at n))) ≡ q) where
@@ -170,7 +173,7 @@ pub all-written : (stops : List StopRecord) (f t w : List ℕ) (at n to : ℕ) �
 unfolding placedWords gathered
 all-written stops f t w at n to h v = sym (write-none t to) ∙ (rw (services-none f at n h) at v)
 
-pub ruleset putting = (tests, here-within, here-room, next-boundary, next-less, next-within, next-count, place-fits, next-written, all-written, len-trans)
+pub ruleset putting = (tests, here-sound, here-room, next-boundary, next-less, next-sound, next-count, place-fits, next-written, all-written, len-trans)
 
 -- ---- where the services begin, for `search beginning`
 
@@ -181,8 +184,8 @@ module _ (f : List ℕ) (h : Head) (at n : ℕ) (e : h ≡ Clear at n) (d : Head
   pub head-next : Boundary f at n
   head-next = head-clear .next
 
-  pub head-within : withinLimits (blocks (linesOf f)) ≡ true → withinLimits (blocks (linesAt f at n)) ≡ true
-  head-within v = rw (head-clear .services) at v
+  pub head-sound : allSound (blocks (linesOf f)) ≡ true → allSound (blocks (linesAt f at n)) ≡ true
+  head-sound v = rw (head-clear .services) at v
 
   module _ (stops : List StopRecord) (t : List ℕ) (q : ℕ) where
     pub head-room : q + length (placedWords stops (blocks (linesOf f))) ≤ length t → q + length (blockWords (blocks (linesAt f at n))) ≤ length t
@@ -200,4 +203,4 @@ no-stray f h o t w e d v =
     let x : headFirst (linesOf f) ≡ some o = rw e at d in
     some-none o (sym x ∙ v)
 
-pub ruleset beginning = (tests, head-next, head-within, head-room, head-written, no-stray)
+pub ruleset beginning = (tests, head-next, head-sound, head-room, head-written, no-stray)

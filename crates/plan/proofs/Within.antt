@@ -1,4 +1,5 @@
--- Of a file without an offence: nothing stands before the first service, and none of them has more calls or ranges than it may. Assumes nothing.
+-- Of a file without an offence: nothing stands before the first service, and none of them has more calls or ranges than it may, nor a line with a broken
+-- form. Assumes nothing.
 use mathlib.Core.Path.{_≡_, refl}
 use mathlib.Core.List.{List, [], _∷_}
 use mathlib.Core.Bool.{true}
@@ -16,8 +17,9 @@ use Rattle.timetable.specs.Checks.{headFirst, serviceFirst, servicesFirst, plan
 use Rattle.timetable.proofs.Offences.{then-none}
 use Rattle.draft.specs.Inner.Draft.{countsOf, Within}
 use Rattle.draft.specs.declared.Counts.{Counts}
-use Rattle.reading.proofs.Checking.{own-within}
-use Rattle.plan.specs.Inner.Services.{countsWithin, withinLimits}
+use Rattle.reading.specs.Inner.Reading.{Sound}
+use Rattle.reading.proofs.Checking.{own-sound}
+use Rattle.plan.specs.Inner.Services.{countsWithin, allSound}
 
 -- ---- the test and what it says
 
@@ -40,18 +42,19 @@ module _ (k : Counts) where
 -- ---- all services
 
 module _ (fields : List BitField) (stops : List StopRecord) (classes : List CategoryClass) (n : ℕ) where
-  all-within : (bs : List (List Line)) → servicesFirst fields stops classes n bs ≡ none → withinLimits bs ≡ true
-  unfolding servicesFirst serviceFirst withinLimits every
-  all-within [] e = refl
-  all-within (b ∷ bs) e =
+  all-sound : (bs : List (List Line)) → servicesFirst fields stops classes n bs ≡ none → allSound bs ≡ true
+  unfolding servicesFirst serviceFirst allSound every
+  all-sound [] e = refl
+  all-sound (b ∷ bs) e =
       let o = then-none (serviceFirst fields stops classes n b) (servicesFirst fields stops classes n bs) e in
-      rw (within-holds (countsOf b) (own-within fields stops classes b (then-none _ _ (o .0) .0))) (all-within bs (o .1))
+      let s : Sound b = own-sound fields stops classes b (then-none _ _ (o .0) .0) in
+      rw (within-holds (countsOf b) (s .within), s .formed) (all-sound bs (o .1))
 
   module _ (ls : List Line) (e : planFirst fields stops classes n ls ≡ none) where
     pub head-none : headFirst ls ≡ none
     unfolding planFirst
     head-none = then-none (headFirst ls) _ e .0
 
-    pub plan-within : withinLimits (blocks ls) ≡ true
+    pub plan-sound : allSound (blocks ls) ≡ true
     unfolding planFirst
-    plan-within = all-within (blocks ls) (then-none (headFirst ls) _ e .1)
+    plan-sound = all-sound (blocks ls) (then-none (headFirst ls) _ e .1)

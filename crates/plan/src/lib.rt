@@ -16,11 +16,11 @@ ghost use Rattle.timetable.specs.Files.{bitFieldsIn, stopsIn, classesIn};
 ghost use Rattle.timetable.specs.Service.{blocks, serviceOf};
 ghost use Rattle.timetable.specs.Checks.{headFirst, servicesFirst, planFirst};
 ghost use Rattle.timetable.specs.Table.{serviceWords, pointing};
-ghost use Rattle.draft.specs.Inner.Draft.{callsLent, rangesLent, countsOf, Within};
+ghost use Rattle.draft.specs.Inner.Draft.{callsLent, rangesLent};
 ghost use Rattle.reading.specs.Inner.Maps.{FieldMap, StopMap, ClassIndex};
-ghost use Rattle.reading.specs.Inner.Reading.{serviceLinesAt, Boundary};
+ghost use Rattle.reading.specs.Inner.Reading.{serviceLinesAt, Boundary, Sound};
 ghost use Rattle.service.specs.Inner.Answers.{ServiceTaken};
-ghost use Rattle.plan.specs.Inner.Services.{blockWords, placedWords, withinLimits};
+ghost use Rattle.plan.specs.Inner.Services.{blockWords, placedWords, allSound};
 
 // The first offence of FPLAN, or how many services it has and how many words they take. `fields` and `stops` are the maps of BITFELD and BAHNHOF, `index`
 // is the index of ZUGART.
@@ -131,7 +131,7 @@ pub fn put_plan(fplan: &[u8], bahnhof: &[u8], stops: &[u32], table: &mut [u32], 
     requires { ⌜ length (now fplan) ≤ mostFileBytes ⌝ }
     requires { ⌜ StopMap (now bahnhof) (now stops) ⌝ }
     requires { ⌜ headFirst (linesOf (now fplan)) ≡ none ⌝ }
-    requires { ⌜ withinLimits (blocks (linesOf (now fplan))) ≡ true ⌝ }
+    requires { ⌜ allSound (blocks (linesOf (now fplan))) ≡ true ⌝ }
     requires { ⌜ at + length (placedWords (stopsIn (now bahnhof)) (blocks (linesOf (now fplan)))) ≤ length (now table) ⌝ }
     ensures { λ _. ⌜ now (table .exit) ≡ write (now (table .entry)) at (placedWords (stopsIn (now (bahnhof .entry))) (blocks (linesOf (now (fplan .entry))))) ⌝ }
 {
@@ -168,7 +168,7 @@ fn put_services(
 )
     requires { ⌜ Boundary (now fplan) start first ⌝ }
     requires { ⌜ StopMap (now bahnhof) (now stops) ⌝ }
-    requires { ⌜ withinLimits (blocks (linesAt (now fplan) start first)) ≡ true ⌝ }
+    requires { ⌜ allSound (blocks (linesAt (now fplan) start first)) ≡ true ⌝ }
     requires { ⌜ (callsLent ≤ length (now calls)) × (rangesLent ≤ length (now ranges)) ⌝ }
     requires { ⌜ at + length (blockWords (blocks (linesAt (now fplan) start first))) ≤ length (now table) ⌝ }
     ensures { λ _. ⌜ now (table .exit) ≡ write (now (table .entry)) at (placedWords (stopsIn (now (bahnhof .entry))) (blocks (linesAt (now (fplan .entry)) start first))) ⌝ }
@@ -198,7 +198,7 @@ fn put_service(
 ) -> Put
     requires { ⌜ Boundary (now fplan) at no × (at < length (now fplan)) ⌝ }
     requires { ⌜ StopMap (now bahnhof) (now stops) ⌝ }
-    requires { ⌜ Within (countsOf (serviceLinesAt (now fplan) at no)) ⌝ }
+    requires { ⌜ Sound (serviceLinesAt (now fplan) at no) ⌝ }
     requires { ⌜ (callsLent ≤ length (now calls)) × (rangesLent ≤ length (now ranges)) ⌝ }
     requires { ⌜ to + length (serviceWords (serviceOf (serviceLinesAt (now fplan) at no))) ≤ length (now table) ⌝ }
     ensures { λ r. ⌜ ServiceTaken (now (fplan .entry)) at no (r .words) (r .end) (r .no) ⌝ }
@@ -220,7 +220,7 @@ fn put_drafted(
     to: usize,
 ) -> Put
     requires { ⌜ Boundary (now fplan) at no × (at < length (now fplan)) ⌝ }
-    requires { ⌜ Within (countsOf (serviceLinesAt (now fplan) at no)) ⌝ }
+    requires { ⌜ Sound (serviceLinesAt (now fplan) at no) ⌝ }
     requires { ⌜ (callsLent ≤ length (now calls)) × (rangesLent ≤ length (now ranges)) ⌝ }
     requires { ⌜ to + length (serviceWords (serviceOf (serviceLinesAt (now fplan) at no))) ≤ length (now table) ⌝ }
     ensures { λ r. ⌜ ServiceTaken (now (fplan .entry)) at no (r .words) (r .end) (r .no) ⌝ }

@@ -8,7 +8,7 @@ use native.Mathlib.Omega.{arith}
 use lib.ListN.{length, take, drop}
 use lib.Dec.{leb}
 use borrow.Author.Tests.{leb-false}
-use Rattle.base.specs.Lists.{gathered}
+use Rattle.base.specs.Lists.{every, gathered}
 use Rattle.base.proofs.Laws.{apart, tests}
 use Rattle.lines.specs.Lines.{Line, cutAt, linesAt}
 use Rattle.lines.specs.declared.Cut.{Cut}
@@ -31,10 +31,11 @@ use Rattle.timetable.proofs.Offences.{then-none, given-none, first-none, verdic
 use Rattle.draft.specs.Inner.Draft.{callsLent, rangesLent, callsOn, rangesOn, onLine, callsAfter, countsOf, countPart, ranges#, noCounts, counted, Within}
 use Rattle.draft.specs.declared.Counts.{Counts}
 use Rattle.draft.proofs.Drafts.{counts-more}
-use Rattle.reading.specs.Inner.Reading.{serviceLinesAt, Boundary, NextLine, NextAs, countOf, rangeAfter, callAfter, offenceAfter}
+use Rattle.reading.specs.Inner.Reading.{serviceLinesAt, Boundary, Sound, isFormed, allFormed, NextLine, NextAs, countOf, rangeAfter, callAfter, formAfter, offenceAfter}
 use Rattle.reading.specs.declared.Next.{Next}
 use Rattle.reading.specs.declared.Next.the-variants.{Line as LineTold, End}
-use Rattle.reading.proofs.Heads.{cutLine, after}
+use Rattle.reading.proofs.Heads.{cutLine, after, first-opens}
+use Rattle.reading.proofs.Again.{form-only}
 use Rattle.reading.proofs.Passing.{Reads, reads-first, reads-more, next-is, pass-end, pass-less}
 
 -- ---- one line
@@ -88,6 +89,26 @@ module _ (fields : List BitField) (stops : List StopRecord) (classes : List Cate
   unfolding tolds gathered saidOn holding calledOn
   own-within ls e = own-after [] ls e (record { calls = omega arith; categories = omega arith; days = omega arith; extras = omega arith })
 
+-- and none of them has a broken form
+told-formed : (fields : List BitField) (stops : List StopRecord) (classes : List CategoryClass) (before : List Line) (line : ℕ) (t : Told) → toldOffence fields stops classes before line t ≡ none → isFormed t ≡ true
+told-formed fields stops classes before line Skip e = refl
+told-formed fields stops classes before line Other e = refl
+told-formed fields stops classes before line (Broken c) e = apart (cc)
+told-formed fields stops classes before line (Opens o) e = refl
+told-formed fields stops classes before line (Ranges r) e = refl
+told-formed fields stops classes before line (Calls c) e = refl
+
+module _ (fields : List BitField) (stops : List StopRecord) (classes : List CategoryClass) where
+  own-formed : (before ls : List Line) → first (ownOffence fields stops classes) before ls ≡ none → allFormed ls ≡ true
+  unfolding allFormed every
+  own-formed before [] e = refl
+  own-formed before (l ∷ ls) e =
+      let o = first-none (ownOffence fields stops classes) before l ls e in
+      rw (told-formed fields stops classes before (l .no) (toldIn (l .text)) (o .0)) (own-formed (before ++ (l ∷ [])) ls (o .1))
+
+  pub own-sound : (ls : List Line) → first (ownOffence fields stops classes) [] ls ≡ none → Sound ls
+  own-sound ls e = record { within = own-within fields stops classes ls e; formed = own-formed [] ls e }
+
 -- the first offence of lines, at the first of them and after it
 first-cons : (off : List Line → Line → Option Offence) (before : List Line) (l : Line) (ls : List Line) → first off before (l ∷ ls) ≡ (off before l <|> first off (before ++ (l ∷ [])) ls)
 unfolding first
@@ -109,27 +130,29 @@ pub record Clean (fields : List BitField) (stops : List StopRecord) (classes : L
   pub clean : first (ownOffence fields stops classes) [] (serviceLinesAt f at n) ≡ first (ownOffence fields stops classes) ls (headLines (linesAt f e m))
 
 module _ (fields : List BitField) (stops : List StopRecord) (classes : List CategoryClass) where
-  -- at the first line: v is its verdict
-  module _ (f : List ℕ) (at n : ℕ) (r : Cut) (said : Told) (k : Counts) (v : Verdict)
-      (h : at < length f) (e : r ≡ cutAt f at n) (d : said ≡ toldIn (take (r .stop - at) (drop at f))) (z : k ≡ noCounts) (o : v ≡ verdictBy (offenceAfter fields stops classes k n said)) where
-    own-first : offenceAfter fields stops classes k n said ≡ ownOffence fields stops classes [] (cutLine f at n r)
+  -- at the first line: v is the verdict of its form
+  module _ (f : List ℕ) (at n : ℕ) (r : Cut) (said : Told) (v : Verdict) (b : Boundary f at n)
+      (h : at < length f) (e : r ≡ cutAt f at n) (d : said ≡ toldIn (take (r .stop - at) (drop at f))) (o : v ≡ verdictBy (formAfter n said)) where
+    own-first : formAfter n said ≡ ownOffence fields stops classes [] (cutLine f at n r)
     unfolding tolds gathered saidOn holding calledOn
-    own-first = offence-next fields stops classes [] (cutLine f at n r) k n said (sym z) refl d
+    own-first =
+        form-only fields stops classes noCounts n (take (r .stop - at) (drop at f)) said (first-opens f at n r b h e) d
+        ∙ offence-next fields stops classes [] (cutLine f at n r) noCounts n said refl refl d
 
     first-lines : first (ownOffence fields stops classes) [] (serviceLinesAt f at n)
         ≡ (ownOffence fields stops classes [] (cutLine f at n r) <|> first (ownOffence fields stops classes) (cutLine f at n r ∷ []) (headLines (after f r)))
     first-lines = rw (cutting f at n r h e .step) (first-cons (ownOffence fields stops classes) [] (cutLine f at n r) (headLines (after f r)))
 
-    pub clean-first : (opening : Opening) (calls ranges : List ℕ) → Boundary f at n → opening ≡ firstOpening (asOpening said) → callsLent ≤ length calls → rangesLent ≤ length ranges
+    pub clean-first : (opening : Opening) (k : Counts) (calls ranges : List ℕ) → k ≡ noCounts → opening ≡ firstOpening (asOpening said) → callsLent ≤ length calls → rangesLent ≤ length ranges
         → v ≡ Fine → Clean fields stops classes f at n opening (r .next) (r .no) k calls ranges
-    clean-first opening calls ranges b p x y g = record {
+    clean-first opening k calls ranges z p x y g = record {
       ls = cutLine f at n r ∷ [];
       reads = reads-first f at n r said opening k calls ranges b h e d p z x y;
-      clean = first-lines ∙ or-none (ownOffence fields stops classes [] (cutLine f at n r)) _ (sym own-first ∙ verdict-fine (offenceAfter fields stops classes k n said) v o g);
+      clean = first-lines ∙ or-none (ownOffence fields stops classes [] (cutLine f at n r)) _ (sym own-first ∙ verdict-fine (formAfter n said) v o g);
     }
 
     pub refused-first : (x : Offence) → v ≡ Offends x → first (ownOffence fields stops classes) [] (serviceLinesAt f at n) ≡ some x
-    refused-first x g = first-lines ∙ or-some (ownOffence fields stops classes [] (cutLine f at n r)) _ x (sym own-first ∙ verdict-offends (offenceAfter fields stops classes k n said) v o x g)
+    refused-first x g = first-lines ∙ or-some (ownOffence fields stops classes [] (cutLine f at n r)) _ x (sym own-first ∙ verdict-offends (formAfter n said) v o x g)
 
   module _ (f : List ℕ) (at n : ℕ) (opening : Opening) (e m : ℕ) (k : Counts) (calls ranges : List ℕ) (p : Clean fields stops classes f at n opening e m k calls ranges) (r : Next) (a : NextAs f e m r) where
     pub clean-end : r ≡ End → first (ownOffence fields stops classes) [] (serviceLinesAt f at n) ≡ none
@@ -166,4 +189,4 @@ module _ (fields : List BitField) (stops : List StopRecord) (classes : List Cate
           clean = next-lines ∙ or-none (ownOffence fields stops classes (p .ls) (it .line)) _ (sym own-next ∙ verdict-fine (offenceAfter fields stops classes k m said) v o y);
         }
 
-pub ruleset checking = (tests, walk, clean-first, refused-first, clean-end, pass-end, pass-less, refused-next, clean-within, clean-more)
+pub ruleset checking = (tests, walk, first-opens, clean-first, refused-first, clean-end, pass-end, pass-less, refused-next, clean-within, clean-more)

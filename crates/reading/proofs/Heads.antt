@@ -66,6 +66,11 @@ opens-by : (l : Line) (kind : Kind) (t : Bool) → kind ≡ kindOf (l .text) →
 unfolding opensService
 opens-by l kind t w o = sym (o ∙ ap isOpening w)
 
+-- what begins where a service may begin opens one
+pub first-opens : (f : List ℕ) (at n : ℕ) (r : Cut) → Boundary f at n → at < length f → r ≡ cutAt f at n → isOpening (kindOf (take (r .stop - at) (drop at f))) ≡ true
+unfolding opensService
+first-opens f at n r b h e = opens-first (cutLine f at n r) (after f r) (ap headLines (sym (cutting f at n r h e .step)) ∙ b .opening)
+
 -- ---- the next line of a service, for `search next`
 
 module _ (f : List ℕ) (at n : ℕ) (r : Cut) (kind : Kind) (t : Bool) (h : at < length f) (d : r ≡ cutAt f at n) (w : kind ≡ kindOf (take (r .stop - at) (drop at f))) (o : t ≡ isOpening kind) where

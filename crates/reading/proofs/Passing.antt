@@ -8,8 +8,9 @@ use types.Run.{OneOf}
 use Prim.Native.Nat.{ℕ, _+_, _-_, _≤_, _<_}
 use native.Mathlib.Omega.{arith}
 use lib.ListN.{length, take, drop, length-append}
-use Rattle.base.specs.Lists.{gathered}
-use Rattle.base.proofs.Laws.{clash, tests}
+use Rattle.base.specs.Lists.{every, gathered}
+use Rattle.base.proofs.Laws.{clash, tests, len-trans}
+use Rattle.base.proofs.Loops.{and-true}
 use Rattle.base.proofs.Lists.{gathered-append}
 use Rattle.lines.specs.Lines.{Line, skipped, cutAt, linesAt}
 use Rattle.lines.specs.declared.Cut.{Cut}
@@ -35,10 +36,10 @@ use Rattle.draft.specs.Inner.Draft.{callsLent, rangesLent, callsOn, rangesOn, o
 use Rattle.draft.specs.declared.Counts.{Counts}
 use Rattle.draft.specs.declared.Drafted.{Drafted}
 use Rattle.draft.proofs.Drafts.{draft-first, draft-more, opening-kept, counts-more}
-use Rattle.reading.specs.Inner.Reading.{serviceLinesAt, Boundary, ServiceRead, NextLine, NextAs}
+use Rattle.reading.specs.Inner.Reading.{serviceLinesAt, Boundary, Sound, isFormed, allFormed, ServiceRead, NextLine, NextAs}
 use Rattle.reading.specs.declared.Next.{Next}
 use Rattle.reading.specs.declared.Next.the-variants.{Line as LineTold, End}
-use Rattle.reading.proofs.Heads.{cutLine, after, opens-first, blocks-open}
+use Rattle.reading.proofs.Heads.{cutLine, after, opens-first, blocks-open, nothing-opens, first-opens, next-opens, next-told}
 
 -- ---- lines within the limits: so are those at their front
 
@@ -197,7 +198,13 @@ module _ (f : List ℕ) (at n : ℕ) (opening : Opening) (ls : List Line) (e m :
       number = x .number;
     }
 
--- ---- the needs of the loop of `read_again`, for `search passing`; r is what asking for the next line answers
+-- a line without a broken form among others without one
+formed-at : (a : List Line) (l : Line) (b : List Line) → allFormed ((a ++ (l ∷ [])) ++ b) ≡ true → isFormed (toldIn (l .text)) ≡ true
+unfolding allFormed every
+formed-at [] l b e = and-true (isFormed (toldIn (l .text))) _ e .0
+formed-at (x ∷ a) l b e = formed-at a l b (and-true (isFormed (toldIn (x .text))) _ e .1)
+
+-- ---- the needs of the loop of `read_again`, for `search passing`; r is the line that is cut, t says whether it opens a service
 
 pub record Passed (f : List ℕ) (at n : ℕ) (opening : Opening) (e m : ℕ) (k : Counts) (calls ranges : List ℕ) : Type 0 where
   pub ls : List Line
@@ -216,18 +223,42 @@ pass-end f at n opening ls e m k calls ranges r p a g = reads-end f at n opening
 pub pass-less : (f : List ℕ) (e m : ℕ) (r : Next) (said : Told) (next m′ : ℕ) → NextAs f e m r → r ≡ LineTold said next m′ → length f - next < length f - e
 pass-less f e m r said next m′ a g = let x : NextLine f e m said next m′ = next-is f e m r said next m′ a g in omega (arith, x .past, x .inside)
 
-module _ (f : List ℕ) (at n : ℕ) (opening : Opening) (e m : ℕ) (k : Counts) (calls ranges : List ℕ) (p : Passed f at n opening e m k calls ranges)
-    (r : Next) (a : NextAs f e m r) (said : Told) (next m′ : ℕ) (g : r ≡ LineTold said next m′) where
-  pub pass-within : Within (countsOf (serviceLinesAt f at n)) → Within (counted k said)
-  pass-within w = reads-within f at n opening (p .ls) e m k calls ranges (p .reads) said next m′ (next-is f e m r said next m′ a g) w
+module _ (f : List ℕ) (at n : ℕ) (opening : Opening) (e m : ℕ) (k : Counts) (calls ranges : List ℕ) (p : Passed f at n opening e m k calls ranges) where
+  pub again-inside : e ≤ length f
+  again-inside = p .reads .inside
 
-  pub pass-more : (k′ : Counts) (calls′ ranges′ : List ℕ) → Within (counted k said) → k′ ≡ counted k said
-      → callsOn (k′ .calls) calls′ ≡ callsAfter opening (callsOn (k .calls) calls) m (asCall said)
-      → rangesOn (ranges# k′) ranges′ ≡ rangesOn (ranges# k) ranges ++ onLine m (asRange said)
-      → length calls′ ≡ length calls → length ranges′ ≡ length ranges
-      → Passed f at n opening next m′ k′ calls′ ranges′
-  pass-more k′ calls′ ranges′ w q c s i j =
-      let x : NextLine f e m said next m′ = next-is f e m r said next m′ a g in
-      record { ls = p .ls ++ (x .line ∷ []); reads = reads-more f at n opening (p .ls) e m k calls ranges (p .reads) said next m′ x k′ calls′ ranges′ w q c s i j }
+  pub again-number : m < 4294967295
+  again-number = omega (arith, p .reads .number, p .reads .inside, p .reads .start .short)
 
-pub ruleset passing = (tests, walk, pass-first, pass-end, pass-less, pass-within, pass-more)
+  pub again-none : length f ≤ e → ServiceRead f at n (record { opening = opening; line = n; counts = k; end = e; no = m }) calls ranges
+  again-none h = reads-end f at n opening (p .ls) e m k calls ranges (p .reads) (nothing-opens f e m h)
+
+  module _ (r : Cut) (kind : Kind) (t : Bool) (h : e < length f) (d : r ≡ cutAt f e m) (w : kind ≡ kindOf (take (r .stop - e) (drop e f))) (o : t ≡ isOpening kind) where
+    pub again-end : t ≡ true → ServiceRead f at n (record { opening = opening; line = n; counts = k; end = e; no = m }) calls ranges
+    again-end y = reads-end f at n opening (p .ls) e m k calls ranges (p .reads) (next-opens f e m r kind t h d w o y)
+
+    module _ (y : t ≡ false) where
+      abbrev it : NextLine f e m (toldIn (take (r .stop - e) (drop e f))) (r .next) (r .no)
+      it = next-told f e m r kind t h d w o (toldIn (take (r .stop - e) (drop e f))) y (p .reads .number) refl
+
+      pub again-within : Sound (serviceLinesAt f at n) → Within (counted k (toldIn (take (r .stop - e) (drop e f))))
+      again-within s = reads-within f at n opening (p .ls) e m k calls ranges (p .reads) (toldIn (take (r .stop - e) (drop e f))) (r .next) (r .no) it (s .within)
+
+      pub again-formed : Sound (serviceLinesAt f at n) → isFormed (toldIn (take (r .stop - e) (drop e f))) ≡ true
+      again-formed s =
+          let v : allFormed ((p .ls ++ (it .line ∷ [])) ++ headLines (linesAt f (r .next) (r .no))) ≡ true =
+          rw (left f at n opening (p .ls) e m k calls ranges (p .reads) (toldIn (take (r .stop - e) (drop e f))) (r .next) (r .no) it) at (s .formed) in
+          rw (← (it .told)) at (formed-at (p .ls) (it .line) (headLines (linesAt f (r .next) (r .no))) v)
+
+      pub again-less : length f - r .next < length f - e
+      again-less = omega (arith, it .past, it .inside)
+
+      pub again-more : (k′ : Counts) (calls′ ranges′ : List ℕ) → Sound (serviceLinesAt f at n) → k′ ≡ counted k (toldIn (take (r .stop - e) (drop e f)))
+          → callsOn (k′ .calls) calls′ ≡ callsAfter opening (callsOn (k .calls) calls) m (asCall (toldIn (take (r .stop - e) (drop e f))))
+          → rangesOn (ranges# k′) ranges′ ≡ rangesOn (ranges# k) ranges ++ onLine m (asRange (toldIn (take (r .stop - e) (drop e f))))
+          → length calls′ ≡ length calls → length ranges′ ≡ length ranges
+          → Passed f at n opening (r .next) (r .no) k′ calls′ ranges′
+      again-more k′ calls′ ranges′ s q c u i j =
+          record { ls = p .ls ++ (it .line ∷ []); reads = reads-more f at n opening (p .ls) e m k calls ranges (p .reads) (toldIn (take (r .stop - e) (drop e f))) (r .next) (r .no) it k′ calls′ ranges′ (again-within s) q c u i j }
+
+pub ruleset passing = (tests, walk, len-trans, first-opens, pass-first, again-inside, again-number, again-none, again-end, again-within, again-formed, again-less, again-more)

@@ -2,25 +2,29 @@
 // starts, or with the file.
 use draft::Counts;
 use draft::Drafted;
+use forms::Kind;
 use timetable::Offence;
 use timetable::Opening;
 use timetable::Part;
 use timetable::Told;
 use timetable::Verdict;
 ghost use mathlib.Core.Path.{_≡_};
+ghost use mathlib.Core.List.{_++_};
+ghost use mathlib.Core.Bool.{true};
 ghost use Prim.Native.Nat.{_+_, _≤_, _<_};
 ghost use lib.ListN.{length};
 ghost use lib.Dec.{leb};
 ghost use Rattle.timetable.specs.Layout.{mostFileBytes, mostCalls};
 ghost use Rattle.timetable.specs.Offences.{verdictBy};
 ghost use Rattle.timetable.specs.Files.{bitFieldsIn, stopsIn, classesIn};
-ghost use Rattle.timetable.specs.Plan.{asOpening};
+ghost use Rattle.forms.specs.Kinds.{kindOf};
+ghost use Rattle.timetable.specs.Plan.{toldIn, asCall, asRange, asOpening};
 ghost use Rattle.timetable.specs.Service.{firstOpening};
 ghost use Rattle.timetable.specs.Legs.{fieldKnown};
 ghost use Rattle.timetable.specs.Checks.{most, categoryListed};
-ghost use Rattle.draft.specs.Inner.Draft.{callsLent, rangesLent, countsOf, Within};
+ghost use Rattle.draft.specs.Inner.Draft.{callsLent, rangesLent, callsOn, rangesOn, onLine, callsAfter, counted, ranges#, Within};
 ghost use Rattle.reading.specs.Inner.Maps.{FieldMap, StopMap, ClassIndex};
-ghost use Rattle.reading.specs.Inner.Reading.{serviceLinesAt, Boundary, ServiceRead, ReadAs, HeadAs, NextAs, countOf, categoryAfter, rangeAfter, callAfter, offenceAfter};
+ghost use Rattle.reading.specs.Inner.Reading.{serviceLinesAt, Boundary, Sound, isFormed, ServiceRead, ReadAs, HeadAs, NextAs, countOf, categoryAfter, rangeAfter, callAfter, formAfter, offenceAfter};
 
 // A service as it was read and drafted, or the first own offence of its lines.
 pub enum Read {
@@ -86,19 +90,9 @@ pub fn read_checked(
 {
     let cut = reader::line_from(fplan, at, no);
     let stop = cut.stop;
-    let first = told::told_in(&fplan[at..stop]);
+    let first = told::told_first(&fplan[at..stop]);
     let mut counts = draft::no_counts();
-    if let Verdict::Offends(offence) = offence_after(
-        counts,
-        first,
-        no,
-        bitfeld,
-        fields,
-        bahnhof,
-        stops,
-        zugart,
-        index,
-    ) {
+    if let Verdict::Offends(offence) = first_offence(first, no) {
         return Read::Refused(offence);
     }
     let opening = opening_of(first);
@@ -133,7 +127,7 @@ pub fn read_checked(
     }
 }
 
-// Reads the service that begins at a place, with line `no`, and drafts it, where its lines were checked.
+// Reads the service that begins at a place, with line `no`, and drafts it, where its lines were checked: no form is asked again.
 pub fn read_again(
     fplan: &[u8],
     at: usize,
@@ -142,18 +136,21 @@ pub fn read_again(
     ranges: &mut [u32],
 ) -> Drafted
     requires { ⌜ Boundary (now fplan) at no × (at < length (now fplan)) ⌝ }
-    requires { ⌜ Within (countsOf (serviceLinesAt (now fplan) at no)) ⌝ }
+    requires { ⌜ Sound (serviceLinesAt (now fplan) at no) ⌝ }
     requires { ⌜ (callsLent ≤ length (now calls)) × (rangesLent ≤ length (now ranges)) ⌝ }
     ensures { λ r. ⌜ ServiceRead (now (fplan .entry)) at no r (now (calls .exit)) (now (ranges .exit)) ⌝ }
 {
     let cut = reader::line_from(fplan, at, no);
     let stop = cut.stop;
-    let opening = opening_of(told::told_in(&fplan[at..stop]));
+    let opening = opening_of(told::told_first(&fplan[at..stop]));
     let mut counts = draft::no_counts();
     let mut end = cut.next;
     let mut line = cut.no;
-    loop {
-        let Next::Line(said, next, after) = next_line(fplan, end, line) else {
+    while end < fplan.len() {
+        let after = reader::line_from(fplan, end, line);
+        let last = after.stop;
+        let kind = forms::kind_of(&fplan[end..last]);
+        if timetable::is_opening(kind) {
             return Drafted {
                 opening,
                 line: no,
@@ -161,11 +158,55 @@ pub fn read_again(
                 end,
                 no: line,
             };
-        };
-        counts = draft::draft_line(opening, said, line, counts, calls, ranges);
-        end = next;
-        line = after;
+        }
+        counts = draft_again(
+            opening,
+            kind,
+            &fplan[end..last],
+            line,
+            counts,
+            calls,
+            ranges,
+        );
+        end = after.next;
+        line = after.no;
     }
+    Drafted {
+        opening,
+        line: no,
+        counts,
+        end,
+        no: line,
+    }
+}
+
+// Drafts a line of a kind whose form is not broken.
+fn draft_again(
+    opening: Opening,
+    kind: Kind,
+    text: &[u8],
+    line: u32,
+    counts: Counts,
+    calls: &mut [u32],
+    ranges: &mut [u32],
+) -> Counts
+    requires { ⌜ (kind ≡ kindOf (now text)) × (isFormed (toldIn (now text)) ≡ true) ⌝ }
+    requires { ⌜ Within (counted counts (toldIn (now text))) ⌝ }
+    requires { ⌜ (callsLent ≤ length (now calls)) × (rangesLent ≤ length (now ranges)) ⌝ }
+    ensures { λ r. ⌜ r ≡ counted counts (toldIn (now (text .entry))) ⌝ }
+    ensures { λ r. ⌜ callsOn (r .calls) (now (calls .exit)) ≡ callsAfter opening (callsOn (counts .calls) (now (calls .entry))) line (asCall (toldIn (now (text .entry)))) ⌝ }
+    ensures { λ r. ⌜ rangesOn (ranges# r) (now (ranges .exit)) ≡ rangesOn (ranges# counts) (now (ranges .entry)) ++ onLine line (asRange (toldIn (now (text .entry)))) ⌝ }
+{
+    if let Kind::Schedule = kind {
+        return draft::draft_call(opening, told::call_in(text), line, counts, calls);
+    }
+    if let Kind::Category = kind {
+        return draft::draft_range(told::category_in(text), line, counts, ranges);
+    }
+    let Kind::Attribute = kind else {
+        return counts;
+    };
+    draft::draft_range(told::attribute_in(text), line, counts, ranges)
 }
 
 // The line of a service that starts at a place, if the service has one there. An opening line is not told here: its own service tells it.
@@ -203,6 +244,20 @@ fn opening_of(said: Told) -> Opening
 }
 
 // ---- a line's own offence, where so much of its service is counted before it
+
+// Of a service's first line.
+fn first_offence(said: Told, line: u32) -> Verdict
+    ensures { λ r. ⌜ r ≡ verdictBy (formAfter line said) ⌝ }
+{
+    let Told::Broken(column) = said else {
+        return Verdict::Fine;
+    };
+    Verdict::Offends(Offence {
+        number: 4,
+        line,
+        column,
+    })
+}
 
 fn offence_after(
     counts: Counts,

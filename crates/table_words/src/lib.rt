@@ -13,7 +13,7 @@ ghost use Rattle.timetable.specs.Layout.{headerSize, mostFileBytes};
 ghost use Rattle.timetable.specs.Service.{blocks};
 ghost use Rattle.timetable.specs.Checks.{headFirst};
 ghost use Rattle.reading.specs.Inner.Maps.{StopMap};
-ghost use Rattle.plan.specs.Inner.Services.{withinLimits};
+ghost use Rattle.plan.specs.Inner.Services.{allSound};
 ghost use Rattle.table_words.specs.Inner.Words.{headerWords, sectionsWords, bodyWords};
 
 // The table's header: the words used, the period, how many records each section has, and the place of the first service. "The last being the count of
@@ -43,7 +43,7 @@ pub fn put_table(
 )
     requires { ⌜ (length (now bitfeld) ≤ mostFileBytes) × (length (now bahnhof) ≤ mostFileBytes) × (length (now umsteigb) ≤ mostFileBytes) × (length (now zugart) ≤ mostFileBytes) × (length (now fplan) ≤ mostFileBytes) ⌝ }
     requires { ⌜ StopMap (now bahnhof) (now stops) ⌝ }
-    requires { ⌜ (headFirst (linesOf (now fplan)) ≡ none) × (withinLimits (blocks (linesOf (now fplan))) ≡ true) ⌝ }
+    requires { ⌜ (headFirst (linesOf (now fplan)) ≡ none) × (allSound (blocks (linesOf (now fplan))) ≡ true) ⌝ }
     requires { ⌜ headerSize + length (bodyWords (now bitfeld) (now bahnhof) (now umsteigb) (now zugart) (now fplan)) ≤ length (now t) ⌝ }
     ensures { λ r. ⌜ now (t .exit) ≡ write (now (t .entry)) 0 (headerWords h ++ bodyWords (now (bitfeld .entry)) (now (bahnhof .entry)) (now (umsteigb .entry)) (now (zugart .entry)) (now (fplan .entry))) ⌝ }
 {

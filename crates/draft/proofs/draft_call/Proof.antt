@@ -2,12 +2,6 @@ use Rattle.draft.proofs.Writing.{call-drafts}
 use Rattle.draft.proofs.draft_call.Statement.{statement}
 use Rattle.draft.proofs.draft_call.Tie as tie
 
-enum-known-said : tie.Need-enum-known-said
-enum-known-said c = search call-drafts
-
-returns : tie.Need-returns
-returns c = search call-drafts
-
 announced-last-requires : tie.Need-announced-last-requires
 announced-last-requires c κs = search call-drafts
 
@@ -29,15 +23,13 @@ add-k c = search call-drafts
 same-length : tie.Need-same-length
 same-length c = search call-drafts
 
-returns-2 : tie.Need-returns-2
-returns-2 c = search call-drafts
+returns : tie.Need-returns
+returns c = (search call-drafts, search call-drafts)
 
 pub draft-call-spec : {M : Type 1} → statement M
 draft-call-spec =
     tie.close
     (tie.spec
-    enum-known-said
-    returns
     announced-last-requires
     cast-put-call
     mul-put-call
@@ -45,4 +37,4 @@ draft-call-spec =
     put-call-requires
     add-k
     same-length
-    returns-2)
+    returns)

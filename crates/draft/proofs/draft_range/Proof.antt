@@ -2,12 +2,6 @@ use Rattle.draft.proofs.Writing.{range-drafts}
 use Rattle.draft.proofs.draft_range.Statement.{statement}
 use Rattle.draft.proofs.draft_range.Tie as tie
 
-enum-known-said : tie.Need-enum-known-said
-enum-known-said c = search range-drafts
-
-returns : tie.Need-returns
-returns c = search range-drafts
-
 range-count-requires : tie.Need-range-count-requires
 range-count-requires c κs = search range-drafts
 
@@ -26,19 +20,17 @@ count-part-requires c κs = search range-drafts
 same-length : tie.Need-same-length
 same-length c = search range-drafts
 
-returns-2 : tie.Need-returns-2
-returns-2 c = search range-drafts
+returns : tie.Need-returns
+returns c = (search range-drafts, search range-drafts)
 
 pub draft-range-spec : {M : Type 1} → statement M
 draft-range-spec =
     tie.close
     (tie.spec
-    enum-known-said
-    returns
     range-count-requires
     cast-put-range
     mul-put-range
     put-range-requires
     count-part-requires
     same-length
-    returns-2)
+    returns)

@@ -8,7 +8,7 @@ use Rattle.timetable.specs.Files.{stopsIn}
 use Rattle.timetable.specs.Service.{blocks}
 use Rattle.draft.specs.Inner.Draft.{callsLent, rangesLent}
 use Rattle.reading.specs.Inner.Reading.{Boundary}
-use Rattle.plan.specs.Inner.Services.{blockWords, placedWords, withinLimits}
+use Rattle.plan.specs.Inner.Services.{blockWords, placedWords, allSound}
 use Rattle.plan.proofs.Putting.{putting}
 use Rattle.plan.proofs.put_services.Statement.{statement}
 use Rattle.plan.proofs.put_services.Tie as tie
@@ -20,7 +20,7 @@ Inv-loop fplan start first bahnhof stops calls₀ ranges₀ table₀ at place₀
     × (at + length (blockWords (blocks (linesAt fplan start first))) ≤ length table)
     × (at + length (blockWords (blocks (linesAt fplan start first))) < 2 ^ 64)
     × Boundary fplan place no'
-    × (withinLimits (blocks (linesAt fplan place no')) ≡ true)
+    × (allSound (blocks (linesAt fplan place no')) ≡ true)
     × (to + length (blockWords (blocks (linesAt fplan place no'))) ≡ at + length (blockWords (blocks (linesAt fplan start first))))
     × (write table to (placedWords (stopsIn bahnhof) (blocks (linesAt fplan place no'))) ≡ write table₀ at (placedWords (stopsIn bahnhof) (blocks (linesAt fplan start first))))
 

@@ -1,4 +1,4 @@
--- The services of FPLAN: their words, and that none has more calls or ranges than it may. Assumes nothing.
+-- The services of FPLAN: their words, and that none has more calls or ranges than it may, nor a line with a broken form. Assumes nothing.
 use Prim.Native.Nat.{ℕ, _+_, _*_}
 use mathlib.Core.List.{List, map}
 use mathlib.Core.Bool.{Bool, _&&_}
@@ -11,6 +11,7 @@ use Rattle.timetable.specs.Service.{serviceOf}
 use Rattle.timetable.specs.Table.{serviceWords, pointing}
 use Rattle.draft.specs.Inner.Draft.{countsOf}
 use Rattle.draft.specs.declared.Counts.{Counts}
+use Rattle.reading.specs.Inner.Reading.{allFormed}
 
 -- the words of services, of which the lines of each are given; their calls have the stops' numbers
 unfoldable pub blockWords : List (List Line) → List ℕ
@@ -31,6 +32,6 @@ mostPlanWords = wordsALine * mostFileBytes
 abbrev pub countsWithin : Counts → Bool
 countsWithin k = leb (k .calls) mostCalls && (leb (k .categories) mostCategories && (leb (k .days) mostDays && leb (k .extras) mostExtras))
 
--- so in every service
-unfoldable pub withinLimits : List (List Line) → Bool
-withinLimits bs = every (λ (b : List Line). countsWithin (countsOf b)) bs
+-- so in every service, and no line of it has a broken form
+unfoldable pub allSound : List (List Line) → Bool
+allSound bs = every (λ (b : List Line). countsWithin (countsOf b) && allFormed b) bs

@@ -25,23 +25,23 @@ entry c = c .before .before .before .before .before .before .before .before .bef
 line-from-requires : tie.Need-line-from-requires Inv-loop μ-loop
 line-from-requires c κs = search checking
 
-sub-told-in : tie.Need-sub-told-in Inv-loop μ-loop
-sub-told-in c = search checking
+sub-told-first : tie.Need-sub-told-first Inv-loop μ-loop
+sub-told-first c = search checking
 
-part-told-in-start : tie.Need-part-told-in-start Inv-loop μ-loop
-part-told-in-start c = search checking
+part-told-first-start : tie.Need-part-told-first-start Inv-loop μ-loop
+part-told-first-start c = search checking
 
-part-told-in-end : tie.Need-part-told-in-end Inv-loop μ-loop
-part-told-in-end c = search checking
+part-told-first-end : tie.Need-part-told-first-end Inv-loop μ-loop
+part-told-first-end c = search checking
 
-told-in-requires : tie.Need-told-in-requires Inv-loop μ-loop
-told-in-requires c κs = search checking
+told-first-requires : tie.Need-told-first-requires Inv-loop μ-loop
+told-first-requires c κs = search checking
 
 no-counts-requires : tie.Need-no-counts-requires Inv-loop μ-loop
 no-counts-requires c κs = search checking
 
-offence-after-requires : tie.Need-offence-after-requires Inv-loop μ-loop
-offence-after-requires c κs = search checking
+first-offence-requires : tie.Need-first-offence-requires Inv-loop μ-loop
+first-offence-requires c κs = search checking
 
 enum-known-offence : tie.Need-enum-known-offence Inv-loop μ-loop
 enum-known-offence c = search checking
@@ -53,7 +53,7 @@ returns c =
     let told = counts .before in
     let cut = told .before .before in
     let start = cut .before .before .before .before .before .before .before .before .before .before in
-    search (refused-first, start .pre .0 .1, cut .line-from .ensures, told .told-in .ensures, counts .no-counts .ensures, checked .offence-after .ensures)
+    search (refused-first, start .pre .0 .0, start .pre .0 .1, cut .line-from .ensures, told .told-first .ensures, checked .first-offence .ensures)
 
 enum-told : tie.Need-enum-told Inv-loop μ-loop
 enum-told c = search checking
@@ -77,9 +77,9 @@ loop-holds c =
         start .pre .1 .1 .0,
         start .pre .1 .1 .1,
         cut .line-from .ensures,
-        told .told-in .ensures,
+        told .told-first .ensures,
         counts .no-counts .ensures,
-        checked .offence-after .ensures,
+        checked .first-offence .ensures,
         c .before .enum-told .given .1,
         c .opening-of .ensures,
       ),
@@ -104,8 +104,8 @@ same-length-2 c = search checking
 returns-2 : tie.Need-returns-2 Inv-loop μ-loop
 returns-2 c = search checking
 
-offence-after-requires-2 : tie.Need-offence-after-requires-2 Inv-loop μ-loop
-offence-after-requires-2 c κs = search tests
+offence-after-requires : tie.Need-offence-after-requires Inv-loop μ-loop
+offence-after-requires c κs = search tests
 
 enum-known-offence-2 : tie.Need-enum-known-offence-2 Inv-loop μ-loop
 enum-known-offence-2 c = search checking
@@ -133,7 +133,7 @@ draft-line-requires c κs =
         next .before .loop .inv .2,
         next .next-line .ensures,
         said .known-told2 .given .1,
-        checked .offence-after2 .ensures,
+        checked .offence-after .ensures,
         told .enum-told3 .given .1,
       ),
       (omega (arith, entry (next .before .before) .pre .1 .1, next .before .loop .inv .0), omega (arith, entry (next .before .before) .pre .1 .1, next .before .loop .inv .1)),
@@ -156,7 +156,7 @@ loop-again c =
         next .before .loop .inv .2,
         next .next-line .ensures,
         said .known-told2 .given .1,
-        checked .offence-after2 .ensures,
+        checked .offence-after .ensures,
         told .enum-told3 .given .1,
         drafted .draft-line .ensures,
         drafted .draft-line .kept,
@@ -171,12 +171,12 @@ read-checked-spec =
     Inv-loop
     μ-loop
     line-from-requires
-    sub-told-in
-    part-told-in-start
-    part-told-in-end
-    told-in-requires
+    sub-told-first
+    part-told-first-start
+    part-told-first-end
+    told-first-requires
     no-counts-requires
-    offence-after-requires
+    first-offence-requires
     enum-known-offence
     returns
     enum-told
@@ -188,7 +188,7 @@ read-checked-spec =
     same-length
     same-length-2
     returns-2
-    offence-after-requires-2
+    offence-after-requires
     enum-known-offence-2
     same-length-3
     same-length-4

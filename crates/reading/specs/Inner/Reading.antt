@@ -3,10 +3,11 @@
 use Prim.Native.Nat.{ℕ, _+_, _≤_, _<_}
 use mathlib.Core.Path.{_≡_}
 use mathlib.Core.List.{List, [], _∷_}
-use mathlib.Core.Bool.{not}
+use mathlib.Core.Bool.{Bool, true, false, not}
 use mathlib.Core.Option.{Option, none, some}
 use lib.ListN.{length}
 use lib.Dec.{leb}
+use Rattle.base.specs.Lists.{every}
 use Rattle.lines.specs.Lines.{Line, linesAt, linesOf}
 use Rattle.forms.specs.declared.Form.the-variants.{Broken as BrokenForm}
 use Rattle.timetable.specs.Layout.{mostFileBytes, mostCalls}
@@ -22,7 +23,7 @@ use Rattle.timetable.specs.declared.Part.{Part}
 use Rattle.timetable.specs.declared.Part.the-variants.{Category, Days, Extra}
 use Rattle.timetable.specs.declared.Told.{Told}
 use Rattle.timetable.specs.declared.Told.the-variants.{Skip, Other, Broken, Opens, Ranges, Calls}
-use Rattle.draft.specs.Inner.Draft.{DraftOf}
+use Rattle.draft.specs.Inner.Draft.{countsOf, Within, DraftOf}
 use Rattle.draft.specs.declared.Counts.{Counts}
 use Rattle.draft.specs.declared.Drafted.{Drafted}
 use Rattle.reading.specs.declared.Next.{Next}
@@ -58,6 +59,22 @@ pub record ServiceRead (f : List ℕ) (at n : ℕ) (d : Drafted) (calls ranges :
   pub past : at < d .end
   pub next : Boundary f (d .end) (d .no)
 
+-- lines of a service that were checked: none has a broken form, and they are within the limits of 13
+abbrev pub isFormed : Told → Bool
+isFormed Skip = true
+isFormed Other = true
+isFormed (Broken c) = false
+isFormed (Opens o) = true
+isFormed (Ranges r) = true
+isFormed (Calls c) = true
+
+unfoldable pub allFormed : List Line → Bool
+allFormed ls = every (λ (l : Line). isFormed (toldIn (l .text))) ls
+
+pub record Sound (ls : List Line) : Type 0 where
+  pub within : Within (countsOf ls)
+  pub formed : allFormed ls ≡ true
+
 -- ---- the steps of reading
 
 -- the next line of a service: it opens none, says that, and the line after it starts at a place, with a number
@@ -91,6 +108,15 @@ rangeAfter fields classes k line part field name =
 
 abbrev pub callAfter : List StopRecord → Counts → ℕ → ℕ → Option Offence
 callAfter stops k line stop = given (leb mostCalls (k .calls)) 13 line <|> given (not (hasStop stop stops)) 9 line
+
+-- of a service's first line: its form alone
+abbrev pub formAfter : ℕ → Told → Option Offence
+formAfter line Skip = none
+formAfter line Other = none
+formAfter line (Broken c) = formOffence (BrokenForm c) line
+formAfter line (Opens o) = none
+formAfter line (Ranges r) = none
+formAfter line (Calls c) = none
 
 abbrev pub offenceAfter : List BitField → List StopRecord → List CategoryClass → Counts → ℕ → Told → Option Offence
 offenceAfter fields stops classes k line Skip = none

@@ -2,7 +2,7 @@
 -- `call_told` is promised over `hasForm callColumns`. Assumes nothing.
 use Prim.Native.Nat.{ℕ, _+_, _/_, _%_}
 use mathlib.Core.List.{List}
-use mathlib.Core.Bool.{Bool, not, _&&_, _||_}
+use mathlib.Core.Bool.{Bool, false, not, _&&_, _||_}
 use lib.Dec.{eqb}
 use Rattle.base.specs.Lists.{every}
 use Rattle.columns.specs.Columns.{columns, column, isBlank, blank, digits, number}
@@ -52,3 +52,17 @@ plainTail l = blank (columns 43 58 l) && eqb (column markColumn l) 37
 unfoldable pub plainHead : ℕ → ℕ → Time → Time → Bool
 plainHead stop first arrival departure =
     (digits (bytesOf 7 stop) && eqb (stop / 72057594037927936 % 256) 32) && (isTime arrival && (isBlank (first / 281474976710656 % 256) && isTime departure))
+
+-- what a line with blank columns 43 to 58 says, where columns 1 to 7 stand in a word and its two times were read: three blanks as one number are 2105376
+abbrev pub blankCall : ℕ → Time → Time → CallLine
+blankCall stop arrival departure = record {
+  stop = number (bytesOf 7 stop);
+  arrival = minutesOf arrival;
+  departure = minutesOf departure;
+  flags = flagsOf 1 arrival + flagsOf 2 departure;
+  numbered = false;
+  number = 0;
+  administered = false;
+  high = 2105376;
+  low = 2105376;
+}
