@@ -9,10 +9,10 @@ use Rattle.rows.proofs.later_stand.Statement.{statement}
 use Rattle.rows.proofs.later_stand.Tie as tie
 
 abbrev Inv-loop : tie.InvT-loop
-Inv-loop s from left departure p₀ k₀ before₀ p k before = (p + callSize * (k + 1) ≤ length s) × (laterStand k before (drop p s) ≡ laterStand left departure (drop (serviceHead + callSize * from) s))
+Inv-loop s from left departure p₀ k₀ both₀ before₀ p k both before = (p + callSize * (k + 1) ≤ length s) × (laterStand k both before (drop p s) ≡ laterStand left 3 departure (drop (serviceHead + callSize * from) s))
 
 abbrev μ-loop : tie.MeasureT-loop
-μ-loop s from left departure p₀ k₀ before₀ p k before = k
+μ-loop s from left departure p₀ k₀ both₀ before₀ p k both before = k
 
 size-requires : tie.Need-size-requires Inv-loop μ-loop
 size-requires c κs = search later
@@ -29,8 +29,8 @@ loop-holds c = search later
 call-at-requires : tie.Need-call-at-requires Inv-loop μ-loop
 call-at-requires c κs = search later
 
-passes-requires : tie.Need-passes-requires Inv-loop μ-loop
-passes-requires c κs = search later
+in-order-requires : tie.Need-in-order-requires Inv-loop μ-loop
+in-order-requires c κs = search later
 
 returns : tie.Need-returns Inv-loop μ-loop
 returns c = search later
@@ -47,14 +47,17 @@ loop-less c = search later
 loop-again : tie.Need-loop-again Inv-loop μ-loop
 loop-again c = (omega arith, search later)
 
+returns-2 : tie.Need-returns-2 Inv-loop μ-loop
+returns-2 c = search later
+
 call-at-requires-2 : tie.Need-call-at-requires-2 Inv-loop μ-loop
 call-at-requires-2 c κs = search later
 
 arrives-requires : tie.Need-arrives-requires Inv-loop μ-loop
 arrives-requires c κs = search later
 
-returns-2 : tie.Need-returns-2 Inv-loop μ-loop
-returns-2 c = search later
+returns-3 : tie.Need-returns-3 Inv-loop μ-loop
+returns-3 c = search later
 
 pub later-stand-spec : {M : Type 1} → statement M
 later-stand-spec =
@@ -67,12 +70,13 @@ later-stand-spec =
     add-p
     loop-holds
     call-at-requires
-    passes-requires
+    in-order-requires
     returns
     add-p-2
     sub-k
     loop-less
     loop-again
+    returns-2
     call-at-requires-2
     arrives-requires
-    returns-2)
+    returns-3)

@@ -1,15 +1,16 @@
 -- What the functions on the calls of a stretch answer. Assumes nothing.
-use Prim.Native.Nat.{ℕ, zero, suc, _+_, _*_}
+use Prim.Native.Nat.{ℕ, zero, suc, _+_, _-_, _*_}
 use mathlib.Core.List.{List, [], _∷_, map}
-use mathlib.Core.Bool.{Bool, true, false, _&&_, _||_}
+use mathlib.Core.Bool.{Bool, false, _&&_, _||_}
 use lib.ListN.{drop}
-use lib.Dec.{leb}
+use lib.Bits.{bitAnd}
+use lib.Dec.{eqb, ltb, leb}
 use Rattle.timetable.specs.Layout.{serviceHead, callSize}
 use Rattle.timetable.specs.Delivery.{Service}
 use Rattle.timetable.specs.Ranges.{hasArrival, hasDeparture}
 use Rattle.timetable.specs.Table.{rowsIn, callAt, serviceAt, withStop, withStops}
 use Rattle.timetable.specs.View.{View}
-use Rattle.timetable.specs.Run.{timesNeeded, neededLast}
+use Rattle.timetable.specs.Run.{timesNeeded}
 use Rattle.timetable.specs.Questions.{rowOf}
 use Rattle.timetable.specs.declared.Call.{Call}
 use Rattle.rows.specs.declared.WalkRow.{WalkRow}
@@ -25,19 +26,16 @@ rowFor d s a n delay i c = rowOf d s a n delay i c
 abbrev pub timeFine : Bool → Bool → ℕ → ℕ → Bool
 timeFine free stated before time = free || (stated && leb before time)
 
--- both times of a call that is neither the first nor the last
-abbrev pub timesPass : ℕ → Call → Bool
-timesPass before c = timeFine false (hasArrival c) before (c .arrival) && timeFine false (hasDeparture c) (c .arrival) (c .departure)
+-- The needed times of the calls of a stretch of n legs, without its first one, c, as words hold them: of those between the times are in order and the flags together, with
+-- `both`, say that both are stated; of the last the arrival stands.
+unfoldable pub laterStand : ℕ → ℕ → ℕ → List ℕ → Bool
+laterStand zero both before w = eqb both 3 && timeFine false (hasArrival (callAt w)) before (callAt w .arrival)
+laterStand (suc m) both before w =
+    (leb before (callAt w .arrival) && leb (callAt w .arrival) (callAt w .departure))
+    && laterStand m (bitAnd both (callAt w .flags)) (callAt w .departure) (drop callSize w)
 
--- the needed times of the calls of a stretch of n legs, from the i-th on
-unfoldable pub timesStand : ℕ → ℕ → ℕ → List Call → Bool
-timesStand n i before [] = true
-timesStand n i before (c ∷ cs) = timesNeeded n i before c && timesStand n (i + 1) (neededLast n i c) cs
-
--- those of its last calls, as words hold them: m that are neither the first nor the last, and the last
-unfoldable pub laterStand : ℕ → ℕ → List ℕ → Bool
-laterStand zero before w = timeFine false (hasArrival (callAt w)) before (callAt w .arrival)
-laterStand (suc m) before w = timesPass before (callAt w) && laterStand m (callAt w .departure) (drop callSize w)
+abbrev pub timesStand : ℕ → Call → List ℕ → Bool
+timesStand n c w = ltb 0 n && (hasDeparture c && laterStand (n - 1) 3 (c .departure) w)
 
 abbrev pub walkRowWords : WalkRow → List ℕ
 walkRowWords r = r .stop ∷ r .arrival ∷ r .departure ∷ r .flags ∷ r .number ∷ r .high ∷ r .low ∷ r .category ∷ r .first ∷ r .second ∷ []
