@@ -92,11 +92,16 @@ word-at (suc n) (suc j) p h =
 abbrev pub wordIn : List ℕ → ℕ → ℕ
 wordIn line j = getD (bitsIn line) j 0
 
-pub word-in : (line : List ℕ) (j : ℕ) → j < bitWords → wordIn line j ≡ hexFrom 0 (padTo 8 (drop (8 * j + 7) line))
-unfolding bitsIn columns
-word-in line j h =
+-- its eight digits
+pub digits-in : (line : List ℕ) (j : ℕ) → j < bitWords → take 8 (drop (8 * j) (columns 8 103 line)) ≡ padTo 8 (drop (8 * j + 7) line)
+unfolding columns
+digits-in line j h =
     let e : 7 + 8 * j ≡ 8 * j + 7 = omega arith in
-    word-at bitWords j (padTo 96 (drop 7 line)) h ∙ ap (hexFrom 0) (pad-part 8 (8 * j) 96 (drop 7 line) (omega arith) ∙ ap (padTo 8) (drop-drop (8 * j) 7 line ∙ ap (λ (k : ℕ). drop k line) e))
+    pad-part 8 (8 * j) 96 (drop 7 line) (omega arith) ∙ ap (padTo 8) (drop-drop (8 * j) 7 line ∙ ap (λ (k : ℕ). drop k line) e)
+
+pub word-in : (line : List ℕ) (j : ℕ) → j < bitWords → wordIn line j ≡ hexFrom 0 (padTo 8 (drop (8 * j + 7) line))
+unfolding bitsIn
+word-in line j h = word-at bitWords j (columns 8 103 line) h ∙ ap (hexFrom 0) (digits-in line j h)
 
 -- p is the part of the line that has word i, x its value
 pub word-next : (line p r : List ℕ) (i x : ℕ) → i < bitWords → p ≡ take (8 * i + 15 - (8 * i + 8 - 1)) (drop (8 * i + 8 - 1) line) → x ≡ hexFrom 0 (padTo 8 p) → Filled (wordIn line) r i → Filled (wordIn line) (set r i x) (i + 1)

@@ -1,99 +1,60 @@
--- The needs of reading hex digits many at once and packing them, for `search packing`. Assumes nothing.
+-- The needs of reading hex digits by words of eight, for `search packing`. Assumes nothing.
 use mathlib.Core.Path.{_≡_, refl, sym, ap, _∙_}
-use mathlib.Core.List.{List, [], _∷_}
-use Prim.Native.Nat.{ℕ, _+_, _*_, _^_, _≤_, _<_}
-use native.Mathlib.Nat.{not-suc-le-zero}
+use mathlib.Core.List.{List, [], _∷_, map}
+use mathlib.Core.Bool.{Bool, true, _&&_}
+use Prim.Native.Nat.{ℕ, zero, suc, _+_, _*_, _≤_, _<_}
 use native.Mathlib.Omega.{arith}
-use lib.ListN.{length, getD, drop, set, length-drop, length-set}
-use lib.Seq.{getD-drop, getD-set-same, getD-set-other}
-use borrow.Author.Count.{below-more}
+use lib.ListN.{length, getD, take, drop, set, length-drop}
+use Rattle.base.specs.Lists.{every}
 use Rattle.base.proofs.Laws.{tests}
-use Rattle.columns.specs.Columns.{padTo, hexValue}
+use Rattle.base.proofs.Loops.{and-true}
+use Rattle.columns.specs.Columns.{padTo, columns, isHex, hexValue, isOf}
+use Rattle.columns.specs.declared.ByteClass.the-variants.{Hex}
+use Rattle.byte_words.specs.Inner.Words.{bytesOf, digitsFrom, hexadecimal}
+use Rattle.byte_words.proofs.Lines.{pad-is-take}
 use Rattle.bitfield.specs.BitField.{bitWords, hexFrom, bitsIn}
-use Rattle.bitfield.specs.Inner.Digits.{Digits, fourDigits}
 use Rattle.bitfield.proofs.Fill.{Filled, filled-none, filled-next}
-use Rattle.bitfield.proofs.Hex.{hex-le, wordIn, word-in, words-done}
+use Rattle.bitfield.proofs.Hex.{wordIn, digits-in, word-in, words-done}
 
--- ---- the values, one by one
+-- ---- a word's digits are among those of the line
 
-pub digits-none : (line v : List ℕ) → length v ≡ 96 → Digits line v 0
-digits-none line v e = record { size = e; each = λ k h. absurd (not-suc-le-zero h) }
+every-drop : (t : ℕ → Bool) (k : ℕ) (l : List ℕ) → every t l ≡ true → every t (drop k l) ≡ true
+unfolding every
+every-drop t zero l e = e
+every-drop t (suc k) [] e = e
+every-drop t (suc k) (b ∷ l) e = every-drop t k l (and-true (t b) (every t l) e .1)
 
-pub digits-next : (line v : List ℕ) (i b x : ℕ) → i < 96 → b ≡ getD line (i + 7) 0 → x ≡ hexValue b → Digits line v i → Digits line (set v i x) (i + 1)
-digits-next line v i b x h e d w =
-    record {
-      size = simp length-set (w .size);
-      each = below-more _ _ (λ k lt. getD-set-other v i k x 0 (λ q. omega arith) ∙ w .each k lt) (getD-set-same v i x 0 (omega (arith, w .size)) ∙ d ∙ ap hexValue e);
-    }
+every-take : (t : ℕ → Bool) (n : ℕ) (l : List ℕ) → every t l ≡ true → every t (take n l) ≡ true
+unfolding every
+every-take t zero l e = refl
+every-take t (suc n) [] e = refl
+every-take t (suc n) (b ∷ l) e =
+    let p = and-true (t b) (every t l) e in
+    rw (p .0, every-take t n l (p .1)) refl
 
-pub digits-done : (line v : List ℕ) (i : ℕ) → 96 ≤ i → Digits line v i → Digits line v 96
-digits-done line v i h w = record { size = w .size; each = λ k lt. w .each k (omega arith) }
+-- the number of hex digits, as the words of eight bytes say it
+digits-hex : (n : ℕ) (bs : List ℕ) → digitsFrom 16 n (map hexValue bs) ≡ hexFrom n bs
+unfolding digitsFrom hexFrom
+digits-hex n [] = refl
+digits-hex n (b ∷ bs) = digits-hex (n * 16 + hexValue b) bs
 
--- ---- four of them
+-- w are the eight bytes of word i
+module _ (line : List ℕ) (i w : ℕ) (m : 103 ≤ length line) (h : i < bitWords) (e : bytesOf 8 w ≡ take 8 (drop (8 * i + 7) line)) where
+  bytes-are : padTo 8 (drop (8 * i + 7) line) ≡ bytesOf 8 w
+  bytes-are = pad-is-take 8 (drop (8 * i + 7) line) (simp length-drop (omega arith)) ∙ sym e
 
-module _ (line v : List ℕ) (w : Digits line v 96) where
-  value-le : (k : ℕ) → k < 96 → getD v k 0 ≤ 15
-  value-le k h = rw (w .each k h) (hex-le (getD line (k + 7) 0))
+  pub word-hex : every isHex (columns 8 103 line) ≡ true → every isHex (bytesOf 8 w) ≡ true
+  word-hex d =
+      let p : every isHex (take 8 (drop (8 * i) (columns 8 103 line))) ≡ true = every-take isHex 8 (drop (8 * i) (columns 8 103 line)) (every-drop isHex (8 * i) (columns 8 103 line) d) in
+      rw (digits-in line i h, bytes-are) at p
 
-  four-le : (at : ℕ) → at + 4 ≤ 96 → fourDigits v at ≤ 65535
-  unfolding fourDigits
-  four-le at h = omega (arith, value-le at (omega arith), value-le (at + 1) (omega arith), value-le (at + 2) (omega arith), value-le (at + 3) (omega arith))
+  pub word-is : (x : ℕ) → x ≡ hexadecimal (map hexValue (bytesOf 8 w)) → x ≡ getD (bitsIn line) i 0
+  word-is x d = d ∙ digits-hex 0 (bytesOf 8 w) ∙ ap (hexFrom 0) (sym bytes-are) ∙ sym (word-in line i h)
 
-  pub four-inside : (at : ℕ) → at + 4 ≤ 96 → at + 4 ≤ length v
-  four-inside at h = omega (arith, w .size)
-
-  pub high-fits : (i x : ℕ) → i < bitWords → x ≡ fourDigits v (8 * i) → x * 65536 < 2 ^ 32
-  high-fits i x h e = omega (arith, e, four-le (8 * i) (omega arith))
-
-  pub word-fits : (i x y : ℕ) → i < bitWords → x ≡ fourDigits v (8 * i) → y ≡ fourDigits v (8 * i + 4) → x * 65536 + y < 2 ^ 32
-  word-fits i x y h e d = omega (arith, e, d, four-le (8 * i) (omega arith), four-le (8 * i + 4) (omega arith))
-
--- ---- eight of them
-
--- the value of digit j of a text
-abbrev hx : List ℕ → ℕ → ℕ
-hx s j = hexValue (getD s j 0)
-
-eight-value : (s : List ℕ) → 8 ≤ length s → hexFrom 0 (padTo 8 s) ≡ (hx s 0 * 4096 + hx s 1 * 256 + hx s 2 * 16 + hx s 3) * 65536 + (hx s 4 * 4096 + hx s 5 * 256 + hx s 6 * 16 + hx s 7)
-unfolding hexFrom padTo
-eight-value [] h = absurd (omega arith)
-eight-value (a ∷ []) h = absurd (omega arith)
-eight-value (a ∷ b ∷ []) h = absurd (omega arith)
-eight-value (a ∷ b ∷ c ∷ []) h = absurd (omega arith)
-eight-value (a ∷ b ∷ c ∷ d ∷ []) h = absurd (omega arith)
-eight-value (a ∷ b ∷ c ∷ d ∷ e ∷ []) h = absurd (omega arith)
-eight-value (a ∷ b ∷ c ∷ d ∷ e ∷ f ∷ []) h = absurd (omega arith)
-eight-value (a ∷ b ∷ c ∷ d ∷ e ∷ f ∷ g ∷ []) h = absurd (omega arith)
-eight-value (a ∷ b ∷ c ∷ d ∷ e ∷ f ∷ g ∷ i ∷ s) h =
-    go (hexValue a) (hexValue b) (hexValue c) (hexValue d) (hexValue e) (hexValue f) (hexValue g) (hexValue i)
-  where
-    go : (a b c d e f g i : ℕ) → (((((((0 * 16 + a) * 16 + b) * 16 + c) * 16 + d) * 16 + e) * 16 + f) * 16 + g) * 16 + i ≡ (a * 4096 + b * 256 + c * 16 + d) * 65536 + (e * 4096 + f * 256 + g * 16 + i)
-    go a b c d e f g i = omega arith
-
-module _ (line v : List ℕ) (w : Digits line v 96) (i : ℕ) (h : i < bitWords) where
-  value-here : (j n : ℕ) → j < 8 → n ≡ 8 * i + j → getD v n 0 ≡ hx (drop (8 * i + 7) line) j
-  value-here j n l e =
-      let p : n + 7 ≡ 8 * i + 7 + j = omega arith in
-      w .each n (omega arith) ∙ ap (λ (k : ℕ). hexValue (getD line k 0)) p ∙ ap hexValue (sym (getD-drop (8 * i + 7) line j 0))
-
-  pub word-packed : (x y : ℕ) → 103 ≤ length line → x ≡ fourDigits v (8 * i) → y ≡ fourDigits v (8 * i + 4) → x * 65536 + y ≡ wordIn line i
-  unfolding fourDigits
-  word-packed x y m e d =
-      let s : List ℕ = drop (8 * i + 7) line in
-      rw (
-        e,
-        d,
-        value-here 0 (8 * i) (omega arith) (omega arith),
-        value-here 1 (8 * i + 1) (omega arith) (omega arith),
-        value-here 2 (8 * i + 2) (omega arith) (omega arith),
-        value-here 3 (8 * i + 3) (omega arith) (omega arith),
-        value-here 4 (8 * i + 4) (omega arith) (omega arith),
-        value-here 5 (8 * i + 4 + 1) (omega arith) (omega arith),
-        value-here 6 (8 * i + 4 + 2) (omega arith) (omega arith),
-        value-here 7 (8 * i + 4 + 3) (omega arith) (omega arith),
-      ) (sym (word-in line i h ∙ eight-value (drop (8 * i + 7) line) (simp length-drop (omega arith))))
+pub all-hex : (l : List ℕ) (t : Bool) → t ≡ every (isOf Hex) l → t ≡ true → every isHex l ≡ true
+all-hex l t e y = sym e ∙ y
 
 pub pack-next : (line r : List ℕ) (i x : ℕ) → i < bitWords → x ≡ getD (bitsIn line) i 0 → Filled (wordIn line) r i → Filled (wordIn line) (set r i x) (i + 1)
 pack-next line r i x h e v = filled-next (wordIn line) r i x h e v
 
-pub ruleset packing = (tests, digits-none, digits-next, digits-done, four-inside, high-fits, word-fits, word-packed, filled-none, pack-next, words-done)
+pub ruleset packing = (tests, word-hex, word-is, all-hex, filled-none, pack-next, words-done)

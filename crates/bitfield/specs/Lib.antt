@@ -1,2 +1,1 @@
 pub mod BitField
-pub mod Inner

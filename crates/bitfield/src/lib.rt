@@ -1,12 +1,13 @@
 // Bit fields: 384 bits, held as twelve words by value; bit 0 is the highest of the first word, bit d + 2 is day d.
+use columns::ByteClass;
 use columns::line_fields::bit_field;
 ghost use mathlib.Core.Path.{_≡_};
 ghost use mathlib.Core.Bool.{not, true, false, _&&_, _||_};
 ghost use Prim.Native.Nat.{ℕ, _+_, _*_, _≤_, _<_};
 ghost use lib.ListN.{length, take, drop, getD};
-ghost use Rattle.columns.specs.Columns.{padTo, hexValue};
+ghost use Rattle.base.specs.Lists.{every};
+ghost use Rattle.columns.specs.Columns.{padTo, columns, isHex};
 ghost use Rattle.bitfield.specs.BitField.{bitWords, bitCount, mostFramed, hexFrom, bitsIn, bit, runsOn, frameBit, nextBound, framed, someDay, noBit};
-ghost use Rattle.bitfield.specs.Inner.Digits.{Digits, fourDigits};
 
 // The words of a bit field, and its bits (specs/BitField).
 pub const BIT_WORDS: usize = 12;
@@ -20,11 +21,12 @@ pub const MOST_FRAMED: u32 = BIT_COUNT - 4;
 pub fn bits_in(line: &[u8]) -> [u32; BIT_WORDS]
     ensures { λ r. ⌜ r ≡ bitsIn (now (line .entry)) ⌝ }
 {
-    if line.len() < bit_field::BITS_END {
-        return bits_by_words(line);
+    if bit_field::BITS_END <= line.len() {
+        if columns::all_in(line, bit_field::BITS, bit_field::BITS_END, ByteClass::Hex) {
+            return hex_words(line);
+        }
     }
-    let digits = digit_values(line);
-    packed(line, &digits)
+    bits_by_words(line)
 }
 
 // Twelve words of a slice as one value.
@@ -171,76 +173,35 @@ pub fn without(a: [u32; BIT_WORDS], b: [u32; BIT_WORDS]) -> [u32; BIT_WORDS]
 
 // ---- inner functions
 
-// The values of the 96 hex digits, found for many at once.
-fn digit_values(line: &[u8]) -> [u8; 96]
+// The twelve words of a line whose columns 8 to 103 are hex digits.
+fn hex_words(line: &[u8]) -> [u32; BIT_WORDS]
     requires { ⌜ 103 ≤ length (now line) ⌝ }
-    ensures { λ r. ⌜ Digits (now (line .entry)) r 96 ⌝ }
-{
-    let mut r = [0u8; 96];
-    let mut i: usize = 0;
-    while i < 96 {
-        r[i] = digit_of(line[i + 7]);
-        i += 1;
-    }
-    r
-}
-
-// The twelve words of the 96 digits of a line, whose values are v.
-fn packed(line: &[u8], v: &[u8]) -> [u32; BIT_WORDS]
-    requires { ⌜ 103 ≤ length (now line) ⌝ }
-    requires { ⌜ Digits (now line) (now v) 96 ⌝ }
+    requires { ⌜ every isHex (columns 8 103 (now line)) ≡ true ⌝ }
     ensures { λ r. ⌜ r ≡ bitsIn (now (line .entry)) ⌝ }
 {
     let mut r = [0u32; BIT_WORDS];
     let mut i: usize = 0;
     while i < BIT_WORDS {
-        r[i] = eight_digits(line, v, i);
+        r[i] = eight_digits(line, i);
         i += 1;
     }
     r
 }
 
 // Word i of them.
-fn eight_digits(line: &[u8], v: &[u8], i: usize) -> u32
+fn eight_digits(line: &[u8], i: usize) -> u32
     requires { ⌜ 103 ≤ length (now line) ⌝ }
-    requires { ⌜ Digits (now line) (now v) 96 ⌝ }
+    requires { ⌜ every isHex (columns 8 103 (now line)) ≡ true ⌝ }
     requires { ⌜ i < bitWords ⌝ }
     ensures { λ r. ⌜ r ≡ getD (bitsIn (now (line .entry))) i 0 ⌝ }
 {
-    four_digits(v, 8 * i) * 65536 + four_digits(v, 8 * i + 4)
+    byte_words::eight_hex(byte_words::word_at(line, 8 * i + 7))
 }
-
-fn four_digits(v: &[u8], at: usize) -> u32
-    requires { ⌜ at + 4 ≤ length (now v) ⌝ }
-    ensures { λ r. ⌜ r ≡ fourDigits (now (v .entry)) at ⌝ }
-{
-    four_of(v[at], v[at + 1], v[at + 2], v[at + 3])
-}
-
-fn four_of(a: u8, b: u8, c: u8, d: u8) -> u32
-    ensures { λ r. ⌜ r ≡ a * 4096 + b * 256 + c * 16 + d ⌝ }
-{
-    a as u32 * 4096 + b as u32 * 256 + c as u32 * 16 + d as u32
-}
-
-// The value of a hex digit, 0 for another byte.
-fn digit_of(b: u8) -> u8
-    ensures { λ r. ⌜ r ≡ hexValue b ⌝ }
-{
-    match b {
-        b'0'..=b'9' => b - b'0',
-        b'A'..=b'F' => b - TEN_BEFORE_A,
-        _ => 0,
-    }
-}
-
-// What is taken from "A" to "F" for their values 10 to 15.
-const TEN_BEFORE_A: u8 = b'A' - 10;
 
 // The last column of the first word.
 const FIRST_WORD_END: usize = bit_field::BITS + 7;
 
-// The bit field of a line that may be short, word by word.
+// The bit field of a line that may be short, or have other bytes, digit by digit.
 fn bits_by_words(line: &[u8]) -> [u32; BIT_WORDS]
     ensures { λ r. ⌜ r ≡ bitsIn (now (line .entry)) ⌝ }
 {

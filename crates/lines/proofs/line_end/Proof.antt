@@ -1,4 +1,5 @@
-use Rattle.lines.proofs.Pieces.{blocks}
+use mathlib.Core.Path.{refl}
+use Rattle.lines.proofs.Pieces.{blocks, usual-end}
 use Rattle.lines.proofs.line_end.Statement.{statement}
 use Rattle.lines.proofs.line_end.Tie as tie
 
@@ -27,7 +28,10 @@ add-result : tie.Need-add-result
 add-result c = search blocks
 
 returns : tie.Need-returns
-returns c = search blocks
+returns c =
+    let d = c .before .before .before in
+    let a = d .before .before .before .before .before .args in
+    usual-end (a .file .now) (a .at) _ _ _ (d .before .before .before .if1 .taken) refl (d .before .if2 .taken) (d .no-lf .ensures) (c .before .before .if3 .taken) (c .before .no-lf2 .ensures) (c .if4 .taken)
 
 piece-end-requires : tie.Need-piece-end-requires
 piece-end-requires c κs = search blocks

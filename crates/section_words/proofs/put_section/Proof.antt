@@ -51,7 +51,9 @@ part-put-line-end : tie.Need-part-put-line-end Inv-loop μ-loop
 part-put-line-end c = search section-puts
 
 put-line-requires : tie.Need-put-line-requires Inv-loop μ-loop
-put-line-requires c κs = (search section-puts, search put-room)
+put-line-requires c κs =
+    let d = c .before .before .before .before .before in
+    (search section-puts, search (put-room, d .loop-test .taken, c .before .before .line-from .ensures, d .before .loop .inv .1, d .before .loop .inv .2, d .before .before .before .before .pre .1))
 
 loop-less-2 : tie.Need-loop-less-2 Inv-loop μ-loop
 loop-less-2 c = search section-puts

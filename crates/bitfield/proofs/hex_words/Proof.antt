@@ -3,14 +3,14 @@ use Rattle.bitfield.specs.BitField.{bitWords}
 use Rattle.bitfield.proofs.Fill.{Filled}
 use Rattle.bitfield.proofs.Hex.{wordIn}
 use Rattle.bitfield.proofs.Pack.{packing}
-use Rattle.bitfield.proofs.packed.Statement.{statement}
-use Rattle.bitfield.proofs.packed.Tie as tie
+use Rattle.bitfield.proofs.hex_words.Statement.{statement}
+use Rattle.bitfield.proofs.hex_words.Tie as tie
 
 abbrev Inv-loop : tie.InvT-loop
-Inv-loop line v r₀ i₀ r i = Filled (wordIn line) r i
+Inv-loop line r₀ i₀ r i = Filled (wordIn line) r i
 
 abbrev μ-loop : tie.MeasureT-loop
-μ-loop line v r₀ i₀ r i = bitWords - i
+μ-loop line r₀ i₀ r i = bitWords - i
 
 loop-holds : tie.Need-loop-holds Inv-loop μ-loop
 loop-holds c = search packing
@@ -36,8 +36,8 @@ loop-again c = search packing
 returns : tie.Need-returns Inv-loop μ-loop
 returns c = search packing
 
-pub packed-spec : {M : Type 1} → statement M
-packed-spec =
+pub hex-words-spec : {M : Type 1} → statement M
+hex-words-spec =
     tie.close
     (tie.spec
     Inv-loop
