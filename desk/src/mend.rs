@@ -5,11 +5,11 @@ use super::dates::{existing, period};
 use super::explain::Answer;
 use super::form::{counted_digits, frame, offences};
 use super::lines::{
-    blank, column, columns, digits, field_at, fields, file_name, kind, line, lines, numbered, passed_over, text,
-    trimmed, Delivery, Field, Kind, Rule, BAHNHOF, BITFELD, ECKDATEN, FPLAN, UMSTEIGB, ZUGART,
+    blank, column, columns, digits, field_at, fields, file_name, kind, line, lines, minutes, numbered, passed_over,
+    text, trimmed, Delivery, Field, Kind, Rule, BAHNHOF, BITFELD, ECKDATEN, FPLAN, UMSTEIGB, ZUGART,
 };
 use super::looks;
-use super::moved::{line_end, moved, put_right, second, LineEnd};
+use super::moved::{line_end, moved, put_right, second, too_short, LineEnd};
 use super::service::{of_delivery, Marks};
 
 /// What lies behind a refusal.
@@ -130,7 +130,7 @@ fn of_line(answer: &Answer, bytes: &[u8], file: &[u8]) -> Option<Cause> {
         return Some(cause);
     }
     if let Some(found) = line_end(of, file, answer.line) {
-        return Some(Cause::here(found.says(), found.mend()));
+        return Some(Cause { looks: found.look().into_iter().collect(), ..Cause::here(found.says(), found.mend()) });
     }
     if answer.number != 4 {
         return None;
@@ -219,16 +219,15 @@ fn joined_kind(of: u32, bytes: &[u8]) -> Option<Cause> {
 /// 15: the time that is missing stands in the free columns before it.
 fn time_elsewhere(delivery: &Delivery, answer: &Answer, bytes: &[u8]) -> Option<Cause> {
     let (first, name) = of_delivery(delivery, answer.line)?.missing_time(answer.line)?;
-    let time = |at: &usize| {
-        let bytes = columns(bytes, *at, at + 5);
-        super::lines::minutes(&bytes).is_some() && !column_is_digit(&bytes, 7)
-    };
-    let at = (8..=24).rev().filter(time).find(|at| !column(bytes, at + 6).is_ascii_digit())?;
-    let (start, end) = (at + 1, at + 5);
+    let time = |at: &usize| minutes(&columns(bytes, *at, at + 5)).is_some() && !column(bytes, at + 6).is_ascii_digit();
+    let at = (8..=24).rev().find(time)?;
+    let (start, end) = (if column(bytes, at) == b'-' { at } else { at + 1 }, at + 5);
     let by = first - at;
+    // where both times are moved the other stands in the way
+    put_right(bytes, start, Some(end), -(by as isize)).filter(|after| offences(FPLAN, after).is_empty())?;
     let says = format!(
         "`{}` stands in columns {}-{}, moved by {} to the left: its field, {}, is columns {}-{}",
-        text(trimmed(&columns(bytes, at, at + 5))),
+        text(&columns(bytes, start, end)),
         start,
         end,
         by,
@@ -241,10 +240,6 @@ fn time_elsewhere(delivery: &Delivery, answer: &Answer, bytes: &[u8]) -> Option<
     Some(Cause { marks: Some(marks), ..Cause::only(says, mend) })
 }
 
-fn column_is_digit(bytes: &[u8], at: usize) -> bool {
-    column(bytes, at).is_ascii_digit()
-}
-
 /// What in the lines of a service may be why it is refused as a whole: a line end that is missing, small letters, an opening line that is gone.
 fn of_service(delivery: &Delivery, answer: &Answer) -> Option<Cause> {
     let service = of_delivery(delivery, answer.line)?;
@@ -254,7 +249,7 @@ fn of_service(delivery: &Delivery, answer: &Answer) -> Option<Cause> {
             .skip_while(|(at, _)| *at < service.opening)
     };
     if let Some(found) = own().find_map(|(at, line)| Some(LineEnd::Missing(at, second(FPLAN, line)?))) {
-        return Some(Cause::here(found.says(), found.mend()));
+        return Some(Cause { looks: found.look().into_iter().collect(), ..Cause::here(found.says(), found.mend()) });
     }
     let small = |line: &[u8]| {
         kind(line) == Kind::Attribute && columns(line, 4, 5) != b"VE" && columns(line, 4, 5).eq_ignore_ascii_case(b"VE")
@@ -536,10 +531,13 @@ fn percent(file: &[u8], bytes: &[u8]) -> Cause {
             format!("the \"%\" stands in column {}: {} too many before it", at + 1, counted(at - 58, "column")),
             "find out which field is too far right, and set the line to its columns",
         ),
-        Some(at) => Cause::here(
-            format!("the \"%\" stands in column {}: {} too few before it", at + 1, counted(58 - at, "column")),
-            format!("move all from column {} on by {} to the right", at + 1, 58 - at),
-        ),
+        Some(at) => Cause {
+            looks: vec![too_short(58 - at, at + 1)],
+            ..Cause::here(
+                format!("the \"%\" stands in column {}: {} too few before it", at + 1, counted(58 - at, "column")),
+                format!("move all from column {} on by {} to the right", at + 1, 58 - at),
+            )
+        },
         None if lack * 2 > all => Cause::here(
             format!("{} of the file's {} lines have no \"%\": it was stripped with the blanks before it", lack, all),
             "put \"%\" in column 59 of each line that has none",
@@ -587,7 +585,7 @@ fn of_number(delivery: &Delivery, answer: &Answer, bytes: &[u8]) -> Cause {
         (20 | 51, _) => Cause::mend("nothing in the files: tell the planner's operators"),
         (37, _) => Cause::mend("find out the tariff groups that are meant, and give each line its own; or take them all away"),
         (38, _) => category(delivery, bytes),
-        (39, _) => Cause::mend(name_list(bytes)),
+        (39, _) => name_list(bytes),
         _ => Cause::mend("see the paper"),
     }
 }
@@ -697,17 +695,23 @@ fn category(delivery: &Delivery, bytes: &[u8]) -> Cause {
 }
 
 /// 39: what to do about the list of names.
-fn name_list(bytes: &[u8]) -> String {
+fn name_list(bytes: &[u8]) -> Cause {
     match super::form::names(bytes) {
         // behind another sign the "$" may have been mistyped
-        Some((at, why)) if why.starts_with("no \"$\"") && column(bytes, at - 1).is_ascii_alphabetic() => {
-            format!("put `$` in before column {}", at)
-        }
-        Some((at, why)) if why.ends_with("no name after it") && column(bytes, 63) == b' ' => format!("take out column {}", at),
-        Some((_, why)) if why.contains("not closed") || column(bytes, 63) != b' ' => {
-            "find out the names that are meant, and shorten them to 50 columns; the \"$\" after a pattern may be left out".to_string()
-        }
-        _ => "find out the names that are meant, and write them: names parted by \"$\", patterns such as `Genf$<d>`, none at the end".to_string(),
+        Some((at, why)) if why.starts_with("no \"$\"") && column(bytes, at - 1).is_ascii_alphabetic() => Cause::look(
+            format!("the name before column {} may lack more than its \"$\": then find out what", at),
+            format!("put `$` in before column {}", at),
+        ),
+        Some((at, why)) if why.ends_with("no name after it") && column(bytes, 63) == b' ' => Cause::look(
+            format!("a name may be missing behind column {}: then find out which", at),
+            format!("take out column {}", at),
+        ),
+        Some((_, why)) if why.contains("not closed") || column(bytes, 63) != b' ' => Cause::mend(
+            "find out the names that are meant, and shorten them to 50 columns; the \"$\" after a pattern may be left out",
+        ),
+        _ => Cause::mend(
+            "find out the names that are meant, and write them: names parted by \"$\", patterns such as `Genf$<d>`, none at the end",
+        ),
     }
 }
 

@@ -50,11 +50,7 @@ impl Moved {
         match (number, self.by > 0, self.first == self.last) {
             (true, true, false) => Some(format!("`{}` may have a digit too many: then find out which", self.what)),
             (true, false, true) => Some(format!("`{}` may lack a digit behind it: then find out which", self.what)),
-            (_, false, _) if self.rest => Some(format!(
-                "the line is {} too short before column {}: if more than blanks are missing, find out what stood there",
-                bytes(self.by.unsigned_abs()),
-                self.first
-            )),
+            (_, false, _) if self.rest => Some(too_short(self.by.unsigned_abs(), self.first)),
             _ => None,
         }
     }
@@ -70,8 +66,14 @@ impl Moved {
     }
 }
 
-fn bytes(count: usize) -> String {
-    format!("{} byte{}", count, if count == 1 { "" } else { "s" })
+/// What is to be looked at where so many bytes are missing in a line before a column.
+pub fn too_short(count: usize, at: usize) -> String {
+    format!(
+        "the line is {} byte{} too short before column {}: if more than blanks are missing, find out what stood there",
+        count,
+        if count == 1 { "" } else { "s" },
+        at
+    )
 }
 
 /// Columns in words.
@@ -243,6 +245,17 @@ impl LineEnd {
                     after, line
                 )
             }
+        }
+    }
+
+    /// What is to be looked at first.
+    pub fn look(self) -> Option<String> {
+        match self {
+            LineEnd::Inside(_) => None,
+            LineEnd::Missing(line, after) => Some(format!(
+                "behind column {} of line {} lines may be missing with the line end: then find out which",
+                after, line
+            )),
         }
     }
 

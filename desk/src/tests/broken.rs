@@ -458,12 +458,16 @@ fn done(mend: &str, at: usize, lines: &mut Vec<Vec<u8>>) -> Option<()> {
     };
     let quoted = || mend.split('`').nth(1).map(|text| text.as_bytes().to_vec());
     let by = || number("by").map(|by| if mend.contains("to the left") { by as isize } else { -(by as isize) });
+    let moved = |line: &[u8], first: usize, last: Option<usize>, by: isize| {
+        let there = || panic!("{}: no room in `{}`", mend, String::from_utf8_lossy(line));
+        put_right(line, first, last, by).unwrap_or_else(there)
+    };
     let line = number("line").filter(|_| mend.contains("of line")).unwrap_or(at).wrapping_sub(1);
     if mend.starts_with("move column") && mend.ends_with("the rest of the line stays") {
         let (first, last) = span("columns").or_else(|| number("column").map(|at| (at, at)))?;
-        lines[line] = put_right(&lines[line], first, Some(last), by()?).expect("there is room");
+        lines[line] = moved(&lines[line], first, Some(last), by()?);
     } else if mend.starts_with("move all from column ") {
-        lines[line] = put_right(&lines[line], number("column")?, None, by()?).expect("there is room");
+        lines[line] = moved(&lines[line], number("column")?, None, by()?);
     } else if mend.starts_with("move line ") {
         let moved = lines.remove(number("line")? - 1);
         lines.insert(at - 1, moved);
@@ -660,7 +664,7 @@ fn survey_begins_with_the_answer() {
     }
 }
 
-/// Bytes put in, taken out and replaced by chance: what is refused and then mended by its screens is the same timetable, or somebody was told to look.
+/// Bytes put in, taken out, replaced and cut off by chance: what is refused and then mended by its screens is the same timetable, or somebody was told to look.
 #[test]
 fn obeying_by_chance() {
     let mut seed = 3_u64;
@@ -675,9 +679,13 @@ fn obeying_by_chance() {
         let place = [0, 1, 2, 3, 4, 4, 4, 4, 4, 5][next(10)];
         let bytes = &mut delivery.files[place];
         let at = next(bytes.len());
-        match next(4) {
-            0 => drop(bytes.drain(at..at + 1)),
-            1 => bytes[at] = b" 0#-9A%\n"[next(8)],
+        let end = (at + 1 + next(20)).min(bytes.len());
+        match next(10) {
+            0 | 1 => drop(bytes.drain(at..at + 1)),
+            2 | 3 => bytes[at] = b" 0#-9A%\n"[next(8)],
+            4 => drop(bytes.drain(at..end)),
+            5 => bytes.extend_from_within(at..end),
+            6 => bytes.truncate(at),
             _ => bytes.insert(at, b"   0#\n"[next(6)]),
         }
         let mended = obeyed(&delivery);
