@@ -228,7 +228,14 @@ impl Service {
             }
         }
         whole &= good[0] && good[1];
-        if good[1] && covered(false, true) {
+        // days that are the same on every leg make one stretch, whatever they are
+        let days_of = |range: &Range| match range.gives {
+            Gives::Days(number) => Some(number),
+            _ => None,
+        };
+        let numbers: Vec<u32> = self.ranges.iter().filter_map(days_of).collect();
+        let differ = numbers.windows(2).any(|pair| pair[0] != pair[1]);
+        if good[1] && differ && covered(false, true) {
             match self.known_days(days) {
                 true if !self.stretches(days).says.is_empty() => found.push((19, self.opening)),
                 known => whole &= known,

@@ -236,6 +236,19 @@ fn cases() -> Vec<(&'static str, Delivery, bool)> {
         &ROUTE,
     ];
     listed.push(("--all, several services", with_file(FPLAN, &plan(&several.concat())), true));
+    let behind =
+        with_file(FPLAN, &plan(&["*Z 00042 FERRY_", "*G BAT         1000033", ROUTE[0], ROUTE[2], ROUTE[1], ROUTE[3]]));
+    listed.push(("--all, what follows a refused check of a service", behind, true));
+    let mut six = with_file(
+        FPLAN,
+        &plan(&[&["*Z 00042 FERRY_", "*G BAT", "*A VE                 000001"], &ROUTE[..], &["*I"]].concat()),
+    );
+    six.files[ECKDATEN as usize - 1] = b"01.12.2025\n07.12.2025\nTrial week\nand more\n".to_vec();
+    six.files[BITFELD as usize - 1] = (bits("000001", "FE4") + "\n").into_bytes();
+    six.files[BAHNHOF as usize - 1] = b"1000011     Quay A<d>\n1000022     Quay B\n1000033     Quay C\n".to_vec();
+    six.files[UMSTEIGB as usize - 1] = b"9999999 61  3\n".to_vec();
+    six.files[ZUGART as usize - 1] = b"BAT 14   0 BAT      0 B\n".to_vec();
+    listed.push(("--all, one of each file", six, true));
     let records = b"1000011  4  5\n1000022 4 5\n9999999  2  3\n1000044  4  5\n1000011  4  5\n";
     listed.push(("--all, UMSTEIGB", with_file(UMSTEIGB, records), true));
     let categories = b"BAT  4   0 BAT      0 B\nCAT 14   0 CAT      0\nBAT  4   0 BAT      0 B\nKAT  4 C 0 KAT      0\n<text>\n<German>\n";
