@@ -1,18 +1,23 @@
 -- The needs of the functions of src: each value that code computed stands with its equation. Assumes nothing.
 use mathlib.Core.Path.{_≡_, refl, ap, _∙_, sym}
-use mathlib.Core.List.{List, [], _∷_, _++_}
-use mathlib.Core.Bool.{Bool, true, false}
+use mathlib.Core.List.{List, [], _∷_, _++_, append-assoc, append-nil}
+use mathlib.Core.Bool.{Bool, true, false, cond}
+use mathlib.Core.Logic.{⊎-elim}
 use Prim.Native.Nat.{ℕ, zero, suc, _+_, _-_, _*_, _/_, _^_, _≤_, _<_}
-use native.Mathlib.Nat.{mul-le-mul}
+use native.Mathlib.Nat.{mul-le-mul, eq-or-lt-of-le}
+use native.Mathlib.Numerals.{add-one}
 use native.Mathlib.Omega.{arith}
-use lib.ListN.{length, getD, take, length-append, length-take}
-use borrow.Author.Tests.{eq-eqb, lt-ltb, le-ltb}
+use lib.ListN.{length, getD, take, drop, set, length-set, length-append, length-take, drop-of-length-le}
+use lib.Seq.{take-suc, take-set-le, drop-cons, getD-take, getD-set-same, getD-set-other, length-take-le}
+use lib.Dec.{eqb}
+use borrow.Author.Tests.{eq-eqb, eqb-true, lt-ltb, le-ltb}
 use Rattle.base.specs.Lists.{gathered}
-use Rattle.base.proofs.Laws.{tests, clash}
+use Rattle.base.proofs.Laws.{tests}
 use Rattle.base.proofs.Lists.{gathered-append, length-map-upto}
 use Rattle.timetable.specs.Layout.{latestTime}
 use Rattle.timetable.specs.Load.{onto}
 use Rattle.timetable.specs.Runs.{openingSound}
+use Rattle.timetable.specs.Table.{stops#}
 use Rattle.timetable.specs.View.{View}
 use Rattle.timetable.proofs.Rows.{any, all-any, length-gathered}
 use Rattle.table.specs.JustTable.{headerSound}
@@ -31,9 +36,10 @@ use Rattle.board.specs.Question.{board, boardedBy, boardInto}
 use Rattle.board.specs.declared.BoardAnswer.the-variants.{Listed, Refused}
 use Rattle.board_runs.specs.Batch.{departuresAt, batchRows, Batched, Shelved, Quiet, AtMost}
 use Rattle.board_runs.specs.declared.Batch.{Batch}
+use Rattle.board_runs.proofs.Hidden.{none-long}
 use Rattle.stop_calls.specs.StopCalls.{entries#, entryWord, callsBy, Lent, leftAt, On}
 use Rattle.stop_calls.specs.declared.Cursor.{Cursor}
-use Rattle.boards.specs.ByWords.{entryDepartures, departuresBy, boardBy, Lends, Along, leftDepartures, Calm, Few, EnoughFrom, Enough, Rooming, Putting, most}
+use Rattle.boards.specs.ByWords.{entryDepartures, departuresBy, boardBy, Lends, Along, leftDepartures, Calm, Few, oneIf, Entry, KeptFrom, Kept, Told, Keeping, PuttingKept, Putting, most}
 use Rattle.boards.proofs.Bounds.{call-few, gathered-few}
 
 -- ---- one call
@@ -140,9 +146,6 @@ module _ (w x y : List ℕ) (end n from stop k t u : ℕ) where
     pub left-count : (total d m : ℕ) → d ≡ length (entryDepartures (viewIn w x) n y stop k t u (c .call)) → total + length (leftDepartures w x y end n from stop k t u c) ≡ m → total + d + length (leftDepartures w x y end n from stop k t u c′) ≡ m
     left-count total d m e h = omega (arith, long, e, h)
 
-    pub left-long : length (leftDepartures w x y end n from stop k t u c) ≡ length (entryDepartures (viewIn w x) n y stop k t u (c .call)) + length (leftDepartures w x y end n from stop k t u c′)
-    left-long = long
-
     module _ (l₀ : List ℕ) (c₀ : Cursor) (l : List ℕ) (to : ℕ) (g : Putting w x y end n from stop k t u l₀ c₀ l c to) where
       fits : to + 4 * length (given (c .call)) ≤ length l
       fits = omega (arith, long, g .count, g .room, g .long)
@@ -203,30 +206,166 @@ pub ruleset counts = (tests, along-heads, along-ready, along-lent, on-within, on
 
 pub ruleset puts = (tests, along-heads, along-ready, along-lent, on-some, left-less, put-first, put-turn, put-room, put-on, put-within, put-long, put-last, put-end)
 
--- ---- room for what is left
+-- ---- the calls that may give rows
+
+pub one-none : (m : ℕ) → m ≡ 0 → 0 ≡ oneIf m
+one-none m e = rw e
+
+pub one-some : (m : ℕ) → (m ≡ 0 → ⊥) → 1 ≡ oneIf m
+one-some m z = rw (borrow.Author.Tests.ne-eqb m 0 z)
+
+pub ruleset ones = (tests, one-none, one-some)
+
+front-more : (l : List ℕ) (m e : ℕ) → m < length l → take (m + 1) (set l m e) ≡ take m l ++ (e ∷ [])
+front-more l m e h =
+    ap (λ (j : ℕ). take j (set l m e)) (add-one m) ∙ take-suc (set l m e) m 0 (simp length-set h)
+    ∙ (λ j. take-set-le m l m e (omega arith) j ++ (getD-set-same l m e 0 h j ∷ []))
 
 module _ (w x y : List ℕ) (end n from stop t u : ℕ) (c₀ : Cursor) (rows : ℕ) where
-  pub room-first : On y n c₀ → Rooming w x y end n from stop t u c₀ rows c₀ rows
-  room-first o = record { on = o; all = λ k. omega arith }
+  pub keep-first : (kept : List ℕ) → On y n c₀ → Keeping w x y end n from stop t u c₀ rows kept c₀ rows 0
+  unfolding gathered
+  keep-first kept o = record { on = o; within = omega arith; all = λ k. refl; room = λ k. omega arith; each = λ j h. absurd (omega arith) }
 
-  pub room-unknown : EnoughFrom w x y end n from stop t u c₀ rows false
-  room-unknown = record { enough = λ f k. clash f }
+  pub keep-many : (kept : List ℕ) → KeptFrom w x y end n from stop t u c₀ rows kept (length kept + 1)
+  keep-many kept = record { calls = λ h k. absurd (omega arith); room = λ h k. absurd (omega arith); each = λ h j l. absurd (omega arith) }
 
-  module _ (c : Cursor) (left : ℕ) (g : Rooming w x y end n from stop t u c₀ rows c left) where
-    pub room-on : On y n c
-    room-on = g .on
+  module _ (kept : List ℕ) (c : Cursor) (left m : ℕ) (g : Keeping w x y end n from stop t u c₀ rows kept c left m) where
+    pub keep-on : On y n c
+    keep-on = g .on
 
-    pub room-within : c .call ≤ entries# n y
-    room-within = g .on .call
+    pub keep-within : c .call ≤ entries# n y
+    keep-within = g .on .call
 
-    pub room-enough : c .call ≡ 0 → EnoughFrom w x y end n from stop t u c₀ rows true
-    room-enough z = record { enough = λ f k. omega (arith, g .all k, ap length (left-none w x y end n from stop k t u c z)) }
+    pub keep-done : c .call ≡ 0 → KeptFrom w x y end n from stop t u c₀ rows kept m
+    keep-done z = record {
+      calls = λ h k. sym (append-nil (gathered (entryDepartures (viewIn w x) n y stop k t u) (take m kept))) ∙ ap (λ (es : List Departure). gathered (entryDepartures (viewIn w x) n y stop k t u) (take m kept) ++ es) (sym (left-none w x y end n from stop k t u c z)) ∙ g .all k;
+      room = λ h k. omega (arith, g .room k, ap length (left-none w x y end n from stop k t u c z));
+      each = λ h. g .each;
+    }
 
-    module _ (c′ : Cursor) (q : leftAt w x y end n from stop c ≡ c .call ∷ leftAt w x y end n from stop c′) (m : ℕ) (f : Few w x n y t u (c .call) m) where
-      pub room-turn : m ≤ left → On y n c′ → Rooming w x y end n from stop t u c₀ rows c′ (left - m)
-      room-turn l o = record { on = o; all = λ k. omega (arith, g .all k, left-long w x y end n from stop k t u c c′ q, f .few stop k) }
+    module _ (c′ : Cursor) (q : leftAt w x y end n from stop c ≡ c .call ∷ leftAt w x y end n from stop c′) (most : ℕ) (f : Few w x n y t u (c .call) most) (a : most ≤ left) (h : m < length kept) (z : c .call ≡ 0 → ⊥) (o : On y n c′) where
+      rest : (k : ℕ) → leftDepartures w x y end n from stop k t u c ≡ entryDepartures (viewIn w x) n y stop k t u (c .call) ++ leftDepartures w x y end n from stop k t u c′
+      rest k = split w x y end n from stop k t u c c′ q
 
-pub ruleset rooms = (tests, along-heads, along-lent, on-some, left-less, room-first, room-unknown, room-on, room-within, room-enough, room-turn)
+      lower : (k : ℕ) → length (leftDepartures w x y end n from stop k t u c₀) + (left - most) ≤ length (leftDepartures w x y end n from stop k t u c′) + rows
+      lower k = omega (arith, g .room k, ap length (rest k), length-append (entryDepartures (viewIn w x) n y stop k t u (c .call)) (leftDepartures w x y end n from stop k t u c′), f .few stop k)
+
+      kept-before : (j : ℕ) → j < m → Entry n y (getD (set kept m (c .call)) j 0)
+      kept-before j l = rw (getD-set-other kept m j (c .call) 0 (λ d. absurd (omega (arith, d)))) (g .each j l)
+
+      kept-each : (j : ℕ) → j < m + 1 → Entry n y (getD (set kept m (c .call)) j 0)
+      kept-each j l = ⊎-elim at-m before-m (eq-or-lt-of-le (let d : j ≤ m = omega arith in d))
+        where
+          at-m : j ≡ m → Entry n y (getD (set kept m (c .call)) j 0)
+          at-m d = rw (d, getD-set-same kept m (c .call) 0 h) ((on-some (c .call) z, g .on .call))
+
+          before-m : j < m → Entry n y (getD (set kept m (c .call)) j 0)
+          before-m d = kept-before j d
+
+      pub keep-same : most ≡ 0 → Keeping w x y end n from stop t u c₀ rows (set kept m (c .call)) c′ (left - most) (m + 0)
+      keep-same e =
+          let d : m + 0 ≡ m = omega arith in
+          rw d
+          (record {
+            on = o;
+            within = simp length-set (omega arith);
+            all = λ k.
+                let none : entryDepartures (viewIn w x) n y stop k t u (c .call) ≡ [] = none-long (entryDepartures (viewIn w x) n y stop k t u (c .call)) (omega (arith, f .few stop k, e)) in
+                (λ j. gathered (entryDepartures (viewIn w x) n y stop k t u) (take-set-le m kept m (c .call) (omega arith) j) ++ leftDepartures w x y end n from stop k t u c′)
+                ∙ ap (λ (es : List Departure). gathered (entryDepartures (viewIn w x) n y stop k t u) (take m kept) ++ es) (sym (rest k ∙ ap (λ (es : List Departure). es ++ leftDepartures w x y end n from stop k t u c′) none)) ∙ g .all k;
+            room = lower;
+            each = kept-before;
+          })
+
+      pub keep-more : Keeping w x y end n from stop t u c₀ rows (set kept m (c .call)) c′ (left - most) (m + 1)
+      unfolding gathered
+      keep-more = record {
+        on = o;
+        within = simp length-set (omega arith);
+        all = λ k.
+            (λ j. gathered (entryDepartures (viewIn w x) n y stop k t u) (front-more kept m (c .call) h j) ++ leftDepartures w x y end n from stop k t u c′)
+            ∙ ap (λ (es : List Departure). es ++ leftDepartures w x y end n from stop k t u c′) (gathered-append (entryDepartures (viewIn w x) n y stop k t u) (take m kept) (c .call ∷ []))
+            ∙ append-assoc (gathered (entryDepartures (viewIn w x) n y stop k t u) (take m kept)) (entryDepartures (viewIn w x) n y stop k t u (c .call) ++ []) (leftDepartures w x y end n from stop k t u c′)
+            ∙ ap (λ (es : List Departure). gathered (entryDepartures (viewIn w x) n y stop k t u) (take m kept) ++ (es ++ leftDepartures w x y end n from stop k t u c′)) (append-nil (entryDepartures (viewIn w x) n y stop k t u (c .call)))
+            ∙ ap (λ (es : List Departure). gathered (entryDepartures (viewIn w x) n y stop k t u) (take m kept) ++ es) (sym (rest k)) ∙ g .all k;
+        room = lower;
+        each = kept-each;
+      }
+
+      pub keep-turn : (i : ℕ) → i ≡ oneIf most → Keeping w x y end n from stop t u c₀ rows (set kept m (c .call)) c′ (left - most) (m + i)
+      keep-turn i e = go (eqb most 0) refl e
+        where
+          go : (b : Bool) → eqb most 0 ≡ b → i ≡ cond b 0 1 → Keeping w x y end n from stop t u c₀ rows (set kept m (c .call)) c′ (left - most) (m + i)
+          go true d e = rw e (keep-same (eqb-true most 0 d))
+          go false d e = rw e keep-more
+
+pub ruleset keeps = (tests, along-heads, along-lent, on-some, left-less, keep-first, keep-many, keep-on, keep-within, keep-done, keep-turn)
+
+-- ---- written by the calls kept
+
+module _ (w x y : List ℕ) (stop k t u : ℕ) (kept : List ℕ) (m : ℕ) (h : Told w x y stop k t u kept m) where
+  abbrev kept-gives : ℕ → List Departure
+  kept-gives e = entryDepartures (viewIn w x) (stops# w) y stop k t u e
+
+  abbrev later : ℕ → List Departure
+  later j = gathered (entryDepartures (viewIn w x) (stops# w) y stop k t u) (drop j (take m kept))
+
+  front-long : length (take m kept) ≡ m
+  front-long = length-take-le m kept (h .within)
+
+  pub told-first : (l : List ℕ) → PuttingKept w x y stop k t u kept m l l 0 0
+  told-first l = record { long = refl; few = omega arith; count = omega (arith, ap length (h .calls)); words = ap (λ (es : List Departure). write l 0 (gathered boardRowWords es)) (h .calls) }
+
+  pub told-inside : (j : ℕ) → j < m → j < length kept
+  told-inside j l = omega (arith, h .within)
+
+  pub told-some : (j : ℕ) → j < m → 0 < getD kept j 0
+  told-some j l = h .each j l .0
+
+  pub told-low : (j : ℕ) → j < m → getD kept j 0 ≤ entries# (stops# w) y
+  told-low j l = h .each j l .1
+
+  module _ (l₀ l : List ℕ) (j to : ℕ) (g : PuttingKept w x y stop k t u kept m l₀ l j to) where
+    pub told-long : length l ≡ length l₀
+    told-long = g .long
+
+    pub told-last : m ≤ j → to / 4 ≡ length (departuresBy w x y stop k t u)
+    unfolding gathered
+    told-last a =
+        let none : drop j (take m kept) ≡ [] = drop-of-length-le (take m kept) {i = j} (omega (arith, front-long)) in
+        let z : length (later j) ≡ 0 = ap (λ (r : List ℕ). length (gathered (entryDepartures (viewIn w x) (stops# w) y stop k t u) r)) none in
+        omega (arith, g .count, z)
+
+    pub told-end : m ≤ j → l ≡ write l₀ 0 (gathered boardRowWords (departuresBy w x y stop k t u))
+    unfolding gathered
+    told-end a =
+        let none : drop j (take m kept) ≡ [] = drop-of-length-le (take m kept) {i = j} (omega (arith, front-long)) in
+        sym (write-none l to) ∙ ap (λ (r : List ℕ). write l to (gathered boardRowWords (gathered (entryDepartures (viewIn w x) (stops# w) y stop k t u) r))) (sym none) ∙ g .words
+
+    module _ (a : j < m) (b : 4 * length (departuresBy w x y stop k t u) ≤ length l₀) where
+      next : later j ≡ kept-gives (getD kept j 0) ++ later (j + 1)
+      unfolding gathered
+      next =
+          ap (gathered (entryDepartures (viewIn w x) (stops# w) y stop k t u))
+          (drop-cons (take m kept) j 0 (omega (arith, front-long)) ∙ (λ i. getD-take m kept j 0 a i ∷ drop (sym (add-one j) i) (take m kept)))
+
+      kept-long : length (later j) ≡ length (kept-gives (getD kept j 0)) + length (later (j + 1))
+      kept-long = ap length next ∙ length-append (kept-gives (getD kept j 0)) (later (j + 1))
+
+      pub told-room : to + 4 * length (entryDepartures (viewIn w x) (stops# w) y stop k t u (getD kept j 0)) ≤ length l
+      told-room = omega (arith, kept-long, g .count, g .long)
+
+      pub told-turn : (l′ : List ℕ) (to′ : ℕ) → l′ ≡ write l to (gathered boardRowWords (entryDepartures (viewIn w x) (stops# w) y stop k t u (getD kept j 0))) → to′ ≡ to + 4 * length (entryDepartures (viewIn w x) (stops# w) y stop k t u (getD kept j 0))
+          → PuttingKept w x y stop k t u kept m l₀ l′ (j + 1) to′
+      told-turn l′ to′ d e = record {
+        long = ap length d ∙ length-write l to (gathered boardRowWords (kept-gives (getD kept j 0))) (omega (arith, told-room, words-long (kept-gives (getD kept j 0)))) ∙ g .long;
+        few = omega arith;
+        count = omega (arith, kept-long, e, g .count);
+        words =
+            rw e
+            (write-turn l l′ (write l₀ 0 (gathered boardRowWords (departuresBy w x y stop k t u))) to (4 * length (kept-gives (getD kept j 0))) (gathered boardRowWords (kept-gives (getD kept j 0))) (gathered boardRowWords (later (j + 1))) d (words-long (kept-gives (getD kept j 0))) told-room
+            (ap (write l to) (sym (ap (gathered boardRowWords) next ∙ gathered-append boardRowWords (kept-gives (getD kept j 0)) (later (j + 1)))) ∙ g .words));
+      }
 
 -- ---- the stop section, and the whole; b is the number of bit fields, s that of stops
 
@@ -285,6 +424,14 @@ module _ (w x y : List ℕ) (l : Lends w x y) where
     pub lends-along : Along w x y end s from
     lends-along = record { ready = l .ready; lent = lends-lent }
 
+  pub lends-ready : Ready w x
+  lends-ready = l .ready
+
+  pub lends-heads : stops# w ≤ length y
+  lends-heads = l .heads
+
+pub ruleset tolds = (tests, lends-word, lends-ready, lends-heads, told-first, told-inside, told-some, told-low, told-long, told-last, told-end, told-room, told-turn)
+
 module _ (w x y : List ℕ) (end s from n k t u : ℕ) (c : Cursor) (a : end ≡ sectionEnd (stopSection w)) (b : s ≡ getD w 4 0) (d : from ≡ stopsFrom w)
     (m : ℕ) (z : m ≡ getD w 0 0) (q : leftAt w x y end s from n c ≡ take m (callsBy w x y end s from n)) where
   pub whole-is : leftDepartures w x y end s from n k t u c ≡ departuresBy w x y n k t u
@@ -317,16 +464,24 @@ module _ (w x y : List ℕ) (end s from n k t u : ℕ) (c : Cursor) (a : end ≡
   pub whole-words : (l l′ : List ℕ) → l′ ≡ write l 0 (gathered boardRowWords (leftDepartures w x y end s from n k t u c)) → l′ ≡ write l 0 (gathered boardRowWords (departuresBy w x y n k t u))
   whole-words l l′ e = e ∙ ap (λ (es : List Departure). write l 0 (gathered boardRowWords es)) whole-is
 
-pub whole-enough : (w x y : List ℕ) (end s from n t u : ℕ) (c : Cursor) → end ≡ sectionEnd (stopSection w) → s ≡ getD w 4 0 → from ≡ stopsFrom w → (m : ℕ) → m ≡ getD w 0 0
-    → leftAt w x y end s from n c ≡ take m (callsBy w x y end s from n) → (rows : ℕ) (r : Bool) → EnoughFrom w x y end s from n t u c rows r → Enough w x y n t u rows r
-whole-enough w x y end s from n t u c a b d m z q rows r g = record { enough = λ f k. omega (arith, g .enough f k, ap length (whole-is w x y end s from n k t u c a b d m z q)) }
+pub whole-kept : (w x y : List ℕ) (end s from n t u : ℕ) (c : Cursor) → end ≡ sectionEnd (stopSection w) → s ≡ getD w 4 0 → from ≡ stopsFrom w → (m : ℕ) → m ≡ getD w 0 0
+    → leftAt w x y end s from n c ≡ take m (callsBy w x y end s from n) → (rows : ℕ) (kept : List ℕ) (r : ℕ) → KeptFrom w x y end s from n t u c rows kept r → Kept w x y n t u rows kept r
+whole-kept w x y end s from n t u c a b d m z q rows kept r g = record {
+  calls = λ h k. ap (λ (s : ℕ). gathered (entryDepartures (viewIn w x) s y n k t u) (take r kept)) (sym b) ∙ g .calls h k ∙ whole-is w x y end s from n k t u c a b d m z q;
+  room = λ h k. omega (arith, g .room h k, ap length (whole-is w x y end s from n k t u c a b d m z q));
+  each = λ h j l. rw b at (g .each h j l);
+}
 
-pub ruleset wholes = (tests, lends-head, lends-word, lends-shelved, lends-some, lends-lent, lends-along, whole-few, whole-count, whole-low, whole-room, whole-rows, whole-words, whole-enough)
+pub ruleset wholes = (tests, lends-head, lends-word, lends-shelved, lends-some, lends-lent, lends-along, whole-few, whole-count, whole-low, whole-room, whole-rows, whole-words, whole-kept)
 
 -- ---- the board
 
-pub board-enough : (w x y l : List ℕ) (n k t u : ℕ) (r : Bool) → Enough w x y n t u (length l / 4) r → r ≡ true → 4 * length (departuresBy w x y n k t u) ≤ length l
-board-enough w x y l n k t u r g f = omega (arith, g .enough f k)
+module _ (w x y l kept : List ℕ) (n k t u m : ℕ) (g : Kept w x y n t u (length l / 4) kept m) (h : m ≤ length kept) where
+  pub board-enough : 4 * length (departuresBy w x y n k t u) ≤ length l
+  board-enough = omega (arith, g .room h k)
+
+  pub board-told : Told w x y n k t u kept m
+  board-told = record { within = h; calls = g .calls h k; each = g .each h }
 
 module _ (w x y : List ℕ) (n k t u m : ℕ) (e : m ≡ length (departuresBy w x y n k t u)) where
   board-long : length (boardBy w x y n k t u) ≡ m
@@ -364,7 +519,7 @@ module _ (w x y : List ℕ) (n k t u m : ℕ) (e : m ≡ length (departuresBy w 
             ∙ write-front l (gathered boardRowWords (sortedRows (departuresBy w x y n k t u)))
             ∙ sym (rw (length-sorted notAfter (departuresBy w x y n k t u), ← e, le-ltb (length l) (4 * m) has))
 
-pub ruleset lists = (tests, board-enough)
+pub ruleset lists = (tests, board-enough, board-told)
 
 pub ruleset counted = (tests, board-fits, board-short, board-stays, board-room)
 

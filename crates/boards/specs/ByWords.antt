@@ -1,10 +1,11 @@
 -- A board as any words and any index show it: `x` the words of the look-ups, `y` those of the calls. For a table and its own index this is the board (`own-board`,
 -- board_agrees/proofs/Own): nobody has to believe this file for that. Assumes nothing.
-use Prim.Native.Nat.{ℕ, _+_, _*_, _≤_}
+use Prim.Native.Nat.{ℕ, _+_, _*_, _≤_, _<_}
 use mathlib.Core.Path.{_≡_}
-use mathlib.Core.List.{List, []}
-use mathlib.Core.Bool.{Bool, true}
-use lib.ListN.{length, take}
+use mathlib.Core.List.{List, [], _++_}
+use mathlib.Core.Bool.{Bool, true, cond}
+use lib.ListN.{length, getD, take, drop}
+use lib.Dec.{eqb}
 use Rattle.base.specs.Lists.{gathered}
 use Rattle.timetable.specs.Table.{usedWords, stops#}
 use Rattle.timetable.specs.View.{View}
@@ -13,7 +14,7 @@ use Rattle.words.specs.Words.{write}
 use Rattle.sort.specs.Rows.{boardRowSize, boardRowWords, sortedRows}
 use Rattle.board.specs.Board.{Departure}
 use Rattle.board_runs.specs.Batch.{departuresAt}
-use Rattle.stop_calls.specs.StopCalls.{entryWord, callsBy, Lent, leftAt, On}
+use Rattle.stop_calls.specs.StopCalls.{entries#, entryWord, callsBy, Lent, leftAt, On}
 use Rattle.stop_calls.specs.declared.Cursor.{Cursor}
 
 -- what call e gives, beside n stops: its entry says service and place in the route
@@ -61,17 +62,46 @@ pub record Calm (w x : List ℕ) (n : ℕ) (y : List ℕ) (t u e : ℕ) (r : Boo
 pub record Few (w x : List ℕ) (n : ℕ) (y : List ℕ) (t u e r : ℕ) : Type 0 where
   pub few : (stop k : ℕ) → length (entryDepartures (viewIn w x) n y stop k t u e) ≤ r
 
--- where the answer is yes, so many rows are enough for what is left from a cursor on, whatever day; for all of it
-pub record EnoughFrom (w x y : List ℕ) (end n from stop t u : ℕ) (c : Cursor) (rows : ℕ) (r : Bool) : Type 0 where
-  pub enough : r ≡ true → (k : ℕ) → length (leftDepartures w x y end n from stop k t u c) ≤ rows
+-- a call is counted where it may give rows
+abbrev pub oneIf : ℕ → ℕ
+oneIf m = cond (eqb m 0) 0 1
 
-pub record Enough (w x y : List ℕ) (stop t u rows : ℕ) (r : Bool) : Type 0 where
-  pub enough : r ≡ true → (k : ℕ) → length (departuresBy w x y stop k t u) ≤ rows
+-- a number of a call
+abbrev pub Entry : ℕ → List ℕ → ℕ → Type 0
+Entry n y e = (0 < e) × (e ≤ entries# n y)
 
--- on the way, with room for `left` rows of what is still to come
-pub record Rooming (w x y : List ℕ) (end n from stop t u : ℕ) (c₀ : Cursor) (rows : ℕ) (c : Cursor) (left : ℕ) : Type 0 where
+-- where r words are there: the first r calls kept give all that is left from a cursor on, whatever day, and so many rows are enough for it
+pub record KeptFrom (w x y : List ℕ) (end n from stop t u : ℕ) (c : Cursor) (rows : ℕ) (kept : List ℕ) (r : ℕ) : Type 0 where
+  pub calls : r ≤ length kept → (k : ℕ) → gathered (entryDepartures (viewIn w x) n y stop k t u) (take r kept) ≡ leftDepartures w x y end n from stop k t u c
+  pub room : r ≤ length kept → (k : ℕ) → length (leftDepartures w x y end n from stop k t u c) ≤ rows
+  pub each : r ≤ length kept → (j : ℕ) → j < r → Entry n y (getD kept j 0)
+
+-- all of it
+pub record Kept (w x y : List ℕ) (stop t u rows : ℕ) (kept : List ℕ) (r : ℕ) : Type 0 where
+  pub calls : r ≤ length kept → (k : ℕ) → gathered (entryDepartures (viewIn w x) (stops# w) y stop k t u) (take r kept) ≡ departuresBy w x y stop k t u
+  pub room : r ≤ length kept → (k : ℕ) → length (departuresBy w x y stop k t u) ≤ rows
+  pub each : r ≤ length kept → (j : ℕ) → j < r → Entry (stops# w) y (getD kept j 0)
+
+-- on day k
+pub record Told (w x y : List ℕ) (stop k t u : ℕ) (kept : List ℕ) (m : ℕ) : Type 0 where
+  pub within : m ≤ length kept
+  pub calls : gathered (entryDepartures (viewIn w x) (stops# w) y stop k t u) (take m kept) ≡ departuresBy w x y stop k t u
+  pub each : (j : ℕ) → j < m → Entry (stops# w) y (getD kept j 0)
+
+-- on the way, with m calls kept and room for `left` rows of what is still to come
+pub record Keeping (w x y : List ℕ) (end n from stop t u : ℕ) (c₀ : Cursor) (rows : ℕ) (kept : List ℕ) (c : Cursor) (left m : ℕ) : Type 0 where
   pub on : On y n c
-  pub all : (k : ℕ) → length (leftDepartures w x y end n from stop k t u c₀) + left ≤ length (leftDepartures w x y end n from stop k t u c) + rows
+  pub within : m ≤ length kept
+  pub all : (k : ℕ) → gathered (entryDepartures (viewIn w x) n y stop k t u) (take m kept) ++ leftDepartures w x y end n from stop k t u c ≡ leftDepartures w x y end n from stop k t u c₀
+  pub room : (k : ℕ) → length (leftDepartures w x y end n from stop k t u c₀) + left ≤ length (leftDepartures w x y end n from stop k t u c) + rows
+  pub each : (j : ℕ) → j < m → Entry n y (getD kept j 0)
+
+-- on the way, with the rows of the first j calls kept written up to `to`
+pub record PuttingKept (w x y : List ℕ) (stop k t u : ℕ) (kept : List ℕ) (m : ℕ) (l₀ l : List ℕ) (j to : ℕ) : Type 0 where
+  pub long : length l ≡ length l₀
+  pub few : j ≤ m
+  pub count : to + boardRowSize * length (gathered (entryDepartures (viewIn w x) (stops# w) y stop k t u) (drop j (take m kept))) ≡ boardRowSize * length (departuresBy w x y stop k t u)
+  pub words : write l to (gathered boardRowWords (gathered (entryDepartures (viewIn w x) (stops# w) y stop k t u) (drop j (take m kept)))) ≡ write l₀ 0 (gathered boardRowWords (departuresBy w x y stop k t u))
 
 -- `mostRuns` for each of 2^32 calls
 abbrev pub most : ℕ

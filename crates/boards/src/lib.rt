@@ -23,10 +23,11 @@ ghost use Rattle.sort.specs.Rows.{boardRowSize, boardRowWords};
 ghost use Rattle.board.specs.Question.{board, boardedBy, boardInto};
 ghost use Rattle.board_runs.specs.Batch.{Batched, Shelved};
 ghost use Rattle.stop_calls.specs.StopCalls.{entries#, On};
-ghost use Rattle.boards.specs.ByWords.{entryDepartures, departuresBy, boardBy, Lends, Along, leftDepartures, Calm, Few, EnoughFrom, Enough, most};
+ghost use Rattle.boards.specs.ByWords.{entryDepartures, departuresBy, boardBy, Lends, Along, leftDepartures, Calm, Few, oneIf, KeptFrom, Kept, Told, most};
 
 // The board of stop number n on day k of the period, within two minutes of the day: 29 with the words needed, and the list then stays.
-// Where the list has room for as many rows as the opening lines and the calls alone allow, each course is looked at once; for a shorter list the departures are counted first.
+// Where the list has room for as many rows as the opening lines and the calls alone allow, each course is looked at once; for a shorter list, or more calls than are kept, the
+// departures are counted first.
 pub fn list_board(
     w: &[u32],
     x: &[u32],
@@ -41,11 +42,59 @@ pub fn list_board(
     ensures answer { λ r. ⌜ r ≡ boardedBy (board (boardBy (now (w .entry)) (now (x .entry)) (now (y .entry)) n k first last)) (length (now (list .entry))) ⌝ }
     ensures rows { λ _. ⌜ now (list .exit) ≡ boardInto (board (boardBy (now (w .entry)) (now (x .entry)) (now (y .entry)) n k first last)) (now (list .entry)) ⌝ }
 {
+    let mut kept = [0u32; KEPT_CALLS];
+    list_kept(w, x, y, n, k, first, last, list, &mut kept)
+}
+
+// So many calls that may give rows are kept; a stop with more has its departures counted first.
+const KEPT_CALLS: usize = 448;
+
+// The same, with words for the calls.
+fn list_kept(
+    w: &[u32],
+    x: &[u32],
+    y: &[u32],
+    n: u32,
+    k: u32,
+    first: u32,
+    last: u32,
+    list: &mut [u32],
+    kept: &mut [u32],
+) -> BoardAnswer
+    requires { ⌜ Lends (now w) (now x) (now y) × (k < mostPeriodDays) ⌝ }
+    ensures answer { λ r. ⌜ r ≡ boardedBy (board (boardBy (now (w .entry)) (now (x .entry)) (now (y .entry)) n k first last)) (length (now (list .entry))) ⌝ }
+    ensures rows { λ _. ⌜ now (list .exit) ≡ boardInto (board (boardBy (now (w .entry)) (now (x .entry)) (now (y .entry)) n k first last)) (now (list .entry)) ⌝ }
+{
     let rows = list.len() / ROW_WORDS;
-    if has_room(w, x, y, n, first, last, rows) {
-        return list_all(w, x, y, n, k, first, last, list);
+    let m = keep_calls(w, x, y, n, first, last, rows, kept);
+    if kept.len() < m {
+        return list_counted(w, x, y, n, k, first, last, list);
     }
-    list_counted(w, x, y, n, k, first, last, list)
+    list_calls(w, x, y, n, k, first, last, list, kept, m)
+}
+
+// The same, by the first m calls kept.
+fn list_calls(
+    w: &[u32],
+    x: &[u32],
+    y: &[u32],
+    n: u32,
+    k: u32,
+    first: u32,
+    last: u32,
+    list: &mut [u32],
+    kept: &[u32],
+    m: usize,
+) -> BoardAnswer
+    requires { ⌜ Lends (now w) (now x) (now y) × (k < mostPeriodDays) ⌝ }
+    requires { ⌜ Told (now w) (now x) (now y) n k first last (now kept) m ⌝ }
+    requires { ⌜ boardRowSize * length (departuresBy (now w) (now x) (now y) n k first last) ≤ length (now list) ⌝ }
+    ensures answer { λ r. ⌜ r ≡ boardedBy (board (boardBy (now (w .entry)) (now (x .entry)) (now (y .entry)) n k first last)) (length (now (list .entry))) ⌝ }
+    ensures rows { λ _. ⌜ now (list .exit) ≡ boardInto (board (boardBy (now (w .entry)) (now (x .entry)) (now (y .entry)) n k first last)) (now (list .entry)) ⌝ }
+{
+    let count = put_kept(w, x, y, n, k, first, last, list, kept, m);
+    sort::sort_rows(list, count);
+    BoardAnswer::Listed(count)
 }
 
 // The same, counted first.
@@ -94,23 +143,32 @@ fn list_all(
     BoardAnswer::Listed(count)
 }
 
-// ---- room
+// ---- the calls that may give rows, by the opening lines and the calls alone: no record is checked, and no course looked at
 
-// Whether so many rows are enough on any day, by the opening lines and the calls alone: no record is checked, and no course looked at.
-fn has_room(w: &[u32], x: &[u32], y: &[u32], n: u32, first: u32, last: u32, rows: usize) -> bool
+// Keeps them, and says how many they are; more than there are words for where they are too many, or where so many rows might not be enough.
+fn keep_calls(
+    w: &[u32],
+    x: &[u32],
+    y: &[u32],
+    n: u32,
+    first: u32,
+    last: u32,
+    rows: usize,
+    kept: &mut [u32],
+) -> usize
     requires { ⌜ Lends (now w) (now x) (now y) ⌝ }
-    ensures { λ r. ⌜ Enough (now (w .entry)) (now (x .entry)) (now (y .entry)) n first last rows r ⌝ }
+    ensures { λ r. ⌜ Kept (now (w .entry)) (now (x .entry)) (now (y .entry)) n first last rows (now (kept .exit)) r ⌝ }
 {
     let s = w[STOPS_AT];
     let end = stops_end(w);
     let from = stops_from(w);
     let places = index::services_from(w);
     let c = stop_calls::first_call(w, x, y, end, s, from, n, most_calls(w[USED_AT]));
-    room_from(w, x, y, end, s, from, places, n, first, last, c, rows)
+    keep_from(w, x, y, end, s, from, places, n, first, last, c, rows, kept)
 }
 
 // From a cursor on.
-fn room_from(
+fn keep_from(
     w: &[u32],
     x: &[u32],
     y: &[u32],
@@ -123,22 +181,40 @@ fn room_from(
     last: u32,
     start: Cursor,
     rows: usize,
-) -> bool
+    kept: &mut [u32],
+) -> usize
     requires { ⌜ Along (now w) (now x) (now y) end s from × Shelved (now w) (now x) places ⌝ }
     requires { ⌜ On (now y) s start ⌝ }
-    ensures { λ r. ⌜ EnoughFrom (now (w .entry)) (now (x .entry)) (now (y .entry)) end s from n first last start rows r ⌝ }
+    ensures { λ r. ⌜ KeptFrom (now (w .entry)) (now (x .entry)) (now (y .entry)) end s from n first last start rows (now (kept .exit)) r ⌝ }
 {
     let mut c = start;
     let mut left = rows;
+    let mut m: usize = 0;
     while c.call != 0 {
         let most = most_of(w, x, y, s, places, first, last, c.call);
         if left < most {
-            return false;
+            return kept.len() + 1;
         }
+        if kept.len() <= m {
+            return kept.len() + 1;
+        }
+        kept[m] = c.call;
+        m += one_if(most);
         left -= most;
         c = stop_calls::next_call(w, x, y, end, s, from, n, c.call, c.stop, c.left);
     }
-    true
+    m
+}
+
+// One call more, where it may give rows.
+fn one_if(most: usize) -> usize
+    ensures is { λ r. ⌜ r ≡ oneIf most ⌝ }
+    ensures low { λ r. ⌜ r ≤ 1 ⌝ }
+{
+    if most == 0 {
+        return 0;
+    }
+    1
 }
 
 // At most how many departures there are from call e.
@@ -352,8 +428,62 @@ fn put_call(
     if gives_none(w, x, y, s, places, first, last, e) {
         return to;
     }
+    put_rows(w, x, y, s, n, k, first, last, e, list, to)
+}
+
+// The same, where its record is checked.
+fn put_rows(
+    w: &[u32],
+    x: &[u32],
+    y: &[u32],
+    s: u32,
+    n: u32,
+    k: u32,
+    first: u32,
+    last: u32,
+    e: u32,
+    list: &mut [u32],
+    to: usize,
+) -> usize
+    requires { ⌜ Ready (now w) (now x) × (k < mostPeriodDays) ⌝ }
+    requires { ⌜ (s ≤ length (now y)) × (0 < e) × (e ≤ entries# s (now y)) ⌝ }
+    requires { ⌜ to + boardRowSize * length (entryDepartures (viewIn (now w) (now x)) s (now y) n k first last e) ≤ length (now list) ⌝ }
+    ensures end { λ r. ⌜ r ≡ to + boardRowSize * length (entryDepartures (viewIn (now (w .entry)) (now (x .entry))) s (now (y .entry)) n k first last e) ⌝ }
+    ensures words { λ _. ⌜ now (list .exit) ≡ write (now (list .entry)) to (gathered boardRowWords (entryDepartures (viewIn (now (w .entry)) (now (x .entry))) s (now (y .entry)) n k first last e)) ⌝ }
+{
     let b = call_batch(w, x, y, s, n, k, first, last, e);
     board_runs::put_batch(list, to, b)
+}
+
+// ---- written by the calls kept
+
+// Writes the rows of the first m calls kept, and says how many they are.
+fn put_kept(
+    w: &[u32],
+    x: &[u32],
+    y: &[u32],
+    n: u32,
+    k: u32,
+    first: u32,
+    last: u32,
+    list: &mut [u32],
+    kept: &[u32],
+    m: usize,
+) -> usize
+    requires { ⌜ Lends (now w) (now x) (now y) × (k < mostPeriodDays) ⌝ }
+    requires { ⌜ Told (now w) (now x) (now y) n k first last (now kept) m ⌝ }
+    requires { ⌜ boardRowSize * length (departuresBy (now w) (now x) (now y) n k first last) ≤ length (now list) ⌝ }
+    ensures count { λ r. ⌜ r ≡ length (departuresBy (now (w .entry)) (now (x .entry)) (now (y .entry)) n k first last) ⌝ }
+    ensures words { λ _. ⌜ now (list .exit) ≡ write (now (list .entry)) 0 (gathered boardRowWords (departuresBy (now (w .entry)) (now (x .entry)) (now (y .entry)) n k first last)) ⌝ }
+{
+    let s = w[STOPS_AT];
+    let mut j: usize = 0;
+    let mut to: usize = 0;
+    while j < m {
+        to = put_rows(w, x, y, s, n, k, first, last, kept[j], list, to);
+        j += 1;
+    }
+    to / ROW_WORDS
 }
 
 // ---- the header

@@ -8,11 +8,8 @@ gives-none-requires c κs = search one
 returns : tie.Need-returns
 returns c = search one
 
-call-batch-requires : tie.Need-call-batch-requires
-call-batch-requires c κs = search one
-
-put-batch-requires : tie.Need-put-batch-requires
-put-batch-requires c κs = search one
+put-rows-requires : tie.Need-put-rows-requires
+put-rows-requires c κs = search one
 
 same-length : tie.Need-same-length
 same-length c = search one
@@ -22,11 +19,4 @@ returns-2 c = search one
 
 pub put-call-spec : {M : Type 1} → statement M
 put-call-spec =
-    tie.close
-    (tie.spec
-    gives-none-requires
-    returns
-    call-batch-requires
-    put-batch-requires
-    same-length
-    returns-2)
+    tie.close (tie.spec gives-none-requires returns put-rows-requires same-length returns-2)

@@ -1,6 +1,6 @@
 use Rattle.boards.proofs.Needs.{wholes}
-use Rattle.boards.proofs.has_room.Statement.{statement}
-use Rattle.boards.proofs.has_room.Tie as tie
+use Rattle.boards.proofs.keep_calls.Statement.{statement}
+use Rattle.boards.proofs.keep_calls.Tie as tie
 
 shared-slice-read-s : tie.Need-shared-slice-read-s
 shared-slice-read-s c = search wholes
@@ -23,14 +23,17 @@ most-calls-requires c κs = search wholes
 first-call-requires : tie.Need-first-call-requires
 first-call-requires c κs = (search wholes, search wholes)
 
-room-from-requires : tie.Need-room-from-requires
-room-from-requires c κs = ((search wholes, search wholes), search wholes)
+keep-from-requires : tie.Need-keep-from-requires
+keep-from-requires c κs = ((search wholes, search wholes), search wholes)
+
+same-length : tie.Need-same-length
+same-length c = search wholes
 
 returns : tie.Need-returns
 returns c = search wholes
 
-pub has-room-spec : {M : Type 1} → statement M
-has-room-spec =
+pub keep-calls-spec : {M : Type 1} → statement M
+keep-calls-spec =
     tie.close
     (tie.spec
     shared-slice-read-s
@@ -40,5 +43,6 @@ has-room-spec =
     shared-slice-read-most-calls
     most-calls-requires
     first-call-requires
-    room-from-requires
+    keep-from-requires
+    same-length
     returns)
