@@ -10,7 +10,8 @@ use super::lines::{
     column, columns, digits, field_at, file_name, kind, line, lines, numbered, passed_over, text, trimmed, Delivery,
     Kind, BAHNHOF, BITFELD, ECKDATEN, FPLAN, ZUGART,
 };
-use super::mend::{cause, entry};
+use super::mend::cause;
+use super::mend_number::entry;
 use super::screen;
 use super::service::{of_delivery, service_of, Days, Finding};
 

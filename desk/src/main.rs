@@ -20,6 +20,8 @@ mod json;
 mod lines;
 mod looks;
 mod mend;
+mod mend_field;
+mod mend_number;
 mod moved;
 mod read;
 mod report;

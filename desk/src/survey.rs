@@ -13,7 +13,8 @@ use super::lines::{
     blank, column, columns, digits, field_at, file_name, kind, line, lines, numbered, passed_over, Delivery, Kind,
     BAHNHOF, BITFELD, ECKDATEN, FPLAN, UMSTEIGB, ZUGART,
 };
-use super::mend::{entry, of_section_5_5_1};
+use super::mend_field::of_section_5_5_1;
+use super::mend_number::entry;
 use super::service::{Days, Service};
 
 /// All that was found.
