@@ -7,7 +7,7 @@
 //! timetable keeps the table's own words, its index, which is shorter, and BAHNHOF's bytes; the rest is given back. No file is over 16 MiB (16,777,216 bytes): a longer one is refused. So a host can say its most before it reads a file
 //! ([`room_for`](crate::by_number::room_for)): 55 MB for the words of the table if all files have 16 MiB. The helper words are the larger part, since every line counts, a blank one too: three files of 16 MiB that are nothing but LF
 //! need 805,306,624 bytes, so that the most is about 860 MB, besides the files themselves. No delivery that is meant needs that (BAHNHOF's shortest line has 13 bytes), but a broken export may: a host whose memory is
-//! bounded caps the sizes of the files, or the number of lines of BITFELD, BAHNHOF and UMSTEIGB ([`helper_words`](crate::by_number::helper_words) says the words before a load), and does not load what is over. Where the memory is not there, [`Timetable::load`](crate::Timetable::load) says so ([`NoMemory`](crate::NoMemory)) and the host goes on with what it has; it does not abort. The archive itself takes no heap, and little stack: the crate's tests load and walk the largest service on a thread of 64 KiB.
+//! bounded caps the sizes of the files, or the number of lines of BITFELD, BAHNHOF and UMSTEIGB ([`helper_words`](crate::by_number::helper_words) says the words before a load), and does not load what is over. Where the memory is not there, [`Timetable::load`](crate::Timetable::load) says so ([`NoMemory`](crate::NoMemory)) and the host goes on with what it has; it does not abort. The archive itself takes no heap, and of the stack at most 36 KiB for a load (measured in the gate): the crate's tests load and walk the largest service on a thread of 64 KiB.
 //!
 //! # Load
 //!
