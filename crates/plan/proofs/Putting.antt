@@ -63,7 +63,7 @@ unfolding allSound every
 sound-cons b bs e =
     let x = and-true (countsWithin (countsOf b) && allFormed b) (every (λ (b : List Line). countsWithin (countsOf b) && allFormed b) bs) e in
     let y = and-true (countsWithin (countsOf b)) (allFormed b) (x .0) in
-    (record { countsWithin = within-says (countsOf b) (y .0); formed = y .1 }, x .1)
+    (record { within = within-says (countsOf b) (y .0); formed = y .1 }, x .1)
 
 module _ (f : List ℕ) (at n : ℕ) (b : Boundary f at n) (h : at < length f) where
   pub here-sound : allSound (blocks (linesAt f at n)) ≡ true → Sound (serviceLinesAt f at n)
