@@ -2,7 +2,7 @@
 -- whether it opens a service. Assumes nothing.
 use mathlib.Core.Path.{_≡_, refl, ap, sym, _∙_}
 use mathlib.Core.List.{List, [], _∷_, _++_}
-use mathlib.Core.Bool.{Bool, true, false, cond, not}
+use mathlib.Core.Bool.{Bool, true, false, cond, not, true≢false}
 use mathlib.Core.Option.{none, some}
 use Prim.Native.Nat.{ℕ, _+_, _-_, _≤_, _<_}
 use native.Mathlib.Omega.{arith}
@@ -20,7 +20,9 @@ use Rattle.timetable.specs.Service.{headLines, blocks}
 use Rattle.timetable.specs.Checks.{headFirst}
 use Rattle.timetable.specs.declared.Offence.{Offence}
 use Rattle.timetable.specs.declared.Told.{Told}
-use Rattle.reading.specs.Inner.Reading.{serviceLinesAt, Boundary, HeadClear, NextLine}
+use Rattle.reading.specs.Inner.Reading.{serviceLinesAt, Boundary, HeadClear, HeadAs, endsHead, headBy, NextLine}
+use Rattle.reading.specs.declared.Head.{Head}
+use Rattle.reading.specs.declared.Head.the-variants.{Clear, Stray}
 
 -- ---- the first of some lines
 
@@ -130,16 +132,16 @@ module _ (f : List ℕ) (at n : ℕ) (p : Headed f at n) where
     next = record { short = s; inside = p .inside; number = p .number; opening = z };
   }
 
-  pub head-none : length f ≤ mostFileBytes → length f ≤ at → HeadClear f at n
+  head-none : length f ≤ mostFileBytes → length f ≤ at → HeadClear f at n
   head-none s h = cleared s (nothing-opens f at n h)
 
   module _ (r : Cut) (kind : Kind) (t : Bool) (h : at < length f) (d : r ≡ cutAt f at n) (w : kind ≡ kindOf (take (r .stop - at) (drop at f))) (o : t ≡ isOpening kind) where
-    pub head-clear : length f ≤ mostFileBytes → t ≡ true → HeadClear f at n
+    head-clear : length f ≤ mostFileBytes → t ≡ true → HeadClear f at n
     head-clear s k = cleared s (next-opens f at n r kind t h d w o k)
 
     -- s says whether the line is skipped
     module _ (s : Bool) (k : t ≡ false) (i : s ≡ skipped (take (r .stop - at) (drop at f))) where
-      pub head-more : s ≡ true → Headed f (r .next) (r .no)
+      head-more : s ≡ true → Headed f (r .next) (r .no)
       head-more j =
           let c : Cutting f at n r = cutting f at n r h d in
           let l : Line = cutLine f at n r in
@@ -152,10 +154,52 @@ module _ (f : List ℕ) (at n : ℕ) (p : Headed f at n) where
             number = omega (arith, p .number, c);
           }
 
-      pub head-stray : (e : Offence) → s ≡ false → e ≡ offenceAt 12 n → headFirst (linesOf f) ≡ some e
+      head-stray : (e : Offence) → s ≡ false → e ≡ offenceAt 12 n → headFirst (linesOf f) ≡ some e
       head-stray e j z = p .clean ∙ rw (cutting f at n r h d .step, z) (offence-stray (cutLine f at n r) (after f r) (opens-by (cutLine f at n r) kind t w o ∙ k) (sym i ∙ j))
 
-pub ruleset heading = (tests, walk, head-start, head-none, head-clear, head-more, head-stray)
+  -- the line that is cut there, by its text alone
+  module _ (r : Cut) (h : at < length f) (d : r ≡ cutAt f at n) where
+    abbrev text : List ℕ
+    text = take (r .stop - at) (drop at f)
+
+    pub head-passed : false ≡ endsHead text → Headed f (r .next) (r .no)
+    head-passed e = go (isOpening (kindOf text)) (skipped text) refl refl e
+      where
+        go : (t s : Bool) → t ≡ isOpening (kindOf text) → s ≡ skipped text → false ≡ cond t true (not s) → Headed f (r .next) (r .no)
+        go false true o i e = head-more r (kindOf text) false h d refl o true refl i refl
+        go false false o i e = absurd (true≢false (sym e))
+        go true s o i e = absurd (true≢false (sym e))
+
+    pub head-answer : (z : Head) → length f ≤ mostFileBytes → true ≡ endsHead text → z ≡ headBy (isOpening (kindOf text)) at n → HeadAs f z
+    head-answer z m e v = go (isOpening (kindOf text)) (skipped text) refl refl e v
+      where
+        go : (t s : Bool) → t ≡ isOpening (kindOf text) → s ≡ skipped text → true ≡ cond t true (not s) → z ≡ headBy t at n → HeadAs f z
+        go true s o i e v = rw v (head-clear r (kindOf text) true h d refl o m refl)
+        go false false o i e v = rw v (head-stray r (kindOf text) false h d refl o false refl i (offenceAt 12 n) refl refl)
+        go false true o i e v = absurd (true≢false e)
+
+  pub head-over : (z : Head) → length f ≤ mostFileBytes → length f ≤ at → z ≡ headBy true at n → HeadAs f z
+  head-over z m h v = rw v (head-none m h)
+
+-- ---- a line that ends them, for `search heading`: t says whether it opens a service
+
+module _ (l : List ℕ) (kind : Kind) (t : Bool) (w : kind ≡ kindOf l) (o : t ≡ isOpening kind) where
+  opens : isOpening (kindOf l) ≡ t
+  opens = sym (o ∙ ap isOpening w)
+
+  pub ends-open : t ≡ true → true ≡ endsHead l
+  ends-open k = rw (opens ∙ k) refl
+
+  pub ends-shut : (s : Bool) → t ≡ false → s ≡ skipped l → not s ≡ endsHead l
+  ends-shut s k i = rw (opens ∙ k, i) refl
+
+  pub at-open : (at n : ℕ) → t ≡ true → Clear at n ≡ headBy (isOpening (kindOf l)) at n
+  at-open at n k = rw (opens ∙ k) refl
+
+  pub at-shut : (at n : ℕ) (e : Offence) → t ≡ false → e ≡ offenceAt 12 n → Stray e ≡ headBy (isOpening (kindOf l)) at n
+  at-shut at n e k z = rw (opens ∙ k, z) refl
+
+pub ruleset heading = (tests, walk, ends-open, ends-shut, at-open, at-shut)
 
 -- ---- the service that begins at a place, for callers
 

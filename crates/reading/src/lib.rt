@@ -3,6 +3,7 @@
 use draft::Counts;
 use draft::Drafted;
 use forms::Kind;
+use reader::Reader;
 use timetable::Offence;
 use timetable::Opening;
 use timetable::Part;
@@ -11,20 +12,20 @@ use timetable::Verdict;
 ghost use mathlib.Core.Path.{_≡_};
 ghost use mathlib.Core.List.{_++_};
 ghost use mathlib.Core.Bool.{true};
-ghost use Prim.Native.Nat.{_+_, _≤_, _<_};
-ghost use lib.ListN.{length};
+ghost use Prim.Native.Nat.{_+_, _-_, _≤_, _<_};
+ghost use lib.ListN.{length, take, drop};
 ghost use lib.Dec.{leb};
 ghost use Rattle.timetable.specs.Layout.{mostFileBytes, mostCalls};
 ghost use Rattle.timetable.specs.Offences.{verdictBy};
 ghost use Rattle.timetable.specs.Files.{bitFieldsIn, stopsIn, classesIn};
 ghost use Rattle.forms.specs.Kinds.{kindOf};
-ghost use Rattle.timetable.specs.Plan.{toldIn, asCall, asRange, asOpening};
+ghost use Rattle.timetable.specs.Plan.{toldIn, asCall, asRange, asOpening, isOpening};
 ghost use Rattle.timetable.specs.Service.{firstOpening};
 ghost use Rattle.timetable.specs.Legs.{fieldKnown};
 ghost use Rattle.timetable.specs.Checks.{most, categoryListed};
 ghost use Rattle.draft.specs.Inner.Draft.{callsLent, rangesLent, callsOn, rangesOn, onLine, callsAfter, counted, ranges#, Within};
 ghost use Rattle.reading.specs.Inner.Maps.{FieldMap, StopMap, ClassIndex};
-ghost use Rattle.reading.specs.Inner.Reading.{serviceLinesAt, Boundary, Sound, isFormed, ServiceRead, ReadAs, HeadAs, NextAs, countOf, categoryAfter, rangeAfter, callAfter, formAfter, offenceAfter};
+ghost use Rattle.reading.specs.Inner.Reading.{serviceLinesAt, Boundary, Sound, isFormed, ServiceRead, ReadAs, HeadAs, endsHead, headBy, NextAs, countOf, categoryAfter, rangeAfter, callAfter, formAfter, offenceAfter};
 
 // A service as it was read and drafted, or the first own offence of its lines.
 pub enum Read {
@@ -45,27 +46,54 @@ enum Next {
     End,
 }
 
-// The end of the lines before the first service.
+// The end of the lines before the first service. One reader passes them; the first line that it may not pass is the answer.
 pub fn head_end(f: &[u8]) -> Head
     requires { ⌜ length (now f) ≤ mostFileBytes ⌝ }
     ensures { λ r. ⌜ HeadAs (now (f .entry)) r ⌝ }
 {
-    let mut at: usize = 0;
-    let mut no: u32 = 1;
-    while at < f.len() {
-        let cut = reader::line_from(f, at, no);
-        let stop = cut.stop;
-        if timetable::is_opening(forms::kind_of(&f[at..stop])) {
-            return Head::Clear(at, no);
-        }
-        if lines::skips(&f[at..stop]) {
-            at = cut.next;
-            no = cut.no;
-        } else {
-            return Head::Stray(timetable::offence_at(12, no));
+    let mut reader = Reader {
+        file: f,
+        at: 0,
+        no: 1,
+    };
+    while reader.at < f.len() {
+        let at = reader.at;
+        let no = reader.no;
+        let cut = reader.next_line();
+        if ends_head(f, at, cut.stop) {
+            return head_at(f, at, no, cut.stop);
         }
     }
+    clear_at(reader.at, reader.no)
+}
+
+// No line ends them before a place.
+fn clear_at(at: usize, no: u32) -> Head
+    ensures { λ r. ⌜ r ≡ headBy true at no ⌝ }
+{
     Head::Clear(at, no)
+}
+
+// Whether a line ends the lines before the first service: it opens a service, or is not skipped.
+fn ends_head(f: &[u8], at: usize, stop: usize) -> bool
+    requires { ⌜ (at ≤ stop) × (stop ≤ length (now f)) ⌝ }
+    ensures { λ r. ⌜ r ≡ endsHead (take (stop - at) (drop at (now (f .entry)))) ⌝ }
+{
+    if timetable::is_opening(forms::kind_of(&f[at..stop])) {
+        return true;
+    }
+    !lines::skips(&f[at..stop])
+}
+
+// What such a line is: the first service begins with it, or it is the first that is not skipped (12).
+fn head_at(f: &[u8], at: usize, no: u32, stop: usize) -> Head
+    requires { ⌜ (at ≤ stop) × (stop ≤ length (now f)) ⌝ }
+    ensures { λ r. ⌜ r ≡ headBy (isOpening (kindOf (take (stop - at) (drop at (now (f .entry)))))) at no ⌝ }
+{
+    if timetable::is_opening(forms::kind_of(&f[at..stop])) {
+        return Head::Clear(at, no);
+    }
+    Head::Stray(timetable::offence_at(12, no))
 }
 
 // Reads the service that begins at a place, with line `no`, checks each of its lines (11, 4, 13, 9, 10, 38) and drafts it. Bit fields are looked

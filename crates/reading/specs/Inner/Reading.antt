@@ -3,18 +3,19 @@
 use Prim.Native.Nat.{ℕ, _+_, _≤_, _<_}
 use mathlib.Core.Path.{_≡_}
 use mathlib.Core.List.{List, [], _∷_}
-use mathlib.Core.Bool.{Bool, true, false, not}
+use mathlib.Core.Bool.{Bool, true, false, not, cond}
 use mathlib.Core.Option.{Option, none, some}
 use lib.ListN.{length}
 use lib.Dec.{leb}
 use Rattle.base.specs.Lists.{every}
-use Rattle.lines.specs.Lines.{Line, linesAt, linesOf}
+use Rattle.lines.specs.Lines.{Line, linesAt, linesOf, skipped}
+use Rattle.forms.specs.Kinds.{kindOf}
 use Rattle.forms.specs.declared.Form.the-variants.{Broken as BrokenForm}
 use Rattle.timetable.specs.Layout.{mostFileBytes, mostCalls}
 use Rattle.timetable.specs.Delivery.{BitField, StopRecord, CategoryClass}
 use Rattle.timetable.specs.Offences.{offenceAt, given, formOffence, _<|>_, first}
 use Rattle.timetable.specs.Files.{hasStop}
-use Rattle.timetable.specs.Plan.{toldIn}
+use Rattle.timetable.specs.Plan.{toldIn, isOpening}
 use Rattle.timetable.specs.Service.{headLines, blocks, firstLine, serviceOf}
 use Rattle.timetable.specs.Legs.{fieldKnown}
 use Rattle.timetable.specs.Checks.{most, categoryListed, ownOffence, headFirst}
@@ -143,3 +144,10 @@ pub record HeadClear (f : List ℕ) (at n : ℕ) : Type 0 where
 abbrev pub HeadAs : List ℕ → Head → Type 0
 HeadAs f (Stray o) = headFirst (linesOf f) ≡ some o
 HeadAs f (Clear at n) = HeadClear f at n
+
+-- a line that is not passed before the first service, and what it is there: t says whether it opens one
+abbrev pub endsHead : List ℕ → Bool
+endsHead l = cond (isOpening (kindOf l)) true (not (skipped l))
+
+abbrev pub headBy : Bool → ℕ → ℕ → Head
+headBy t at n = cond t (Clear at n) (Stray (offenceAt 12 n))
