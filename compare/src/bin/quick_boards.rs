@@ -10,5 +10,5 @@ mod exported;
 use exported::Exported;
 
 fn main() {
-    run("quick_boards", boards::QUICK_ANSWERS, |turn, _| boards::compare(turn, boards::By::Quick, &Exported));
+    run("quick_boards", &boards::quick_answers(), |turn, _| boards::compare(turn, boards::By::Quick, &Exported));
 }

@@ -190,7 +190,7 @@ fn given(rows: Result<Vec<crate::reader::board::Departure>, u32>, list: &mut [u3
 #[test]
 fn boards_compared() {
     passes(1_500, boards::ANSWERS, |turn, _| boards::compare(turn, boards::By::Checked, &Reader));
-    passes(1_500, boards::QUICK_ANSWERS, |turn, _| boards::compare(turn, boards::By::Quick, &Reader));
+    passes(1_500, &boards::quick_answers(), |turn, _| boards::compare(turn, boards::By::Quick, &Reader));
     for slip in BOARD_SLIPS {
         let found = finds(3_000, |turn, _| boards::compare(turn, boards::By::Checked, slip));
         assert!(found, "{:?} was not found", slip);
