@@ -10,7 +10,7 @@ use Prim.Native.Nat.{ℕ}
 use native.Mathlib.Omega.{arith}
 use Rattle.base.proofs.Laws.{clash, tests}
 use Rattle.lines.specs.Lines.{Line, skipped}
-use Rattle.forms.specs.Form.{formOf}
+use Rattle.forms.specs.Form.{formOf, isFit, hasForm}
 use Rattle.forms.specs.Columns.{serviceColumns, frequencyColumns, categoryColumns, attributeColumns, callColumns}
 use Rattle.forms.specs.Kinds.{kindOf}
 use Rattle.forms.specs.declared.Form.{Form}
@@ -40,11 +40,18 @@ is-formed : (f : Form) (t : Told) → isFormed (formed f t) ≡ true → formed 
 is-formed Fits t e = refl
 is-formed (BrokenForm c) t e = clash e
 
+is-fit : (f : Form) (t : Told) → isFormed (formed f t) ≡ true → isFit f ≡ true
+is-fit Fits t e = refl
+is-fit (BrokenForm c) t e = clash e
+
 module _ (text : List ℕ) (kind : Kind) (d : kind ≡ kindOf text) (g : isFormed (toldIn text) ≡ true) where
   reads-as : (k : Kind) (f : Form) (t : Told) → kind ≡ k → isOther k ≡ false → toldBy k text ≡ formed f t → toldIn text ≡ t
   reads-as k f t q o v =
       let z : toldIn text ≡ formed f t = told-own text k (sym q ∙ d) o ∙ v in
       z ∙ is-formed f t (ap isFormed (sym z) ∙ g)
+
+  pub call-formed : kind ≡ Schedule → hasForm callColumns text ≡ true
+  call-formed q = is-fit (formOf callColumns text) (Calls (callIn text)) (ap isFormed (sym (told-own text Schedule (sym q ∙ d) refl)) ∙ g)
 
   pub call-as : (c : CallLine) → kind ≡ Schedule → c ≡ callIn text → toldIn text ≡ Calls c
   call-as c q v = reads-as Schedule (formOf callColumns text) (Calls (callIn text)) q refl refl ∙ ap Calls (sym v)
@@ -64,7 +71,7 @@ module _ (text : List ℕ) (kind : Kind) (d : kind ≡ kindOf text) (g : isForme
   attribute-as r q v = reads-as Attribute (formOf attributeColumns text) (Ranges (attributeIn text)) q refl refl ∙ ap Ranges (sym v)
 
 -- the needs of `draft_again` where its line is a call or a range
-pub ruleset again-said = (tests, call-as, category-as, attribute-as, again-counted, again-ranged, call-within, call-called, range-within, range-counted, range-called, range-ranged)
+pub ruleset again-said = (tests, call-formed, call-as, category-as, attribute-as, again-counted, again-ranged, call-within, call-called, range-within, range-counted, range-called, range-ranged)
 
 -- ---- the other kinds say no call and no range
 

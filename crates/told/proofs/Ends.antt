@@ -17,8 +17,8 @@ use Rattle.fields.specs.declared.RangeEnd.the-variants.{Outer, Stop}
 use Rattle.fields.specs.declared.Detail.the-variants.{Plain}
 use Rattle.byte_words.specs.Inner.Words.{bytesOf}
 use Rattle.byte_words.proofs.Lines.{columns-word, blank-in}
+use Rattle.byte_words.proofs.Numbers.{are-digits}
 use Rattle.told.specs.Inner.Marked.{markColumn}
-use Rattle.told.proofs.Plain.{digits-known}
 
 -- digits are not blank
 not-blank : (w : ℕ) → digits (bytesOf 7 w) ≡ true → blank (bytesOf 7 w) ≡ false
@@ -64,4 +64,4 @@ module _ (l : List ℕ) (a b w : ℕ) (h : 1 ≤ a) (i : a + 7 ≤ markColumn) (
       let n : b - (a - 1) ≡ 6 = omega (arith, h, g) in
       rw (z, n) refl
 
-pub ruleset ending = (tests, place-blank, place-stop, digits-known, detail-blank)
+pub ruleset ending = (tests, place-blank, place-stop, are-digits, detail-blank)

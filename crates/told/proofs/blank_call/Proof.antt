@@ -1,24 +1,27 @@
-use Rattle.told.proofs.Plain.{blanked}
+use Rattle.told.proofs.Calls.{blanked}
 use Rattle.told.proofs.blank_call.Statement.{statement}
 use Rattle.told.proofs.blank_call.Tie as tie
 
 seven-number-requires : tie.Need-seven-number-requires
 seven-number-requires c κs = search blanked
 
-minutes-of-requires : tie.Need-minutes-of-requires
-minutes-of-requires c κs = search blanked
+minutes-in-requires : tie.Need-minutes-in-requires
+minutes-in-requires c κs = search blanked
 
-minutes-of-requires-2 : tie.Need-minutes-of-requires-2
-minutes-of-requires-2 c κs = search blanked
+minutes-in-requires-2 : tie.Need-minutes-in-requires-2
+minutes-in-requires-2 c κs = search blanked
 
-flags-of-requires : tie.Need-flags-of-requires
-flags-of-requires c κs = search blanked
+flags-in-requires : tie.Need-flags-in-requires
+flags-in-requires c κs = search blanked
 
-flags-of-requires-2 : tie.Need-flags-of-requires-2
-flags-of-requires-2 c κs = search blanked
+flags-in-requires-2 : tie.Need-flags-in-requires-2
+flags-in-requires-2 c κs = search blanked
 
-add-t9 : tie.Need-add-t9
-add-t9 c = search blanked
+mul-t9 : tie.Need-mul-t9
+mul-t9 c = search blanked
+
+add-t10 : tie.Need-add-t10
+add-t10 c = search blanked
 
 returns : tie.Need-returns
 returns c = search blanked
@@ -28,9 +31,10 @@ blank-call-spec =
     tie.close
     (tie.spec
     seven-number-requires
-    minutes-of-requires
-    minutes-of-requires-2
-    flags-of-requires
-    flags-of-requires-2
-    add-t9
+    minutes-in-requires
+    minutes-in-requires-2
+    flags-in-requires
+    flags-in-requires-2
+    mul-t9
+    add-t10
     returns)

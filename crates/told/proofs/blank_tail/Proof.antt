@@ -1,4 +1,4 @@
-use Rattle.told.proofs.Plain.{tails}
+use Rattle.told.proofs.Calls.{tails}
 use Rattle.told.proofs.blank_tail.Statement.{statement}
 use Rattle.told.proofs.blank_tail.Tie as tie
 

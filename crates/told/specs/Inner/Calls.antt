@@ -1,22 +1,30 @@
 -- What a schedule line's form asks, in the order of its columns, for the contracts of src. Nobody has to believe this file:
--- `call_told` is promised over `hasForm callColumns`. Assumes nothing.
-use Prim.Native.Nat.{ℕ, _+_, _/_, _%_}
+-- `call_told` is promised over `formOf callColumns`. Assumes nothing.
+use Prim.Native.Nat.{ℕ, _+_, _/_}
 use mathlib.Core.List.{List}
 use mathlib.Core.Bool.{Bool, false, not, _&&_, _||_}
 use lib.Dec.{eqb}
 use Rattle.base.specs.Lists.{every}
 use Rattle.columns.specs.Columns.{columns, column, isBlank, blank, digits, number}
+use Rattle.fields.specs.Fields.{time, timeIn}
 use Rattle.fields.specs.declared.Time.{Time}
 use Rattle.byte_words.specs.Inner.Words.{bytesOf}
 use Rattle.forms.specs.Form.{isTime}
+use Rattle.forms.specs.declared.Form.{Form}
+use Rattle.forms.specs.declared.Form.the-variants.{Fits, Broken}
 use Rattle.timetable.specs.declared.CallLine.{CallLine}
 use Rattle.timetable.specs.Plan.{threeBytes, minutesOf, flagsOf}
 use Rattle.told.specs.Inner.Marked.{markColumn}
 
--- columns 1 to 42, where the two times were read, and then `rest`
-unfoldable pub headFits : List ℕ → Time → Time → Bool → Bool
-headFits l arrival departure rest =
-    digits (columns 1 7 l) && (isBlank (column 8 l) && (isTime arrival && (isBlank (column 36 l) && (isTime departure && rest))))
+-- the column that a form says is broken, 0 where none is
+abbrev pub columnOf : Form → ℕ
+columnOf Fits = 0
+columnOf (Broken c) = c
+
+-- columns 1 to 42
+unfoldable pub headFits : List ℕ → Bool
+headFits l =
+    digits (columns 1 7 l) && (isBlank (column 8 l) && (isTime (time (columns 30 35 l)) && (isBlank (column 36 l) && isTime (time (columns 37 42 l)))))
 
 -- columns 56 to 59
 unfoldable pub endFits : List ℕ → Bool
@@ -30,30 +38,11 @@ tailFits l =
     isBlank (column 43 l) && ((blank (columns 44 48 l) || digits (columns 44 48 l))
     && (isBlank (column 49 l) && ((blank (columns 50 55 l) || every (λ (b : ℕ). not (isBlank b)) (columns 50 55 l)) && endFits l)))
 
--- what a schedule line says, where its two times were read
-abbrev pub callWith : List ℕ → Time → Time → CallLine
-callWith l arrival departure = record {
-  stop = number (columns 1 7 l);
-  arrival = minutesOf arrival;
-  departure = minutesOf departure;
-  flags = flagsOf 1 arrival + flagsOf 2 departure;
-  numbered = not (blank (columns 44 48 l));
-  number = number (columns 44 48 l);
-  administered = not (blank (columns 50 55 l));
-  high = threeBytes 50 l;
-  low = threeBytes 53 l;
-}
+-- the time in the last six bytes of a word
+abbrev pub lastTime : ℕ → Time
+lastTime w = timeIn (bytesOf 6 (w / 65536))
 
--- columns 43 to 58 blank, and the mark behind them, as on nearly all schedule lines
-unfoldable pub plainTail : List ℕ → Bool
-plainTail l = blank (columns 43 58 l) && eqb (column markColumn l) 37
-
--- columns 1 to 42 by words: `stop` is columns 1 to 8, `first` is columns 30 to 37
-unfoldable pub plainHead : ℕ → ℕ → Time → Time → Bool
-plainHead stop first arrival departure =
-    (digits (bytesOf 7 stop) && eqb (stop / 72057594037927936 % 256) 32) && (isTime arrival && (isBlank (first / 281474976710656 % 256) && isTime departure))
-
--- what a line with blank columns 43 to 58 says, where columns 1 to 7 stand in a word and its two times were read: three blanks as one number are 2105376
+-- what a line with blank columns 43 to 58 says, where columns 1 to 7 stand in a word: three blanks as one number are 2105376
 abbrev pub blankCall : ℕ → Time → Time → CallLine
 blankCall stop arrival departure = record {
   stop = number (bytesOf 7 stop);
@@ -65,4 +54,18 @@ blankCall stop arrival departure = record {
   administered = false;
   high = 2105376;
   low = 2105376;
+}
+
+-- the same call with the number and the administration of a line
+abbrev pub filledCall : List ℕ → CallLine → CallLine
+filledCall l said = record {
+  stop = said .stop;
+  arrival = said .arrival;
+  departure = said .departure;
+  flags = said .flags;
+  numbered = not (blank (columns 44 48 l));
+  number = number (columns 44 48 l);
+  administered = not (blank (columns 50 55 l));
+  high = threeBytes 50 l;
+  low = threeBytes 53 l;
 }
