@@ -3,17 +3,11 @@ use Rattle.told.specs.Inner.Calls.{tailFits}
 use Rattle.told.proofs.filled_tail.Statement.{statement}
 use Rattle.told.proofs.filled_tail.Tie as tie
 
-sub-blank-at : tie.Need-sub-blank-at
-sub-blank-at c = search chains
-
 blank-at-requires : tie.Need-blank-at-requires
 blank-at-requires c κs = search chains
 
 number-fits-requires : tie.Need-number-fits-requires
 number-fits-requires c κs = search chains
-
-sub-blank-at-2 : tie.Need-sub-blank-at-2
-sub-blank-at-2 c = search chains
 
 blank-at-requires-2 : tie.Need-blank-at-requires-2
 blank-at-requires-2 c κs = search chains
@@ -48,10 +42,8 @@ pub filled-tail-spec : {M : Type 1} → statement M
 filled-tail-spec =
     tie.close
     (tie.spec
-    sub-blank-at
     blank-at-requires
     number-fits-requires
-    sub-blank-at-2
     blank-at-requires-2
     administration-fits-requires
     end-fits-requires
