@@ -1,28 +1,31 @@
 -- 17 and 18 on the words of a service's ranges, which are read back as its ranges. Assumes nothing.
 use mathlib.Core.Path.{_≡_, refl, sym, ap, _∙_}
-use mathlib.Core.List.{List, _++_}
+use mathlib.Core.List.{List, map, _++_}
 use mathlib.Core.Bool.{Bool, true, false}
 use mathlib.Core.Option.{some}
 use Prim.Native.Nat.{ℕ, _+_, _-_, _*_, _≤_}
 use native.Mathlib.Omega.{arith}
 use lib.ListN.{length, drop}
-use Rattle.base.specs.Lists.{every, below, gathered}
+use borrow.Author.Tests.{eq-eqb}
+use Rattle.base.specs.Lists.{every, countIf, below, gathered}
 use Rattle.base.proofs.Laws.{tests}
+use Rattle.base.proofs.Loops.{every-one}
 use Rattle.words.specs.Words.{write}
 use Rattle.words.proofs.Laws.{write-front}
 use Rattle.timetable.specs.Layout.{categorySize, daySize, mostCategories, mostDays}
-use Rattle.timetable.specs.Delivery.{BitField, CategoryRange, DayRange, Service}
+use Rattle.timetable.specs.Delivery.{BitField, Legs as LegsOf, CategoryRange, DayRange, Service}
 use Rattle.timetable.specs.Offences.{_<|>_, offenceAt, verdictBy}
-use Rattle.timetable.specs.Legs.{legCount}
+use Rattle.timetable.specs.Legs.{legCount, covers}
 use Rattle.timetable.specs.Checks.{eachOnce, legsFirst}
-use Rattle.timetable.specs.Table.{rowsIn, categoryAt, dayAt, categoryWords, dayWords}
+use Rattle.timetable.specs.Table.{rowsIn, legsAt, categoryAt, dayAt, categoryWords, dayWords}
 use Rattle.timetable.specs.declared.Call.{Call}
 use Rattle.timetable.specs.declared.Part.the-variants.{Category, Days}
 use Rattle.timetable.specs.declared.RangeLine.{RangeLine}
 use Rattle.timetable.specs.declared.Verdict.{Verdict}
 use Rattle.timetable.specs.declared.Verdict.the-variants.{Fine}
 use Rattle.timetable.proofs.Records.{categories-back, categories-length, days-back, days-length}
-use Rattle.cover.specs.Inner.Cover.{onceIn}
+use Rattle.cover.specs.Inner.Cover.{legsIn, onceIn, inTurn}
+use Rattle.cover.proofs.Turn.{turn-once, legs-rows}
 use Rattle.cover.proofs.Rows.{categories-once, days-once}
 use Rattle.draft.specs.Inner.Draft.{draftCall, draftRange, callsIn, rangesIn, ranges#, draftedService}
 use Rattle.draft.specs.declared.Drafted.{Drafted}
@@ -96,6 +99,16 @@ module _ (d : Drafted) (calls ranges : List ℕ) (h : Counted (d .counts) calls 
           ap (rowsIn dayAt daySize (d .counts .days)) (e ∙ write-front t (partWords Days cs rs) ∙ ap (λ (vs : List ℕ). vs ++ drop (length (partWords Days cs rs)) t) days-written)
           ∙ ap (λ (g : ℕ). rowsIn dayAt daySize g (gathered dayWords (s .days) ++ drop (length (partWords Days cs rs)) t)) (sym (days-are d calls ranges h f))
           ∙ days-back (s .days) (drop (length (partWords Days cs rs)) t))
+
+-- ---- the need of `each_once`, for `search turning`: t is what `in_turn` said
+
+pub turn-each : (w : List ℕ) (n width legs : ℕ) (t : Bool) → t ≡ inTurn 0 legs (legsIn width n w) → t ≡ true → true ≡ every (onceIn width n w) (below legs)
+turn-each w n width legs t e y =
+    let rows : legsIn width n w ≡ map (λ (g : LegsOf). g) (rowsIn (legsAt (width - 2)) width n w) = legs-rows (λ (g : LegsOf). g) (legsAt (width - 2)) width (λ v. refl) n w in
+    let follow : inTurn 0 legs (map (λ (g : LegsOf). g) (rowsIn (legsAt (width - 2)) width n w)) ≡ true = ap (inTurn 0 legs) (sym rows) ∙ sym e ∙ y in
+    sym (every-one (onceIn width n w) legs 0 (λ k a h. eq-eqb (countIf (covers k) (legsIn width n w)) 1 (turn-once (λ (g : LegsOf). g) 0 legs k (legsIn width n w) follow a (omega arith))))
+
+pub ruleset turning = (tests, turn-each)
 
 pub ruleset parting = (tests, calls-lie, ranges-lie, categories-room, legs-then, legs-not)
 

@@ -317,4 +317,40 @@ some-same f g m (suc n) k e h = ap₂ (λ (a b : Bool). a || b) (e k (omega arit
 pub torn-by : (fields : List BitField) (rs : List DayRange) (r : List ℕ) (legs days : ℕ) (x : Bool) → days ≤ mostPeriodDays → ((d : ℕ) → d < mostPeriodDays → bit r (d + 2) ≡ rowsBroken fields legs rs d) → x ≡ someDay days r → x ≡ rowsTorn fields days legs rs
 torn-by fields rs r legs days x h e q = q ∙ some-same (runsOn r) (rowsBroken fields legs rs) days days 0 (λ d l. e d (omega arith)) (omega arith)
 
-pub ruleset sweeps = (tests, field-daily, field-found, swept-none, sweep-covered, row-read, row-byte, to-read, to-fits, to-byte, sweep-less, swept-done, torn-by)
+-- ---- one range: all legs run on its days, so none runs after one that did not
+
+alike : (f : ℕ → Bool) (t : Bool) (n : ℕ) → ((j : ℕ) → j < n → f j ≡ t) → brokenBy false false false (map f (below n)) ≡ false
+unfolding brokenBy upto
+alike f t zero e = refl
+alike f t (suc n) e =
+    let none-left : suc n - suc n ≡ 0 = omega arith in
+    sym (run-on f t false false false n n 0 (λ j a g h. e j (omega arith))) ∙ ap (λ (i : ℕ). brokenBy (false || t) (false || (false && not t)) (false || (false && t)) (map f (upto i (0 + suc n)))) none-left
+
+only-range : (fields : List BitField) (x : DayRange) (d j : ℕ) → covers j (x .legs) ≡ true → operated fields (x ∷ []) d j ≡ fieldRuns fields (x .field) d
+unfolding some-of
+only-range fields x d j e = rw e (sym (or-false (fieldRuns fields (x .field) d)))
+
+none-torn : (f : ℕ → Bool) (n k : ℕ) → ((i : ℕ) → f i ≡ false) → some-of f (upto n k) ≡ false
+unfolding upto some-of
+none-torn f zero k e = refl
+none-torn f (suc n) k e = rw (e k) (none-torn f n (k + 1) e)
+
+module _ (fields : List BitField) (w : List ℕ) (v legs days : ℕ) (y : v ≡ 1) (once : eachOnce (λ (r : DayRange). r .legs) legs (rowsIn dayAt daySize v w) ≡ true) where
+  covers-all : (j : ℕ) → j < legs → covers j (dayAt w .legs) ≡ true
+  unfolding rowsIn countIf
+  covers-all j h = go (covers j (dayAt w .legs)) (ap (λ (n : ℕ). countIf (λ (r : DayRange). covers j (r .legs)) (rowsIn dayAt daySize n w)) (sym y) ∙ covered w v legs once j h)
+    where
+      go : (b : Bool) → cond b 1 0 + 0 ≡ 1 → b ≡ true
+      go true e = refl
+      go false e = absurd (omega (arith, e))
+
+  one-range : (d : ℕ) → rowsBroken fields legs (rowsIn dayAt daySize 1 w) d ≡ false
+  unfolding rowsIn
+  one-range d =
+      sym (two-stretches (map (operated fields (dayAt w ∷ []) d) (below legs)))
+      ∙ alike (operated fields (dayAt w ∷ []) d) (fieldRuns fields (dayAt w .field) d) legs (λ j h. only-range fields (dayAt w) d j (covers-all j h))
+
+  pub never-torn : false ≡ rowsTorn fields days legs (rowsIn dayAt daySize v w)
+  never-torn = sym (none-torn (rowsBroken fields legs (rowsIn dayAt daySize v w)) days 0 (λ d. ap (λ (n : ℕ). rowsBroken fields legs (rowsIn dayAt daySize n w) d) y ∙ one-range d))
+
+pub ruleset sweeps = (tests, never-torn, field-daily, field-found, swept-none, sweep-covered, row-read, row-byte, to-read, to-fits, to-byte, sweep-less, swept-done, torn-by)

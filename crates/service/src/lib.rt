@@ -19,6 +19,8 @@ ghost use mathlib.Core.Path.{_≡_};
 ghost use mathlib.Core.Bool.{true};
 ghost use Prim.Native.Nat.{ℕ, _+_, _-_, _*_, _≤_, _<_};
 ghost use lib.ListN.{length};
+ghost use Rattle.base.specs.Lists.{every, below};
+ghost use Rattle.cover.specs.Inner.Cover.{onceIn};
 ghost use Rattle.bitfield.specs.BitField.{runsOn};
 ghost use Rattle.timetable.specs.Layout.{daySize, mostPeriodDays, recordSize};
 ghost use Rattle.timetable.specs.Delivery.{DayRange};
@@ -58,7 +60,8 @@ pub fn check_service(
     requires { ⌜ (at < length (now fplan)) × (days ≤ mostPeriodDays) × (callsLent ≤ length (now calls)) × (rangesLent ≤ length (now ranges)) ⌝ }
     requires { ⌜ Boundary (now fplan) at no ⌝ }
     requires { ⌜ FieldMap (now bitfeld) (now fields) × StopMap (now bahnhof) (now stops) × ClassIndex (now zugart) (now index) ⌝ }
-    ensures { λ r. ⌜ CheckedAs (bitFieldsIn (now (bitfeld .entry))) (stopsIn (now (bahnhof .entry))) (classesIn (now (zugart .entry))) days (now (fplan .entry)) at no r ⌝ }
+    ensures { λ r. ⌜ CheckedAs (bitFieldsIn (now (bitfeld .entry))) (stopsIn (now (bahnhof .entry))) (classesIn (now (zugart .entry))) days
+        (now (fplan .entry)) at no r ⌝ }
 {
     let read = reading::read_checked(
         fplan,
@@ -92,7 +95,8 @@ fn draft_checks(
     requires { ⌜ Counted (d .counts) (now calls) (now ranges) ⌝ }
     requires { ⌜ days ≤ mostPeriodDays ⌝ }
     requires { ⌜ FieldMap (now bitfeld) (now fields) ⌝ }
-    ensures { λ r. ⌜ r ≡ checkBy (draftFirst (bitFieldsIn (now (bitfeld .entry))) days d (now (calls .entry)) (now (ranges .entry))) (serviceIn d (now (calls .entry)) (now (ranges .entry))) d ⌝ }
+    ensures { λ r. ⌜ r ≡ checkBy (draftFirst (bitFieldsIn (now (bitfeld .entry))) days d (now (calls .entry)) (now (ranges .entry)))
+        (serviceIn d (now (calls .entry)) (now (ranges .entry))) d ⌝ }
 {
     let counts = d.counts;
     let c = counts.calls;
@@ -122,7 +126,8 @@ fn leg_checks(
     requires { ⌜ EndsFound d (now calls) (now ranges) ⌝ }
     requires { ⌜ (2 ≤ d .counts .calls) × (days ≤ mostPeriodDays) ⌝ }
     requires { ⌜ FieldMap (now bitfeld) (now fields) ⌝ }
-    ensures { λ r. ⌜ r ≡ checkBy (legsFirst (bitFieldsIn (now (bitfeld .entry))) days (d .line) (serviceIn d (now (calls .entry)) (now (ranges .entry)))) (serviceIn d (now (calls .entry)) (now (ranges .entry))) d ⌝ }
+    ensures { λ r. ⌜ r ≡ checkBy (legsFirst (bitFieldsIn (now (bitfeld .entry))) days (d .line) (serviceIn d (now (calls .entry)) (now (ranges .entry))))
+        (serviceIn d (now (calls .entry)) (now (ranges .entry))) d ⌝ }
 {
     if let Verdict::Offends(offence) = legs_wrong(d, calls, ranges, bitfeld, fields, days) {
         return ServiceCheck::Refused(offence);
@@ -167,7 +172,7 @@ fn legs_wrong(
     let n = draft::range_count(counts);
     let mut words = [0u32; CATEGORY_WORDS * MOST_CATEGORIES as usize];
     service_words::part_into(Part::Category, ranges, n, calls, c, &mut words, 0);
-    if cover::each_once(&words, counts.categories, CATEGORY_WORDS, c - 1) {
+    if each_once(&words, counts.categories, CATEGORY_WORDS, c - 1) {
         return operating_wrong(d, calls, ranges, bitfeld, fields, days);
     }
     timetable::offends(17, d.line)
@@ -186,7 +191,9 @@ fn operating_wrong(
     requires { ⌜ EndsFound d (now calls) (now ranges) ⌝ }
     requires { ⌜ (2 ≤ d .counts .calls) × (days ≤ mostPeriodDays) ⌝ }
     requires { ⌜ FieldMap (now bitfeld) (now fields) ⌝ }
-    ensures { λ r. ⌜ r ≡ verdictBy (daysFirst (bitFieldsIn (now (bitfeld .entry))) days (d .line) (d .counts .calls - 1) (serviceIn d (now (calls .entry)) (now (ranges .entry)) .days)) ⌝ }
+    ensures { λ r. ⌜ r ≡ verdictBy
+        (daysFirst (bitFieldsIn (now (bitfeld .entry))) days (d .line) (d .counts .calls - 1)
+        (serviceIn d (now (calls .entry)) (now (ranges .entry)) .days)) ⌝ }
 {
     let counts = d.counts;
     let c = counts.calls;
@@ -210,13 +217,25 @@ fn days_wrong(
     requires { ⌜ FieldMap (now bitfeld) (now fields) ⌝ }
     ensures { λ r. ⌜ r ≡ verdictBy (daysFirst (bitFieldsIn (now (bitfeld .entry))) days line legs (rowsIn dayAt daySize v (now (ranges .entry)))) ⌝ }
 {
-    if cover::each_once(ranges, v, DAYS_WORDS, legs) {
+    if each_once(ranges, v, DAYS_WORDS, legs) {
         if two_stretches(ranges, v, legs, bitfeld, fields, days) {
             return timetable::offends(19, line);
         }
         return Verdict::Fine;
     }
     timetable::offends(18, line)
+}
+
+// Whether each leg is covered by exactly one of n ranges. Ranges that follow each other, as nearly all do, are told by one pass over them.
+fn each_once(ranges: &[u32], n: u32, width: usize, legs: u32) -> bool
+    requires { ⌜ 2 ≤ width ⌝ }
+    requires { ⌜ n * width ≤ length (now ranges) ⌝ }
+    ensures { λ r. ⌜ r ≡ every (onceIn width n (now (ranges .entry))) (below legs) ⌝ }
+{
+    if cover::in_turn(ranges, n, width, legs) {
+        return true;
+    }
+    cover::each_once(ranges, n, width, legs)
 }
 
 // ---- 19, on all days at once
@@ -235,6 +254,10 @@ fn two_stretches(
     requires { ⌜ FieldMap (now bitfeld) (now fields) ⌝ }
     ensures { λ r. ⌜ r ≡ rowsTorn (bitFieldsIn (now (bitfeld .entry))) days legs (rowsIn dayAt daySize v (now (ranges .entry))) ⌝ }
 {
+    // the legs of one range run on the same days
+    if v == 1 {
+        return false;
+    }
     bitfield::some_day(torn_days(ranges, v, legs, bitfeld, fields), days)
 }
 
@@ -244,7 +267,8 @@ fn torn_days(ranges: &[u32], v: u32, legs: u32, bitfeld: &[u8], fields: &[u32]) 
     requires { ⌜ v * daySize ≤ length (now ranges) ⌝ }
     requires { ⌜ eachOnce (λ (r : DayRange). r .legs) legs (rowsIn dayAt daySize v (now ranges)) ≡ true ⌝ }
     requires { ⌜ FieldMap (now bitfeld) (now fields) ⌝ }
-    ensures { λ r. ⌜ ((d : ℕ) → d < mostPeriodDays → runsOn r d ≡ rowsBroken (bitFieldsIn (now (bitfeld .entry))) legs (rowsIn dayAt daySize v (now (ranges .entry))) d) ⌝ }
+    ensures { λ r. ⌜
+        ((d : ℕ) → d < mostPeriodDays → runsOn r d ≡ rowsBroken (bitFieldsIn (now (bitfeld .entry))) legs (rowsIn dayAt daySize v (now (ranges .entry))) d) ⌝ }
 {
     let mut begun = bitfield::no_bits();
     let mut ended = bitfield::no_bits();

@@ -11,5 +11,8 @@ some-day-requires c κs = search sweeps
 returns : tie.Need-returns
 returns c = search sweeps
 
+returns-2 : tie.Need-returns-2
+returns-2 c = search sweeps
+
 pub two-stretches-spec : {M : Type 1} → statement M
-two-stretches-spec = tie.close (tie.spec torn-days-requires some-day-requires returns)
+two-stretches-spec = tie.close (tie.spec returns torn-days-requires some-day-requires returns-2)
