@@ -101,7 +101,7 @@ run "$out/quay_screen" | diff -u planner/examples/quay_screen.txt - || die 'plan
 
 # How deep a load goes on the stack, by the archive itself: at most what docs/MEASURED.md says.
 c -std=c11 -Wall -Wextra -Wpedantic -Werror -Iinclude tools/stack.c -L"$ARCHIVE" -lestelunya -lpthread -o "$out/stack"
-run "$out/stack" 36864
+run "$out/stack" 32768
 
 run "$out/readme"
 run "$out/trial_week"

@@ -1,4 +1,4 @@
--- What `load` and `load_mapped` answer and leave, for `search refusing` and `search loading`: n is the file that is too long, r the room for the maps, d
+-- What `load` and `load_drafting` answer and leave, for `search refusing` and `search loading`: n is the file that is too long, r the room for the maps, d
 -- what the checks say of the files, t the table and h the helper words lent. Assumes nothing.
 use mathlib.Core.Path.{_≡_, refl, sym, ap, _∙_}
 use mathlib.Core.List.{List, _++_}

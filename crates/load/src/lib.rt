@@ -24,6 +24,7 @@ ghost use Rattle.timetable.specs.Files.{bitFieldsIn, bitFieldsFirst, stopsIn, s
 ghost use Rattle.timetable.specs.Service.{blocks};
 ghost use Rattle.timetable.specs.Checks.{planFirst};
 ghost use Rattle.timetable.specs.Load.{delivered, contentOffence, loaded, written, helped};
+ghost use Rattle.draft.specs.Inner.Draft.{callsLent, rangesLent};
 ghost use Rattle.reading.specs.Inner.Maps.{FieldMap, StopMap, ClassIndex};
 ghost use Rattle.plan.specs.Inner.Services.{blockWords, mostPlanWords};
 ghost use Rattle.load.specs.Inner.Delivered.{longIn, headerBy, headerOf, refusedIn, deliveredBy, answered, left};
@@ -45,9 +46,15 @@ pub fn load(
     table: &mut [u32],
     helper: &mut [u32],
 ) -> Loaded
-    ensures { λ r. ⌜ r ≡ loaded (filesOf (now (eckdaten .entry)) (now (bitfeld .entry)) (now (bahnhof .entry)) (now (umsteigb .entry)) (now (fplan .entry)) (now (zugart .entry))) (length (now (table .entry))) (length (now (helper .entry))) ⌝ }
-    ensures { λ r. ⌜ now (table .exit) ≡ written (filesOf (now (eckdaten .entry)) (now (bitfeld .entry)) (now (bahnhof .entry)) (now (umsteigb .entry)) (now (fplan .entry)) (now (zugart .entry))) (now (table .entry)) (length (now (helper .entry))) ⌝ }
-    ensures { λ r. ⌜ now (helper .exit) ≡ helped (filesOf (now (eckdaten .entry)) (now (bitfeld .entry)) (now (bahnhof .entry)) (now (umsteigb .entry)) (now (fplan .entry)) (now (zugart .entry))) (now (helper .entry)) ⌝ }
+    ensures { λ r. ⌜ r ≡ loaded
+        (filesOf (now (eckdaten .entry)) (now (bitfeld .entry)) (now (bahnhof .entry)) (now (umsteigb .entry)) (now (fplan .entry)) (now (zugart .entry)))
+        (length (now (table .entry))) (length (now (helper .entry))) ⌝ }
+    ensures { λ r. ⌜ now (table .exit) ≡ written
+        (filesOf (now (eckdaten .entry)) (now (bitfeld .entry)) (now (bahnhof .entry)) (now (umsteigb .entry)) (now (fplan .entry)) (now (zugart .entry)))
+        (now (table .entry)) (length (now (helper .entry))) ⌝ }
+    ensures { λ r. ⌜ now (helper .exit) ≡ helped
+        (filesOf (now (eckdaten .entry)) (now (bitfeld .entry)) (now (bahnhof .entry)) (now (umsteigb .entry)) (now (fplan .entry)) (now (zugart .entry)))
+        (now (helper .entry)) ⌝ }
 {
     let long = too_long(
         eckdaten.len(),
@@ -127,8 +134,12 @@ fn load_lent(
     requires { ⌜ Short (now eckdaten) (now bitfeld) (now bahnhof) (now umsteigb) (now fplan) (now zugart) ⌝ }
     requires { ⌜ room ≡ roomOf (now bitfeld) (now bahnhof) (now umsteigb) ⌝ }
     requires { ⌜ room .words ≤ length (now helper) ⌝ }
-    ensures { λ r. ⌜ r ≡ answered (filesOf (now (eckdaten .entry)) (now (bitfeld .entry)) (now (bahnhof .entry)) (now (umsteigb .entry)) (now (fplan .entry)) (now (zugart .entry))) (length (now (table .entry))) ⌝ }
-    ensures { λ _. ⌜ now (table .exit) ≡ left (filesOf (now (eckdaten .entry)) (now (bitfeld .entry)) (now (bahnhof .entry)) (now (umsteigb .entry)) (now (fplan .entry)) (now (zugart .entry))) (now (table .entry)) ⌝ }
+    ensures { λ r. ⌜ r ≡ answered
+        (filesOf (now (eckdaten .entry)) (now (bitfeld .entry)) (now (bahnhof .entry)) (now (umsteigb .entry)) (now (fplan .entry)) (now (zugart .entry)))
+        (length (now (table .entry))) ⌝ }
+    ensures { λ _. ⌜ now (table .exit) ≡ left
+        (filesOf (now (eckdaten .entry)) (now (bitfeld .entry)) (now (bahnhof .entry)) (now (umsteigb .entry)) (now (fplan .entry)) (now (zugart .entry)))
+        (now (table .entry)) ⌝ }
     ensures { λ _. ⌜ now (helper .exit) ≡ replicate (room .words) 0 ++ drop (room .words) (now (helper .entry)) ⌝ }
 {
     let words = room.words;
@@ -148,7 +159,7 @@ fn load_lent(
     loaded
 }
 
-// The same with words that hold 0 for the maps and the index. The table is written while they stand: its calls point by the map of BAHNHOF.
+// The same with words that hold 0 for the maps and the index. The words for the drafts of services are made here, once for the check and the writing.
 fn load_mapped(
     eckdaten: &[u8],
     bitfeld: &[u8],
@@ -162,10 +173,66 @@ fn load_mapped(
 ) -> Loaded
     requires { ⌜ Short (now eckdaten) (now bitfeld) (now bahnhof) (now umsteigb) (now fplan) (now zugart) ⌝ }
     requires { ⌜ Emptied (now bitfeld) (now bahnhof) (now umsteigb) room (now m) ⌝ }
-    ensures { λ r. ⌜ r ≡ answered (filesOf (now (eckdaten .entry)) (now (bitfeld .entry)) (now (bahnhof .entry)) (now (umsteigb .entry)) (now (fplan .entry)) (now (zugart .entry))) (length (now (table .entry))) ⌝ }
-    ensures { λ _. ⌜ now (table .exit) ≡ left (filesOf (now (eckdaten .entry)) (now (bitfeld .entry)) (now (bahnhof .entry)) (now (umsteigb .entry)) (now (fplan .entry)) (now (zugart .entry))) (now (table .entry)) ⌝ }
+    ensures { λ r. ⌜ r ≡ answered
+        (filesOf (now (eckdaten .entry)) (now (bitfeld .entry)) (now (bahnhof .entry)) (now (umsteigb .entry)) (now (fplan .entry)) (now (zugart .entry)))
+        (length (now (table .entry))) ⌝ }
+    ensures { λ _. ⌜ now (table .exit) ≡ left
+        (filesOf (now (eckdaten .entry)) (now (bitfeld .entry)) (now (bahnhof .entry)) (now (umsteigb .entry)) (now (fplan .entry)) (now (zugart .entry)))
+        (now (table .entry)) ⌝ }
 {
-    let delivered = check_delivery(eckdaten, bitfeld, bahnhof, umsteigb, fplan, zugart, room, m);
+    let mut calls = [0u32; draft::CALLS_LENT];
+    let mut ranges = [0u32; draft::RANGES_LENT];
+    load_drafting(
+        eckdaten,
+        bitfeld,
+        bahnhof,
+        umsteigb,
+        fplan,
+        zugart,
+        room,
+        table,
+        m,
+        &mut calls,
+        &mut ranges,
+    )
+}
+
+// The same with words lent for the drafts. The table is written while the maps stand: its calls point by the map of BAHNHOF.
+fn load_drafting(
+    eckdaten: &[u8],
+    bitfeld: &[u8],
+    bahnhof: &[u8],
+    umsteigb: &[u8],
+    fplan: &[u8],
+    zugart: &[u8],
+    room: Room,
+    table: &mut [u32],
+    m: &mut [u32],
+    calls: &mut [u32],
+    ranges: &mut [u32],
+) -> Loaded
+    requires { ⌜ Short (now eckdaten) (now bitfeld) (now bahnhof) (now umsteigb) (now fplan) (now zugart) ⌝ }
+    requires { ⌜ Emptied (now bitfeld) (now bahnhof) (now umsteigb) room (now m) ⌝ }
+    requires { ⌜ (callsLent ≤ length (now calls)) × (rangesLent ≤ length (now ranges)) ⌝ }
+    ensures { λ r. ⌜ r ≡ answered
+        (filesOf (now (eckdaten .entry)) (now (bitfeld .entry)) (now (bahnhof .entry)) (now (umsteigb .entry)) (now (fplan .entry)) (now (zugart .entry)))
+        (length (now (table .entry))) ⌝ }
+    ensures { λ _. ⌜ now (table .exit) ≡ left
+        (filesOf (now (eckdaten .entry)) (now (bitfeld .entry)) (now (bahnhof .entry)) (now (umsteigb .entry)) (now (fplan .entry)) (now (zugart .entry)))
+        (now (table .entry)) ⌝ }
+{
+    let delivered = check_delivery(
+        eckdaten,
+        bitfeld,
+        bahnhof,
+        umsteigb,
+        fplan,
+        zugart,
+        room,
+        m,
+        calls,
+        ranges,
+    );
     match delivered {
         Delivered::Refused { file, offence } => Loaded::Refused {
             number: offence.number,
@@ -195,6 +262,8 @@ fn load_mapped(
                 umsteigb,
                 fplan,
                 zugart,
+                calls,
+                ranges,
                 table,
             );
             Loaded::Accepted(used)
@@ -214,10 +283,20 @@ fn check_delivery(
     zugart: &[u8],
     room: Room,
     m: &mut [u32],
+    calls: &mut [u32],
+    ranges: &mut [u32],
 ) -> Delivered
     requires { ⌜ Short (now eckdaten) (now bitfeld) (now bahnhof) (now umsteigb) (now fplan) (now zugart) ⌝ }
     requires { ⌜ Emptied (now bitfeld) (now bahnhof) (now umsteigb) room (now m) ⌝ }
-    ensures { λ r. ⌜ r ≡ deliveredBy (contentOffence (filesOf (now (eckdaten .entry)) (now (bitfeld .entry)) (now (bahnhof .entry)) (now (umsteigb .entry)) (now (fplan .entry)) (now (zugart .entry)))) (headerOf (delivered (filesOf (now (eckdaten .entry)) (now (bitfeld .entry)) (now (bahnhof .entry)) (now (umsteigb .entry)) (now (fplan .entry)) (now (zugart .entry))))) ⌝ }
+    requires { ⌜ (callsLent ≤ length (now calls)) × (rangesLent ≤ length (now ranges)) ⌝ }
+    ensures { λ r. ⌜ r ≡ deliveredBy
+        (contentOffence
+        (filesOf (now (eckdaten .entry)) (now (bitfeld .entry)) (now (bahnhof .entry)) (now (umsteigb .entry)) (now (fplan .entry))
+        (now (zugart .entry))))
+        (headerOf
+        (delivered
+        (filesOf (now (eckdaten .entry)) (now (bitfeld .entry)) (now (bahnhof .entry)) (now (umsteigb .entry)) (now (fplan .entry))
+        (now (zugart .entry))))) ⌝ }
     ensures { λ r. ⌜ StopsStand (now (bahnhof .entry)) (room .fields) (room .stops) r (now (m .exit)) ⌝ }
 {
     let period = period::check_period(eckdaten);
@@ -240,7 +319,17 @@ fn check_delivery(
     let Checked::Holds(classes, _) = class_section else {
         return refused(6, class_section);
     };
-    let plan = plan_by(fplan, bitfeld, bahnhof, zugart, days, m, room);
+    let plan = plan_by(
+        fplan,
+        bitfeld,
+        bahnhof,
+        zugart,
+        days,
+        m,
+        room,
+        calls,
+        ranges,
+    );
     let Checked::Holds(services, words) = plan else {
         return refused(5, plan);
     };
@@ -260,7 +349,8 @@ fn check_delivery(
 fn fields_in(bitfeld: &[u8], days: u32, m: &mut [u32], words: usize) -> Checked
     requires { ⌜ (length (now bitfeld) ≤ mostFileBytes) × (days ≤ mostPeriodDays) ⌝ }
     requires { ⌜ LentAt (now bitfeld) 0 words (now m) ⌝ }
-    ensures { λ r. ⌜ r ≡ checkedBy (bitFieldsFirst days (linesOf (now (bitfeld .entry)))) (length (bitFieldsIn (now (bitfeld .entry)))) (length (linesOf (now (bitfeld .entry))) + 1) ⌝ }
+    ensures { λ r. ⌜ r ≡ checkedBy (bitFieldsFirst days (linesOf (now (bitfeld .entry)))) (length (bitFieldsIn (now (bitfeld .entry))))
+        (length (linesOf (now (bitfeld .entry))) + 1) ⌝ }
     ensures { λ r. ⌜ FieldsAfter (now (bitfeld .entry)) r words (now (m .entry)) (now (m .exit)) ⌝ }
 {
     sections::check_bit_fields(bitfeld, days, &mut m[0..words])
@@ -270,7 +360,8 @@ fn fields_in(bitfeld: &[u8], days: u32, m: &mut [u32], words: usize) -> Checked
 fn stops_in(bahnhof: &[u8], m: &mut [u32], at: usize, words: usize) -> Checked
     requires { ⌜ length (now bahnhof) ≤ mostFileBytes ⌝ }
     requires { ⌜ LentAt (now bahnhof) at words (now m) ⌝ }
-    ensures { λ r. ⌜ r ≡ checkedBy (stopsFirst (linesOf (now (bahnhof .entry)))) (length (stopsIn (now (bahnhof .entry)))) (length (linesOf (now (bahnhof .entry))) + 1) ⌝ }
+    ensures { λ r. ⌜ r ≡ checkedBy (stopsFirst (linesOf (now (bahnhof .entry)))) (length (stopsIn (now (bahnhof .entry))))
+        (length (linesOf (now (bahnhof .entry))) + 1) ⌝ }
     ensures { λ r. ⌜ StopsAfter (now (bahnhof .entry)) r at words (now (m .entry)) (now (m .exit)) ⌝ }
 {
     sections::check_stops(bahnhof, &mut m[at..at + words])
@@ -287,7 +378,8 @@ fn interchanges_in(
     requires { ⌜ (length (now umsteigb) ≤ mostFileBytes) × (at + words + helperHead ≤ length (now m)) ⌝ }
     requires { ⌜ StopMap (now bahnhof) (take words (drop at (now m))) ⌝ }
     requires { ⌜ LentAt (now umsteigb) (at + words) (length (now m) - helperHead - (at + words)) (now m) ⌝ }
-    ensures { λ r. ⌜ r ≡ checkedBy (interchangesFirst (stopsIn (now (bahnhof .entry))) (linesOf (now (umsteigb .entry)))) (length (interchangesIn (now (umsteigb .entry)))) (length (linesOf (now (umsteigb .entry))) + 1) ⌝ }
+    ensures { λ r. ⌜ r ≡ checkedBy (interchangesFirst (stopsIn (now (bahnhof .entry))) (linesOf (now (umsteigb .entry))))
+        (length (interchangesIn (now (umsteigb .entry)))) (length (linesOf (now (umsteigb .entry))) + 1) ⌝ }
     ensures { λ _. ⌜ take (at + words) (now (m .exit)) ≡ take (at + words) (now (m .entry)) ⌝ }
 {
     let end = m.len() - HELPER_HEAD_WORDS;
@@ -298,7 +390,8 @@ fn interchanges_in(
 fn classes_in(zugart: &[u8], m: &mut [u32], at: usize, words: usize) -> Checked
     requires { ⌜ length (now zugart) ≤ mostFileBytes ⌝ }
     requires { ⌜ IndexLent at words (now m) ⌝ }
-    ensures { λ r. ⌜ r ≡ checkedBy (classesFirst (linesOf (now (zugart .entry)))) (length (classesIn (now (zugart .entry)))) (length (linesOf (now (zugart .entry))) + 1) ⌝ }
+    ensures { λ r. ⌜ r ≡ checkedBy (classesFirst (linesOf (now (zugart .entry)))) (length (classesIn (now (zugart .entry))))
+        (length (linesOf (now (zugart .entry))) + 1) ⌝ }
     ensures { λ r. ⌜ IndexAfter (now (zugart .entry)) r at words (now (m .entry)) (now (m .exit)) ⌝ }
 {
     let end = m.len();
@@ -314,17 +407,34 @@ fn plan_by(
     days: u32,
     m: &[u32],
     room: Room,
+    calls: &mut [u32],
+    ranges: &mut [u32],
 ) -> Checked
     requires { ⌜ (length (now fplan) ≤ mostFileBytes) × (days ≤ mostPeriodDays) × (room .fields + room .stops + helperHead ≤ length (now m)) ⌝ }
-    requires { ⌜ FieldMap (now bitfeld) (take (room .fields) (now m)) × StopMap (now bahnhof) (take (room .stops) (drop (room .fields) (now m))) × ClassIndex (now zugart) (drop (room .fields + room .stops) (now m)) ⌝ }
-    ensures { λ r. ⌜ r ≡ checkedBy (planFirst (bitFieldsIn (now (bitfeld .entry))) (stopsIn (now (bahnhof .entry))) (classesIn (now (zugart .entry))) days (linesOf (now (fplan .entry)))) (length (blocks (linesOf (now (fplan .entry))))) (length (blockWords (blocks (linesOf (now (fplan .entry)))))) ⌝ }
+    requires { ⌜ FieldMap (now bitfeld) (take (room .fields) (now m)) × StopMap (now bahnhof) (take (room .stops) (drop (room .fields) (now m))) ×
+        ClassIndex (now zugart) (drop (room .fields + room .stops) (now m)) ⌝ }
+    requires { ⌜ (callsLent ≤ length (now calls)) × (rangesLent ≤ length (now ranges)) ⌝ }
+    ensures { λ r. ⌜ r ≡ checkedBy
+        (planFirst (bitFieldsIn (now (bitfeld .entry))) (stopsIn (now (bahnhof .entry))) (classesIn (now (zugart .entry))) days
+        (linesOf (now (fplan .entry)))) (length (blocks (linesOf (now (fplan .entry))))) (length (blockWords (blocks (linesOf (now (fplan .entry)))))) ⌝ }
 {
     let at = room.fields;
     let fields = &m[0..at];
     let stops = &m[at..at + room.stops];
     let end = m.len();
     let index = &m[at + room.stops..end];
-    plan::check_plan(fplan, bitfeld, fields, bahnhof, stops, zugart, index, days)
+    plan::check_plan(
+        fplan,
+        bitfeld,
+        fields,
+        bahnhof,
+        stops,
+        zugart,
+        index,
+        days,
+        calls,
+        ranges,
+    )
 }
 
 // The first file of over 16,777,216 bytes, by the sizes of the six; 0 where none is.

@@ -1,4 +1,4 @@
-// FPLAN service by service: once to check it, and once to write its words. The words lent for the drafts are made once for all services.
+// FPLAN service by service: once to check it, and once to write its words. The same words are lent for the drafts of both.
 use reading::Head;
 use service::ServiceCheck;
 use timetable::Checked;
@@ -23,7 +23,7 @@ ghost use Rattle.service.specs.Inner.Answers.{ServiceTaken};
 ghost use Rattle.plan.specs.Inner.Services.{blockWords, placedWords, allSound};
 
 // The first offence of FPLAN, or how many services it has and how many words they take. `fields` and `stops` are the maps of BITFELD and BAHNHOF, `index`
-// is the index of ZUGART.
+// is the index of ZUGART; `calls` and `ranges` are lent for the drafts.
 pub fn check_plan(
     fplan: &[u8],
     bitfeld: &[u8],
@@ -33,32 +33,33 @@ pub fn check_plan(
     zugart: &[u8],
     index: &[u32],
     days: u32,
+    calls: &mut [u32],
+    ranges: &mut [u32],
 ) -> Checked
     requires { ⌜ (length (now fplan) ≤ mostFileBytes) × (days ≤ mostPeriodDays) ⌝ }
     requires { ⌜ FieldMap (now bitfeld) (now fields) × StopMap (now bahnhof) (now stops) × ClassIndex (now zugart) (now index) ⌝ }
-    ensures { λ r. ⌜ r ≡ checkedBy (planFirst (bitFieldsIn (now (bitfeld .entry))) (stopsIn (now (bahnhof .entry))) (classesIn (now (zugart .entry))) days (linesOf (now (fplan .entry)))) (length (blocks (linesOf (now (fplan .entry))))) (length (blockWords (blocks (linesOf (now (fplan .entry)))))) ⌝ }
+    requires { ⌜ (callsLent ≤ length (now calls)) × (rangesLent ≤ length (now ranges)) ⌝ }
+    ensures { λ r. ⌜ r ≡ checkedBy
+        (planFirst (bitFieldsIn (now (bitfeld .entry))) (stopsIn (now (bahnhof .entry))) (classesIn (now (zugart .entry))) days
+        (linesOf (now (fplan .entry)))) (length (blocks (linesOf (now (fplan .entry))))) (length (blockWords (blocks (linesOf (now (fplan .entry)))))) ⌝ }
 {
     let head = reading::head_end(fplan);
     match head {
         Head::Stray(offence) => Checked::Refused(offence),
-        Head::Clear(start, first) => {
-            let mut calls = [0u32; draft::CALLS_LENT];
-            let mut ranges = [0u32; draft::RANGES_LENT];
-            check_services(
-                fplan,
-                start,
-                first,
-                bitfeld,
-                fields,
-                bahnhof,
-                stops,
-                zugart,
-                index,
-                days,
-                &mut calls,
-                &mut ranges,
-            )
-        }
+        Head::Clear(start, first) => check_services(
+            fplan,
+            start,
+            first,
+            bitfeld,
+            fields,
+            bahnhof,
+            stops,
+            zugart,
+            index,
+            days,
+            calls,
+            ranges,
+        ),
     }
 }
 
@@ -80,7 +81,10 @@ fn check_services(
     requires { ⌜ Boundary (now fplan) start first × (days ≤ mostPeriodDays) ⌝ }
     requires { ⌜ FieldMap (now bitfeld) (now fields) × StopMap (now bahnhof) (now stops) × ClassIndex (now zugart) (now index) ⌝ }
     requires { ⌜ (callsLent ≤ length (now calls)) × (rangesLent ≤ length (now ranges)) ⌝ }
-    ensures { λ r. ⌜ r ≡ checkedBy (servicesFirst (bitFieldsIn (now (bitfeld .entry))) (stopsIn (now (bahnhof .entry))) (classesIn (now (zugart .entry))) days (blocks (linesAt (now (fplan .entry)) start first))) (length (blocks (linesAt (now (fplan .entry)) start first))) (length (blockWords (blocks (linesAt (now (fplan .entry)) start first)))) ⌝ }
+    ensures { λ r. ⌜ r ≡ checkedBy
+        (servicesFirst (bitFieldsIn (now (bitfeld .entry))) (stopsIn (now (bahnhof .entry))) (classesIn (now (zugart .entry))) days
+        (blocks (linesAt (now (fplan .entry)) start first))) (length (blocks (linesAt (now (fplan .entry)) start first)))
+        (length (blockWords (blocks (linesAt (now (fplan .entry)) start first)))) ⌝ }
 {
     let mut at = start;
     let mut line = first;
@@ -126,29 +130,37 @@ struct Put {
 }
 
 // Writes the words of every service into the table from place `at` on, where FPLAN has no offence. `stops` is the map of BAHNHOF, which the calls
-// point by.
-pub fn put_plan(fplan: &[u8], bahnhof: &[u8], stops: &[u32], table: &mut [u32], at: usize)
+// point by; `calls` and `ranges` are lent for the drafts.
+pub fn put_plan(
+    fplan: &[u8],
+    bahnhof: &[u8],
+    stops: &[u32],
+    calls: &mut [u32],
+    ranges: &mut [u32],
+    table: &mut [u32],
+    at: usize,
+)
     requires { ⌜ length (now fplan) ≤ mostFileBytes ⌝ }
     requires { ⌜ StopMap (now bahnhof) (now stops) ⌝ }
     requires { ⌜ headFirst (linesOf (now fplan)) ≡ none ⌝ }
     requires { ⌜ allSound (blocks (linesOf (now fplan))) ≡ true ⌝ }
+    requires { ⌜ (callsLent ≤ length (now calls)) × (rangesLent ≤ length (now ranges)) ⌝ }
     requires { ⌜ at + length (placedWords (stopsIn (now bahnhof)) (blocks (linesOf (now fplan)))) ≤ length (now table) ⌝ }
-    ensures { λ _. ⌜ now (table .exit) ≡ write (now (table .entry)) at (placedWords (stopsIn (now (bahnhof .entry))) (blocks (linesOf (now (fplan .entry))))) ⌝ }
+    ensures { λ _. ⌜ now (table .exit) ≡ write (now (table .entry)) at
+        (placedWords (stopsIn (now (bahnhof .entry))) (blocks (linesOf (now (fplan .entry))))) ⌝ }
 {
     let head = reading::head_end(fplan);
     let Head::Clear(start, first) = head else {
         return;
     };
-    let mut calls = [0u32; draft::CALLS_LENT];
-    let mut ranges = [0u32; draft::RANGES_LENT];
     put_services(
         fplan,
         start,
         first,
         bahnhof,
         stops,
-        &mut calls,
-        &mut ranges,
+        calls,
+        ranges,
         table,
         at,
     );
@@ -171,7 +183,8 @@ fn put_services(
     requires { ⌜ allSound (blocks (linesAt (now fplan) start first)) ≡ true ⌝ }
     requires { ⌜ (callsLent ≤ length (now calls)) × (rangesLent ≤ length (now ranges)) ⌝ }
     requires { ⌜ at + length (blockWords (blocks (linesAt (now fplan) start first))) ≤ length (now table) ⌝ }
-    ensures { λ _. ⌜ now (table .exit) ≡ write (now (table .entry)) at (placedWords (stopsIn (now (bahnhof .entry))) (blocks (linesAt (now (fplan .entry)) start first))) ⌝ }
+    ensures { λ _. ⌜ now (table .exit) ≡ write (now (table .entry)) at
+        (placedWords (stopsIn (now (bahnhof .entry))) (blocks (linesAt (now (fplan .entry)) start first))) ⌝ }
 {
     let mut place = start;
     let mut no = first;
@@ -202,7 +215,8 @@ fn put_service(
     requires { ⌜ (callsLent ≤ length (now calls)) × (rangesLent ≤ length (now ranges)) ⌝ }
     requires { ⌜ to + length (serviceWords (serviceOf (serviceLinesAt (now fplan) at no))) ≤ length (now table) ⌝ }
     ensures { λ r. ⌜ ServiceTaken (now (fplan .entry)) at no (r .words) (r .end) (r .no) ⌝ }
-    ensures { λ r. ⌜ now (table .exit) ≡ write (now (table .entry)) to (serviceWords (pointing (stopsIn (now (bahnhof .entry))) (serviceOf (serviceLinesAt (now (fplan .entry)) at no)))) ⌝ }
+    ensures { λ r. ⌜ now (table .exit) ≡ write (now (table .entry)) to
+        (serviceWords (pointing (stopsIn (now (bahnhof .entry))) (serviceOf (serviceLinesAt (now (fplan .entry)) at no)))) ⌝ }
 {
     let put = put_drafted(fplan, at, no, calls, ranges, table, to);
     stop_places::point_calls(bahnhof, stops, table, to + SERVICE_WORDS, put.calls);

@@ -12,6 +12,7 @@ ghost use Rattle.words.specs.Words.{write};
 ghost use Rattle.timetable.specs.Layout.{headerSize, mostFileBytes};
 ghost use Rattle.timetable.specs.Service.{blocks};
 ghost use Rattle.timetable.specs.Checks.{headFirst};
+ghost use Rattle.draft.specs.Inner.Draft.{callsLent, rangesLent};
 ghost use Rattle.reading.specs.Inner.Maps.{StopMap};
 ghost use Rattle.plan.specs.Inner.Services.{allSound};
 ghost use Rattle.table_words.specs.Inner.Words.{headerWords, sectionsWords, bodyWords};
@@ -30,7 +31,7 @@ pub struct Header {
     pub classes: u32,
 }
 
-// The header, and what each file gives, one after the other. `stops` is the map of BAHNHOF.
+// The header, and what each file gives, one after the other. `stops` is the map of BAHNHOF; `calls` and `ranges` are lent for the drafts of services.
 pub fn put_table(
     h: Header,
     bitfeld: &[u8],
@@ -39,17 +40,22 @@ pub fn put_table(
     umsteigb: &[u8],
     fplan: &[u8],
     zugart: &[u8],
+    calls: &mut [u32],
+    ranges: &mut [u32],
     t: &mut [u32],
 )
-    requires { ⌜ (length (now bitfeld) ≤ mostFileBytes) × (length (now bahnhof) ≤ mostFileBytes) × (length (now umsteigb) ≤ mostFileBytes) × (length (now zugart) ≤ mostFileBytes) × (length (now fplan) ≤ mostFileBytes) ⌝ }
+    requires { ⌜ (length (now bitfeld) ≤ mostFileBytes) × (length (now bahnhof) ≤ mostFileBytes) × (length (now umsteigb) ≤ mostFileBytes) ×
+        (length (now zugart) ≤ mostFileBytes) × (length (now fplan) ≤ mostFileBytes) ⌝ }
     requires { ⌜ StopMap (now bahnhof) (now stops) ⌝ }
+    requires { ⌜ (callsLent ≤ length (now calls)) × (rangesLent ≤ length (now ranges)) ⌝ }
     requires { ⌜ (headFirst (linesOf (now fplan)) ≡ none) × (allSound (blocks (linesOf (now fplan))) ≡ true) ⌝ }
     requires { ⌜ headerSize + length (bodyWords (now bitfeld) (now bahnhof) (now umsteigb) (now zugart) (now fplan)) ≤ length (now t) ⌝ }
-    ensures { λ r. ⌜ now (t .exit) ≡ write (now (t .entry)) 0 (headerWords h ++ bodyWords (now (bitfeld .entry)) (now (bahnhof .entry)) (now (umsteigb .entry)) (now (zugart .entry)) (now (fplan .entry))) ⌝ }
+    ensures { λ r. ⌜ now (t .exit) ≡ write (now (t .entry)) 0
+        (headerWords h ++ bodyWords (now (bitfeld .entry)) (now (bahnhof .entry)) (now (umsteigb .entry)) (now (zugart .entry)) (now (fplan .entry))) ⌝ }
 {
     put_header(h, t);
     let services = put_sections(bitfeld, bahnhof, umsteigb, zugart, t, HEADER_WORDS);
-    plan::put_plan(fplan, bahnhof, stops, t, services);
+    plan::put_plan(fplan, bahnhof, stops, calls, ranges, t, services);
 }
 
 fn put_header(h: Header, t: &mut [u32])
@@ -70,9 +76,12 @@ fn put_sections(
     t: &mut [u32],
     q: usize,
 ) -> usize
-    requires { ⌜ (length (now bitfeld) ≤ mostFileBytes) × (length (now bahnhof) ≤ mostFileBytes) × (length (now umsteigb) ≤ mostFileBytes) × (length (now zugart) ≤ mostFileBytes) ⌝ }
+    requires { ⌜ (length (now bitfeld) ≤ mostFileBytes) × (length (now bahnhof) ≤ mostFileBytes) × (length (now umsteigb) ≤ mostFileBytes) ×
+        (length (now zugart) ≤ mostFileBytes) ⌝ }
     requires { ⌜ q + length (sectionsWords (now bitfeld) (now bahnhof) (now umsteigb) (now zugart)) ≤ length (now t) ⌝ }
-    ensures { λ r. ⌜ (r ≡ q + length (sectionsWords (now (bitfeld .entry)) (now (bahnhof .entry)) (now (umsteigb .entry)) (now (zugart .entry)))) × (now (t .exit) ≡ write (now (t .entry)) q (sectionsWords (now (bitfeld .entry)) (now (bahnhof .entry)) (now (umsteigb .entry)) (now (zugart .entry)))) ⌝ }
+    ensures { λ r. ⌜ (r ≡ q + length (sectionsWords (now (bitfeld .entry)) (now (bahnhof .entry)) (now (umsteigb .entry)) (now (zugart .entry)))) ×
+        (now (t .exit) ≡ write (now (t .entry)) q
+        (sectionsWords (now (bitfeld .entry)) (now (bahnhof .entry)) (now (umsteigb .entry)) (now (zugart .entry)))) ⌝ }
 {
     let stops = section_words::put_section(Section::BitFields, bitfeld, t, q);
     let interchanges = section_words::put_section(Section::Stops, bahnhof, t, stops);

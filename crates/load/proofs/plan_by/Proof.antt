@@ -43,7 +43,13 @@ part-index-end : tie.Need-part-index-end
 part-index-end c = search tests
 
 check-plan-requires : tie.Need-check-plan-requires
-check-plan-requires c κs = ((search tests, search tests), (search map-first, search map-part, search index-part))
+check-plan-requires c κs = ((search tests, search tests), ((search map-first, search map-part, search index-part), (search tests, search tests)))
+
+same-length : tie.Need-same-length
+same-length c = search tests
+
+same-length-2 : tie.Need-same-length-2
+same-length-2 c = search tests
 
 returns : tie.Need-returns
 returns c = search tests
@@ -66,4 +72,6 @@ plan-by-spec =
     part-index-start
     part-index-end
     check-plan-requires
+    same-length
+    same-length-2
     returns)

@@ -11,17 +11,17 @@ enum-known-head c = search planning
 enum-known-head-2 : tie.Need-enum-known-head-2
 enum-known-head-2 c = search planning
 
-slice-aggregate-check-services : tie.Need-slice-aggregate-check-services
-slice-aggregate-check-services c = search planning
-
-slice-aggregate-check-services-2 : tie.Need-slice-aggregate-check-services-2
-slice-aggregate-check-services-2 c = search planning
-
 check-services-requires : tie.Need-check-services-requires
 check-services-requires c κs = (search planning, (search planning, search planning))
 
 returns : tie.Need-returns
 returns c = search planning
+
+same-length : tie.Need-same-length
+same-length c = search planning
+
+same-length-2 : tie.Need-same-length-2
+same-length-2 c = search planning
 
 returns-2 : tie.Need-returns-2
 returns-2 c = search planning
@@ -33,8 +33,8 @@ check-plan-spec =
     head-end-requires
     enum-known-head
     enum-known-head-2
-    slice-aggregate-check-services
-    slice-aggregate-check-services-2
     check-services-requires
     returns
+    same-length
+    same-length-2
     returns-2)

@@ -14,17 +14,17 @@ enum-told c = search beginning
 returns : tie.Need-returns
 returns c = search beginning
 
-slice-aggregate-put-services : tie.Need-slice-aggregate-put-services
-slice-aggregate-put-services c = search beginning
-
-slice-aggregate-put-services-2 : tie.Need-slice-aggregate-put-services-2
-slice-aggregate-put-services-2 c = search beginning
-
 put-services-requires : tie.Need-put-services-requires
 put-services-requires c κs = (search beginning, (search beginning, (search beginning, ((search beginning, search beginning), search beginning))))
 
 same-length : tie.Need-same-length
 same-length c = search beginning
+
+same-length-2 : tie.Need-same-length-2
+same-length-2 c = search beginning
+
+same-length-3 : tie.Need-same-length-3
+same-length-3 c = search beginning
 
 returns-2 : tie.Need-returns-2
 returns-2 c = search beginning
@@ -37,8 +37,8 @@ put-plan-spec =
     enum-known-head
     enum-told
     returns
-    slice-aggregate-put-services
-    slice-aggregate-put-services-2
     put-services-requires
     same-length
+    same-length-2
+    same-length-3
     returns-2)
