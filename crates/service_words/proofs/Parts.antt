@@ -1,14 +1,15 @@
 -- The calls and the parts of a service's words, as they are written one after the other. Assumes nothing.
 use mathlib.Core.Path.{_≡_, refl, sym, ap, _∙_}
 use mathlib.Core.List.{List, [], _∷_, _++_}
-use mathlib.Core.Bool.{Bool, true, false, not}
+use mathlib.Core.Bool.{Bool, true}
 use mathlib.Core.Option.{Option, none, some}
 use Prim.Native.Nat.{ℕ, _+_, _-_, _≤_, _<_}
 use native.Mathlib.Nat.{add-zero, sub-zero}
 use native.Mathlib.Omega.{arith}
-use lib.ListN.{length, drop, length-append}
+use lib.ListN.{length, getD, drop, length-append}
+use lib.Seq.{getD-drop}
 use lib.Dec.{eqb}
-use borrow.Author.Tests.{not-true, not-false}
+use borrow.Author.Tests.{eq-eqb, ne-eqb}
 use Rattle.base.specs.Lists.{gathered}
 use Rattle.base.proofs.Laws.{tests, len-trans}
 use Rattle.words.specs.Words.{write}
@@ -24,7 +25,7 @@ use Rattle.timetable.specs.declared.Part.{Part}
 use Rattle.timetable.specs.declared.Part.the-variants.{Category, Days, Extra}
 use Rattle.timetable.specs.declared.RangeLine.{RangeLine}
 use Rattle.timetable.proofs.Rows.{rows-turn, rows-none}
-use Rattle.draft.specs.Inner.Draft.{draftCall, draftRange, callBack, lineBack, callsIn, rangesIn}
+use Rattle.draft.specs.Inner.Draft.{draftCall, draftRange, callBack, partBack, lineBack, callsIn, rangesIn}
 use Rattle.route.specs.Inner.Route.{foundOf}
 use Rattle.route.specs.declared.RangeFound.{RangeFound}
 use Rattle.route.specs.declared.RangeFound.the-variants.{Between, Missing}
@@ -129,13 +130,10 @@ unfolding unfound
 found-legs f none k = rw k refl
 found-legs f (some g) k = rw k refl
 
-module _ (part : Part) (cs : List Call) (x : RangeLine) (b : Bool) (e : b ≡ isPart part x) where
-  pub gives-other : not b ≡ true → [] ≡ rangeGives part cs x
-  gives-other h = rw (← e, not-true b h) refl
-
-  module _ (own : not b ≡ false) (f : RangeFound) (d : f ≡ foundOf (legsOn cs x)) where
+module _ (part : Part) (cs : List Call) (x : RangeLine) where
+  module _ (own : isPart part x ≡ true) (f : RangeFound) (d : f ≡ foundOf (legsOn cs x)) where
     gives-found : rangeGives part cs x ≡ foundWords part x (legsOn cs x)
-    gives-found = rw (← e, not-false b own) refl
+    gives-found = rw own refl
 
     pub gives-nothing : f ≡ Missing → [] ≡ rangeGives part cs x
     unfolding unfound
@@ -145,8 +143,25 @@ module _ (part : Part) (cs : List Call) (x : RangeLine) (b : Bool) (e : b ≡ is
     unfolding unfound
     gives-row from to g k v = v ∙ sym (gives-found ∙ ap (foundWords part x) (found-legs f (legsOn cs x) d ∙ ap unfound k))
 
-pub part-same : (part : Part) (x : RangeLine) (a b : ℕ) → a ≡ partNumber (x .part) → b ≡ partNumber part → eqb a b ≡ isPart part x
-part-same part x a b e d = rw (e, d) refl
+pub drafted-0 : (k : ℕ) → k ≡ 0 → 0 ≡ partNumber (partBack k)
+drafted-0 k e = rw e refl
+
+pub drafted-1 : (k : ℕ) → k ≡ 1 → 1 ≡ partNumber (partBack k)
+drafted-1 k e = rw e refl
+
+pub gives-drafted : (part : Part) (cs : List Call) (w : List ℕ) (p : ℕ) (x : RangeLine) (g : Given) → x ≡ lineBack (drop p w) → givenWords g ≡ rangeGives part cs x → givenWords g ≡ rangeGives part cs (lineBack (drop p w))
+gives-drafted part cs w p x g e v = v ∙ ap (rangeGives part cs) e
+
+-- by the word of the range at place p that says its part: a is that part's number, b the number of the part that is written
+module _ (part : Part) (w : List ℕ) (p a b : ℕ) (e : a ≡ partNumber (partBack (getD w (p + 1) 0))) (d : b ≡ partNumber part) where
+  part-here : isPart part (lineBack (drop p w)) ≡ eqb a b
+  part-here = ap (λ (k : ℕ). eqb (partNumber (partBack k)) (partNumber part)) (getD-drop p w 1 0) ∙ rw (e, d) refl
+
+  pub gives-other : (cs : List Call) → (a ≡ b → ⊥) → [] ≡ rangeGives part cs (lineBack (drop p w))
+  gives-other cs h = rw (part-here ∙ ne-eqb a b h) refl
+
+  pub part-own : (x : RangeLine) → a ≡ b → x ≡ lineBack (drop p w) → isPart part x ≡ true
+  part-own x h y = ap (isPart part) y ∙ (part-here ∙ eq-eqb a b h)
 
 module _ (part : Part) (x : RangeLine) (from to : ℕ) where
   pub row-category : part ≡ Category → x .name ∷ from ∷ to ∷ [] ≡ rangeRowWords part x from to
@@ -158,7 +173,7 @@ module _ (part : Part) (x : RangeLine) (from to : ℕ) where
   pub row-extra : part ≡ Extra → x .name ∷ x .field ∷ from ∷ to ∷ [] ≡ rangeRowWords part x from to
   row-extra e = rw e refl
 
-pub ruleset gives = (tests, gives-other, gives-nothing, gives-row, part-same, row-category, row-days, row-extra)
+pub ruleset gives = (tests, drafted-0, drafted-1, gives-drafted, gives-other, part-own, gives-nothing, gives-row, row-category, row-days, row-extra)
 
 -- ---- writing it, for `search putting`
 
@@ -206,10 +221,10 @@ module _ (part : Part) (cs : List Call) where
   part-start n q w t = ap (write t q) (row-start lineBack draftRange (rangeGives part cs) w n)
 
   module _ (n i p q m : ℕ) (w : List ℕ) where
-    module _ (h : i < n) (x : RangeLine) (d : x ≡ lineBack (drop p w)) (g : Given) (k : givenWords g ≡ rangeGives part cs x) (t t₀ : List ℕ) (len : length t ≡ length t₀)
+    module _ (h : i < n) (g : Given) (k : givenWords g ≡ rangeGives part cs (lineBack (drop p w))) (t t₀ : List ℕ) (len : length t ≡ length t₀)
         (count : q + length (partLeft part cs n i p w) ≡ m) (room : m ≤ length t₀) where
       part-turn : partLeft part cs n i p w ≡ givenWords g ++ partLeft part cs n (i + 1) (p + draftRange) w
-      part-turn = row-turn lineBack draftRange (rangeGives part cs) w n i p h (givenWords g) (k ∙ ap (rangeGives part cs) d)
+      part-turn = row-turn lineBack draftRange (rangeGives part cs) w n i p h (givenWords g) k
 
       pub put-room : q + length (givenWords g) ≤ length t
       put-room = run-room (givenWords g) (partLeft part cs n (i + 1) (p + draftRange) w) (partLeft part cs n i p w) t t₀ q m part-turn len count room

@@ -7,15 +7,17 @@ use timetable::Opening;
 use timetable::Part;
 use timetable::RangeLine;
 ghost use mathlib.Core.Path.{_≡_};
+ghost use mathlib.Core.Bool.{true};
 ghost use Prim.Native.Nat.{_+_, _-_, _*_, _/_, _≤_};
-ghost use lib.ListN.{length};
+ghost use lib.ListN.{length, drop};
 ghost use Rattle.base.specs.Lists.{gathered};
 ghost use Rattle.words.specs.Words.{write};
 ghost use Rattle.timetable.specs.Layout.{serviceHead, callSize, categorySize, daySize, extraSize};
-ghost use Rattle.timetable.specs.Plan.{isPart};
+ghost use Rattle.timetable.specs.Plan.{partNumber, isPart};
 ghost use Rattle.timetable.specs.Table.{callWords, serviceWords};
-ghost use Rattle.draft.specs.Inner.Draft.{draftCall, draftRange, callsIn, rangesIn};
-ghost use Rattle.service_words.specs.Inner.Parts.{rangeRowWords, rangeGives, partWords, rangeWords, rangeEnds, bodyOf, sizesBy, givenWords, headBy, sizesOf, serviceIn};
+ghost use Rattle.draft.specs.Inner.Draft.{draftCall, draftRange, partBack, lineBack, callsIn, rangesIn};
+ghost use Rattle.service_words.specs.Inner.Parts.{rangeRowWords, rangeGives, partWords, rangeWords, rangeEnds, bodyOf, sizesBy, givenWords};
+ghost use Rattle.service_words.specs.Inner.Parts.{headBy, sizesOf, serviceIn};
 
 // What a range gives to a part of the service's words: nothing, or three or four words.
 enum Given {
@@ -54,7 +56,8 @@ pub fn service_into(
     requires { ⌜ (draftCall * c ≤ length (now calls)) × (draftRange * n ≤ length (now ranges)) ⌝ }
     requires { ⌜ at + length (serviceWords (serviceIn opening line c (now calls) n (now ranges))) ≤ length (now table) ⌝ }
     requires { ⌜ length (serviceWords (serviceIn opening line c (now calls) n (now ranges))) ≤ 4294967295 ⌝ }
-    ensures { λ r. ⌜ (r ≡ sizesOf (serviceIn opening line c (now (calls .entry)) n (now (ranges .entry)))) × (now (table .exit) ≡ write (now (table .entry)) at (serviceWords (serviceIn opening line c (now (calls .entry)) n (now (ranges .entry))))) ⌝ }
+    ensures { λ r. ⌜ (r ≡ sizesOf (serviceIn opening line c (now (calls .entry)) n (now (ranges .entry)))) ×
+        (now (table .exit) ≡ write (now (table .entry)) at (serviceWords (serviceIn opening line c (now (calls .entry)) n (now (ranges .entry))))) ⌝ }
 {
     let sizes = body_into(calls, c, ranges, n, table, at + timetable::SERVICE_WORDS);
     head_into(table, at, sizes, opening, line);
@@ -97,7 +100,8 @@ fn body_into(calls: &[u32], c: u32, ranges: &[u32], n: u32, table: &mut [u32], a
     requires { ⌜ (draftCall * c ≤ length (now calls)) × (draftRange * n ≤ length (now ranges)) ⌝ }
     requires { ⌜ at + length (bodyOf (callsIn c (now calls)) (rangesIn n (now ranges))) ≤ length (now table) ⌝ }
     requires { ⌜ serviceHead + length (bodyOf (callsIn c (now calls)) (rangesIn n (now ranges))) ≤ 4294967295 ⌝ }
-    ensures { λ r. ⌜ (r ≡ sizesBy (callsIn c (now (calls .entry))) (rangesIn n (now (ranges .entry)))) × (now (table .exit) ≡ write (now (table .entry)) at (bodyOf (callsIn c (now (calls .entry))) (rangesIn n (now (ranges .entry))))) ⌝ }
+    ensures { λ r. ⌜ (r ≡ sizesBy (callsIn c (now (calls .entry))) (rangesIn n (now (ranges .entry)))) ×
+        (now (table .exit) ≡ write (now (table .entry)) at (bodyOf (callsIn c (now (calls .entry))) (rangesIn n (now (ranges .entry))))) ⌝ }
 {
     let start = calls_into(calls, c, table, at);
     let ends = ranges_into(ranges, n, calls, c, table, start);
@@ -108,7 +112,8 @@ fn body_into(calls: &[u32], c: u32, ranges: &[u32], n: u32, table: &mut [u32], a
 fn calls_into(calls: &[u32], c: u32, table: &mut [u32], at: usize) -> usize
     requires { ⌜ draftCall * c ≤ length (now calls) ⌝ }
     requires { ⌜ at + length (gathered callWords (callsIn c (now calls))) ≤ length (now table) ⌝ }
-    ensures { λ r. ⌜ (r ≡ at + length (gathered callWords (callsIn c (now (calls .entry))))) × (now (table .exit) ≡ write (now (table .entry)) at (gathered callWords (callsIn c (now (calls .entry))))) ⌝ }
+    ensures { λ r. ⌜ (r ≡ at + length (gathered callWords (callsIn c (now (calls .entry))))) ×
+        (now (table .exit) ≡ write (now (table .entry)) at (gathered callWords (callsIn c (now (calls .entry))))) ⌝ }
 {
     let mut i: u32 = 0;
     let mut place: usize = 0;
@@ -150,7 +155,8 @@ fn ranges_into(
 ) -> RangeEnds
     requires { ⌜ (draftCall * c ≤ length (now calls)) × (draftRange * n ≤ length (now ranges)) ⌝ }
     requires { ⌜ at + length (rangeWords (callsIn c (now calls)) (rangesIn n (now ranges))) ≤ length (now table) ⌝ }
-    ensures { λ r. ⌜ (r ≡ rangeEnds at (callsIn c (now (calls .entry))) (rangesIn n (now (ranges .entry)))) × (now (table .exit) ≡ write (now (table .entry)) at (rangeWords (callsIn c (now (calls .entry))) (rangesIn n (now (ranges .entry))))) ⌝ }
+    ensures { λ r. ⌜ (r ≡ rangeEnds at (callsIn c (now (calls .entry))) (rangesIn n (now (ranges .entry)))) ×
+        (now (table .exit) ≡ write (now (table .entry)) at (rangeWords (callsIn c (now (calls .entry))) (rangesIn n (now (ranges .entry))))) ⌝ }
 {
     let categories = part_into(Part::Category, ranges, n, calls, c, table, at);
     let day_ranges = part_into(Part::Days, ranges, n, calls, c, table, categories);
@@ -164,8 +170,16 @@ fn ranges_into(
 
 // The sizes of a service of c calls, whose calls are written from `at` on and its ranges from `start` on.
 fn sizes_of(c: u32, at: usize, start: usize, ends: RangeEnds) -> Sizes
-    requires { ⌜ (at ≤ start) × (start ≤ ends .categories) × (ends .categories ≤ ends .«day_ranges») × (ends .«day_ranges» ≤ ends .extras) × (serviceHead + (ends .extras - at) ≤ 4294967295) ⌝ }
-    ensures { λ r. ⌜ r ≡ record { calls = c; categories = (ends .categories - start) / categorySize; «day_ranges» = (ends .«day_ranges» - ends .categories) / daySize; extras = (ends .extras - ends .«day_ranges») / extraSize; words = serviceHead + (ends .extras - at) } ⌝ }
+    requires { ⌜ (at ≤ start) × (start ≤ ends .categories) × (ends .categories ≤ ends .«day_ranges») × (ends .«day_ranges» ≤ ends .extras) ×
+        (serviceHead + (ends .extras - at) ≤ 4294967295) ⌝ }
+    ensures { λ r. ⌜ r ≡ record {
+      calls = c;
+      categories = (ends .categories - start) / categorySize;
+      «day_ranges» = (ends .«day_ranges» - ends .categories)
+          / daySize;
+      extras = (ends .extras - ends .«day_ranges») / extraSize;
+      words = serviceHead + (ends .extras - at);
+    } ⌝ }
 {
     let categories = ends.categories - start;
     let day_ranges = ends.day_ranges - ends.categories;
@@ -194,13 +208,14 @@ pub fn part_into(
 ) -> usize
     requires { ⌜ (draftCall * c ≤ length (now calls)) × (draftRange * n ≤ length (now ranges)) ⌝ }
     requires { ⌜ at + length (partWords part (callsIn c (now calls)) (rangesIn n (now ranges))) ≤ length (now table) ⌝ }
-    ensures { λ r. ⌜ (r ≡ at + length (partWords part (callsIn c (now (calls .entry))) (rangesIn n (now (ranges .entry))))) × (now (table .exit) ≡ write (now (table .entry)) at (partWords part (callsIn c (now (calls .entry))) (rangesIn n (now (ranges .entry))))) ⌝ }
+    ensures { λ r. ⌜ (r ≡ at + length (partWords part (callsIn c (now (calls .entry))) (rangesIn n (now (ranges .entry))))) ×
+        (now (table .exit) ≡ write (now (table .entry)) at (partWords part (callsIn c (now (calls .entry))) (rangesIn n (now (ranges .entry))))) ⌝ }
 {
     let mut i: u32 = 0;
     let mut place: usize = 0;
     let mut to = at;
     while i < n {
-        let given = given_by(part, draft::range_at(ranges, place), calls, c);
+        let given = given_at(part, ranges, place, calls, c);
         to = put_given(given, table, to);
         place += DRAFT_RANGE_WORDS;
         i += 1;
@@ -208,26 +223,38 @@ pub fn part_into(
     to
 }
 
-// What a range gives to a part: a range of another part nothing, and none whose ends are not found.
-fn given_by(part: Part, range: RangeLine, calls: &[u32], c: u32) -> Given
-    requires { ⌜ draftCall * c ≤ length (now calls) ⌝ }
-    ensures { λ r. ⌜ givenWords r ≡ rangeGives part (callsIn c (now (calls .entry))) range ⌝ }
+// What the range at a place gives to a part. Its part is looked at first: most ranges are of another, and are not taken apart.
+fn given_at(part: Part, ranges: &[u32], at: usize, calls: &[u32], c: u32) -> Given
+    requires { ⌜ (draftCall * c ≤ length (now calls)) × (at + draftRange ≤ length (now ranges)) ⌝ }
+    ensures { λ r. ⌜ givenWords r ≡ rangeGives part (callsIn c (now (calls .entry))) (lineBack (drop at (now (ranges .entry)))) ⌝ }
 {
-    if !is_part(part, range) {
+    if part_drafted(ranges[at + 1]) != draft::part_number(part) {
         return Given::Nothing;
     }
+    given_by(part, draft::range_at(ranges, at), calls, c)
+}
+
+// The part that a word of the draft says, by its number.
+fn part_drafted(word: u32) -> u32
+    ensures { λ r. ⌜ r ≡ partNumber (partBack word) ⌝ }
+{
+    match word {
+        0 => 0,
+        1 => 1,
+        _ => 2,
+    }
+}
+
+// What a range of a part gives to it: none whose ends are not found gives anything.
+fn given_by(part: Part, range: RangeLine, calls: &[u32], c: u32) -> Given
+    requires { ⌜ (draftCall * c ≤ length (now calls)) × (isPart part range ≡ true) ⌝ }
+    ensures { λ r. ⌜ givenWords r ≡ rangeGives part (callsIn c (now (calls .entry))) range ⌝ }
+{
     let found = route::legs_on(calls, c, range);
     let RangeFound::Between(from, to) = found else {
         return Given::Nothing;
     };
     row_of(part, range, from.0, to.0)
-}
-
-fn is_part(part: Part, range: RangeLine) -> bool
-    ensures { λ r. ⌜ r ≡ isPart part range ⌝ }
-{
-    let own = range.part;
-    draft::part_number(own) == draft::part_number(part)
 }
 
 // The words of a range of a part, from one call to another.

@@ -20,11 +20,8 @@ abbrev μ-loop : tie.MeasureT-loop
 loop-holds : tie.Need-loop-holds Inv-loop μ-loop
 loop-holds c = search puts
 
-range-at-requires : tie.Need-range-at-requires Inv-loop μ-loop
-range-at-requires c κs = search puts
-
-given-by-requires : tie.Need-given-by-requires Inv-loop μ-loop
-given-by-requires c κs = search puts
+given-at-requires : tie.Need-given-at-requires Inv-loop μ-loop
+given-at-requires c κs = search puts
 
 put-given-requires : tie.Need-put-given-requires Inv-loop μ-loop
 put-given-requires c κs = search puts
@@ -54,8 +51,7 @@ part-into-spec =
     Inv-loop
     μ-loop
     loop-holds
-    range-at-requires
-    given-by-requires
+    given-at-requires
     put-given-requires
     add-place
     add-i
