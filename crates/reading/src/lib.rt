@@ -25,7 +25,8 @@ ghost use Rattle.timetable.specs.Legs.{fieldKnown};
 ghost use Rattle.timetable.specs.Checks.{most, categoryListed};
 ghost use Rattle.draft.specs.Inner.Draft.{callsLent, rangesLent, callsOn, rangesOn, onLine, callsAfter, counted, ranges#, Within};
 ghost use Rattle.reading.specs.Inner.Maps.{FieldMap, StopMap, ClassIndex};
-ghost use Rattle.reading.specs.Inner.Reading.{serviceLinesAt, Boundary, Sound, isFormed, ServiceRead, ReadAs, HeadAs, endsHead, headBy, NextAs, countOf, categoryAfter, rangeAfter, callAfter, formAfter, offenceAfter};
+ghost use Rattle.reading.specs.Inner.Reading.{serviceLinesAt, Boundary, Sound, isFormed, ServiceRead, ReadAs, HeadAs, endsHead, headBy, NextAs};
+ghost use Rattle.reading.specs.Inner.Reading.{countOf, categoryAfter, rangeAfter, callAfter, formAfter, offenceAfter};
 
 // A service as it was read and drafted, or the first own offence of its lines.
 pub enum Read {
@@ -114,7 +115,8 @@ pub fn read_checked(
     requires { ⌜ Boundary (now fplan) at no × (at < length (now fplan)) ⌝ }
     requires { ⌜ FieldMap (now bitfeld) (now fields) × StopMap (now bahnhof) (now stops) × ClassIndex (now zugart) (now index) ⌝ }
     requires { ⌜ (callsLent ≤ length (now calls)) × (rangesLent ≤ length (now ranges)) ⌝ }
-    ensures { λ r. ⌜ ReadAs (bitFieldsIn (now (bitfeld .entry))) (stopsIn (now (bahnhof .entry))) (classesIn (now (zugart .entry))) (now (fplan .entry)) at no r (now (calls .exit)) (now (ranges .exit)) ⌝ }
+    ensures { λ r. ⌜ ReadAs (bitFieldsIn (now (bitfeld .entry))) (stopsIn (now (bahnhof .entry))) (classesIn (now (zugart .entry))) (now (fplan .entry)) at
+        no r (now (calls .exit)) (now (ranges .exit)) ⌝ }
 {
     let cut = reader::line_from(fplan, at, no);
     let stop = cut.stop;
@@ -222,8 +224,10 @@ fn draft_again(
     requires { ⌜ Within (counted counts (toldIn (now text))) ⌝ }
     requires { ⌜ (callsLent ≤ length (now calls)) × (rangesLent ≤ length (now ranges)) ⌝ }
     ensures { λ r. ⌜ r ≡ counted counts (toldIn (now (text .entry))) ⌝ }
-    ensures { λ r. ⌜ callsOn (r .calls) (now (calls .exit)) ≡ callsAfter opening (callsOn (counts .calls) (now (calls .entry))) line (asCall (toldIn (now (text .entry)))) ⌝ }
-    ensures { λ r. ⌜ rangesOn (ranges# r) (now (ranges .exit)) ≡ rangesOn (ranges# counts) (now (ranges .entry)) ++ onLine line (asRange (toldIn (now (text .entry)))) ⌝ }
+    ensures { λ r. ⌜ callsOn (r .calls) (now (calls .exit)) ≡ callsAfter opening (callsOn (counts .calls) (now (calls .entry))) line
+        (asCall (toldIn (now (text .entry)))) ⌝ }
+    ensures { λ r. ⌜ rangesOn (ranges# r) (now (ranges .exit)) ≡ rangesOn (ranges# counts) (now (ranges .entry)) ++ onLine line
+        (asRange (toldIn (now (text .entry)))) ⌝ }
 {
     if let Kind::Schedule = kind {
         return draft::draft_call(opening, told::call_in(text), line, counts, calls);
@@ -299,7 +303,8 @@ fn offence_after(
     index: &[u32],
 ) -> Verdict
     requires { ⌜ FieldMap (now bitfeld) (now fields) × StopMap (now bahnhof) (now stops) × ClassIndex (now zugart) (now index) ⌝ }
-    ensures { λ r. ⌜ r ≡ verdictBy (offenceAfter (bitFieldsIn (now (bitfeld .entry))) (stopsIn (now (bahnhof .entry))) (classesIn (now (zugart .entry))) counts line said) ⌝ }
+    ensures { λ r. ⌜ r ≡ verdictBy
+        (offenceAfter (bitFieldsIn (now (bitfeld .entry))) (stopsIn (now (bahnhof .entry))) (classesIn (now (zugart .entry))) counts line said) ⌝ }
 {
     match said {
         Told::Skip => Verdict::Fine,
