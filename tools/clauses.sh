@@ -23,9 +23,11 @@ without() {
             if (clause == number) {
                 label = $2 == "{" ? "answer" : $2
                 print name, label > deleted
-                next
+                within = 1
             }
         }
+        # a clause may go over several lines
+        within { within = !/}$/; next }
         { print }' crates/estelunya/src/lib.rt >"$copy/crates/estelunya/src/lib.rt"
 }
 

@@ -8,17 +8,13 @@ ghost use Prim.Native.Nat.{_<_};
 ghost use lib.ListN.{length};
 ghost use Rattle.timetable.specs.Layout.{mostPeriodDays};
 ghost use Rattle.timetable.specs.Questions.{dated};
-ghost use Rattle.timetable.specs.Table.{services#, used, tableOf};
-ghost use Rattle.timetable.specs.View.{viewOf};
 ghost use Rattle.table.specs.JustTable.{JustTable, headerSound};
-ghost use Rattle.chain_check.specs.Tally.{same};
-ghost use Rattle.index.specs.Index.{viewIn};
 ghost use Rattle.index.specs.Quick.{indexLong};
 ghost use Rattle.whole_index.specs.Whole.{wholeIndexOf};
-ghost use Rattle.board.specs.Board.{boardOf};
-ghost use Rattle.board.specs.Question as Q;
+ghost use Rattle.board.specs.Question.{boardedBy, boardInto};
 ghost use Rattle.boards.specs.ByWords.{Lends};
-ghost use Rattle.board_questions.specs.Quick.{boardByDay, boardByWords, callsPart, boardQuick};
+ghost use Rattle.board_questions.specs.Quick.{boardChecked, boardByDay, boardByWords, callsPart, boardQuick};
+ghost use Rattle.board_questions.specs.Inner.Checked.{boardDated, boardOnDay, ownBoard};
 
 // ---- with the index checked
 
@@ -34,8 +30,10 @@ pub fn ask_board(
     last: u32,
     list: &mut [u32],
 ) -> BoardAnswer
-    ensures answer { λ r. ⌜ r ≡ Q.boardedBy (Q.boardAsked (now (w .entry)) (same (now (x .entry)) (wholeIndexOf (used (now (w .entry))))) stop day month year first last) (length (now (list .entry))) ⌝ }
-    ensures rows { λ _. ⌜ now (list .exit) ≡ Q.boardInto (Q.boardAsked (now (w .entry)) (same (now (x .entry)) (wholeIndexOf (used (now (w .entry))))) stop day month year first last) (now (list .entry)) ⌝ }
+    ensures answer { λ r. ⌜ r ≡ boardedBy
+        (boardChecked (now (w .entry)) (now (x .entry)) stop day month year first last) (length (now (list .entry))) ⌝ }
+    ensures rows { λ _. ⌜ now (list .exit) ≡ boardInto
+        (boardChecked (now (w .entry)) (now (x .entry)) stop day month year first last) (now (list .entry)) ⌝ }
 {
     if !table::is_table(w) {
         return BoardAnswer::Refused {
@@ -71,8 +69,12 @@ fn board_of(
     list: &mut [u32],
 ) -> BoardAnswer
     requires { ⌜ JustTable (now w) × (length (now z) ≡ 0) ⌝ }
-    ensures answer { λ r. ⌜ r ≡ Q.boardedBy (Q.boardIn (viewIn (now (w .entry)) (now (z .entry))) (services# (now (w .entry))) (same (now (x .entry)) (wholeIndexOf (now (w .entry)))) stop day month year first last) (length (now (list .entry))) ⌝ }
-    ensures rows { λ _. ⌜ now (list .exit) ≡ Q.boardInto (Q.boardIn (viewIn (now (w .entry)) (now (z .entry))) (services# (now (w .entry))) (same (now (x .entry)) (wholeIndexOf (now (w .entry)))) stop day month year first last) (now (list .entry)) ⌝ }
+    ensures answer { λ r. ⌜ r ≡ boardedBy
+        (boardDated (now (w .entry)) (now (z .entry)) (now (x .entry)) stop day month year first last)
+        (length (now (list .entry))) ⌝ }
+    ensures rows { λ _. ⌜ now (list .exit) ≡ boardInto
+        (boardDated (now (w .entry)) (now (z .entry)) (now (x .entry)) stop day month year first last)
+        (now (list .entry)) ⌝ }
 {
     let on = index::dated(w, z, day, month, year);
     match on {
@@ -94,8 +96,12 @@ fn board_on(
 ) -> BoardAnswer
     requires { ⌜ JustTable (now w) × (length (now z) ≡ 0) ⌝ }
     requires { ⌜ k < mostPeriodDays ⌝ }
-    ensures answer { λ r. ⌜ r ≡ Q.boardedBy (Q.boardOn (viewIn (now (w .entry)) (now (z .entry))) (services# (now (w .entry))) (same (now (x .entry)) (wholeIndexOf (now (w .entry)))) stop first last (dated k)) (length (now (list .entry))) ⌝ }
-    ensures rows { λ _. ⌜ now (list .exit) ≡ Q.boardInto (Q.boardOn (viewIn (now (w .entry)) (now (z .entry))) (services# (now (w .entry))) (same (now (x .entry)) (wholeIndexOf (now (w .entry)))) stop first last (dated k)) (now (list .entry)) ⌝ }
+    ensures answer { λ r. ⌜ r ≡ boardedBy
+        (boardOnDay (now (w .entry)) (now (z .entry)) (now (x .entry)) stop first last (dated k))
+        (length (now (list .entry))) ⌝ }
+    ensures rows { λ _. ⌜ now (list .exit) ≡ boardInto
+        (boardOnDay (now (w .entry)) (now (z .entry)) (now (x .entry)) stop first last (dated k))
+        (now (list .entry)) ⌝ }
 {
     if !index::stop_known(w, z, stop) {
         return BoardAnswer::Refused {
@@ -124,8 +130,9 @@ fn own_board(
 ) -> BoardAnswer
     requires { ⌜ JustTable (now w) × (k < mostPeriodDays) ⌝ }
     requires { ⌜ now x ≡ wholeIndexOf (now w) ⌝ }
-    ensures answer { λ r. ⌜ r ≡ Q.boardedBy (Q.board (boardOf (viewOf (tableOf (now (w .entry)))) (services# (now (w .entry))) stop k first last)) (length (now (list .entry))) ⌝ }
-    ensures rows { λ _. ⌜ now (list .exit) ≡ Q.boardInto (Q.board (boardOf (viewOf (tableOf (now (w .entry)))) (services# (now (w .entry))) stop k first last)) (now (list .entry)) ⌝ }
+    ensures answer { λ r. ⌜ r ≡ boardedBy (ownBoard (now (w .entry)) stop k first last) (length (now (list .entry))) ⌝ }
+    ensures rows { λ _. ⌜ now (list .exit) ≡
+        boardInto (ownBoard (now (w .entry)) stop k first last) (now (list .entry)) ⌝ }
 {
     let n = index::index_size(w);
     boards::list_board(w, &x[0..n], &x[n..], stop, k, first, last, list)
@@ -145,8 +152,10 @@ pub fn quick_board(
     last: u32,
     list: &mut [u32],
 ) -> BoardAnswer
-    ensures answer { λ r. ⌜ r ≡ Q.boardedBy (boardQuick (now (w .entry)) (now (x .entry)) stop day month year first last) (length (now (list .entry))) ⌝ }
-    ensures rows { λ _. ⌜ now (list .exit) ≡ Q.boardInto (boardQuick (now (w .entry)) (now (x .entry)) stop day month year first last) (now (list .entry)) ⌝ }
+    ensures answer { λ r. ⌜ r ≡ boardedBy (boardQuick (now (w .entry)) (now (x .entry)) stop day month year first last)
+        (length (now (list .entry))) ⌝ }
+    ensures rows { λ _. ⌜ now (list .exit) ≡
+        boardInto (boardQuick (now (w .entry)) (now (x .entry)) stop day month year first last) (now (list .entry)) ⌝ }
 {
     let number = index::quick_refusal(w, x.len());
     if number != 0 {
@@ -181,8 +190,12 @@ fn board_by(
     list: &mut [u32],
 ) -> BoardAnswer
     requires { ⌜ Lends (now w) (now x) (now y) ⌝ }
-    ensures answer { λ r. ⌜ r ≡ Q.boardedBy (boardByWords (now (w .entry)) (now (x .entry)) (now (y .entry)) stop day month year first last) (length (now (list .entry))) ⌝ }
-    ensures rows { λ _. ⌜ now (list .exit) ≡ Q.boardInto (boardByWords (now (w .entry)) (now (x .entry)) (now (y .entry)) stop day month year first last) (now (list .entry)) ⌝ }
+    ensures answer { λ r. ⌜ r ≡ boardedBy
+        (boardByWords (now (w .entry)) (now (x .entry)) (now (y .entry)) stop day month year first last)
+        (length (now (list .entry))) ⌝ }
+    ensures rows { λ _. ⌜ now (list .exit) ≡ boardInto
+        (boardByWords (now (w .entry)) (now (x .entry)) (now (y .entry)) stop day month year first last)
+        (now (list .entry)) ⌝ }
 {
     let on = index::dated(w, x, day, month, year);
     match on {
@@ -203,8 +216,12 @@ fn board_by_day(
     list: &mut [u32],
 ) -> BoardAnswer
     requires { ⌜ Lends (now w) (now x) (now y) × (k < mostPeriodDays) ⌝ }
-    ensures answer { λ r. ⌜ r ≡ Q.boardedBy (boardByDay (now (w .entry)) (now (x .entry)) (now (y .entry)) stop first last (dated k)) (length (now (list .entry))) ⌝ }
-    ensures rows { λ _. ⌜ now (list .exit) ≡ Q.boardInto (boardByDay (now (w .entry)) (now (x .entry)) (now (y .entry)) stop first last (dated k)) (now (list .entry)) ⌝ }
+    ensures answer { λ r. ⌜ r ≡ boardedBy
+        (boardByDay (now (w .entry)) (now (x .entry)) (now (y .entry)) stop first last (dated k))
+        (length (now (list .entry))) ⌝ }
+    ensures rows { λ _. ⌜ now (list .exit) ≡ boardInto
+        (boardByDay (now (w .entry)) (now (x .entry)) (now (y .entry)) stop first last (dated k))
+        (now (list .entry)) ⌝ }
 {
     if !index::stop_known(w, x, stop) {
         return BoardAnswer::Refused {

@@ -15,7 +15,9 @@ ghost use Rattle.timetable.specs.Run.{categoryOn, aRun, runOf};
 ghost use Rattle.timetable.specs.Runs.{hasRun};
 ghost use Rattle.index.specs.Index.{Ready, viewIn};
 ghost use Rattle.connections.specs.Inner.Stages.{runIn, callIn, stageIn, stageRidden, stageCalls, changeNumber};
-ghost use Rattle.connections.specs.Connection.{partSize, partAt, partsOf, wholeParts, moment, stageBy, stageOf, changeTo, changedTo, partsAfter, partsHold, connectionIn, connectionAsked};
+ghost use Rattle.connections.specs.Connection.{partSize, partAt, partsOf, wholeParts, moment, stageBy, stageOf};
+ghost use Rattle.connections.specs.Connection.{changeTo, changedTo, partsAfter, partsHold, connectionIn};
+ghost use Rattle.connections.specs.Connection.{connectionAsked};
 ghost use Rattle.connections.specs.Quick.{connectionQuick};
 
 // A part: a run by its service, its repeat and its date, and the calls where it is boarded and left, counted from 0 along the route.
@@ -118,7 +120,8 @@ fn parts_hold(w: &[u32], x: &[u32], parts: &[u32]) -> ConnectionAnswer
 fn parts_after(w: &[u32], x: &[u32], parts: &[u32], first: Stage) -> ConnectionAnswer
     requires { ⌜ Ready (now w) (now x) ⌝ }
     requires { ⌜ wholeParts (length (now parts)) ≡ true ⌝ }
-    ensures { λ r. ⌜ r ≡ partsAfter (viewIn (now (w .entry)) (now (x .entry))) first 2 (partsOf (drop partSize (now (parts .entry)))) ⌝ }
+    ensures { λ r. ⌜ r ≡
+        partsAfter (viewIn (now (w .entry)) (now (x .entry))) first 2 (partsOf (drop partSize (now (parts .entry)))) ⌝ }
 {
     let mut before = first;
     let mut passed: u32 = 1;
@@ -145,7 +148,8 @@ fn parts_after(w: &[u32], x: &[u32], parts: &[u32], first: Stage) -> ConnectionA
 // The stage of the next part, after a change.
 fn next_stage(w: &[u32], x: &[u32], before: Stage, part: Part) -> Staged
     requires { ⌜ Ready (now w) (now x) ⌝ }
-    ensures { λ r. ⌜ r ≡ changedTo (viewIn (now (w .entry)) (now (x .entry))) before (stageOf (viewIn (now (w .entry)) (now (x .entry))) part) ⌝ }
+    ensures { λ r. ⌜ r ≡ changedTo (viewIn (now (w .entry)) (now (x .entry))) before
+        (stageOf (viewIn (now (w .entry)) (now (x .entry))) part) ⌝ }
 {
     let next = stage_of(w, x, part);
     match next {
@@ -204,7 +208,8 @@ fn stage_of(w: &[u32], x: &[u32], part: Part) -> Staged
 // On day k of the period: 24 service index not below V.
 fn stage_on(w: &[u32], x: &[u32], part: Part, k: u32) -> Staged
     requires { ⌜ Ready (now w) (now x) × (k < mostPeriodDays) ⌝ }
-    ensures { λ r. ⌜ r ≡ stageBy k part (runOf (viewIn (now (w .entry)) (now (x .entry))) (part .service) (part .repeat) k) ⌝ }
+    ensures { λ r. ⌜ r ≡
+        stageBy k part (runOf (viewIn (now (w .entry)) (now (x .entry))) (part .service) (part .repeat) k) ⌝ }
 {
     let record = index::service_record(w, x, part.service);
     match record {
@@ -232,7 +237,8 @@ fn stage_along(w: &[u32], x: &[u32], s: &[u32], part: Part, k: u32, start: u32, 
     requires { ⌜ Ready (now w) (now x) × (k < mostPeriodDays) ⌝ }
     requires { ⌜ recordSound (stops# (now w)) (now s) ≡ true ⌝ }
     requires { ⌜ (start + legs < calls# (now s)) × (hasRun (openingAt (now s)) (part .repeat) ≡ true) ⌝ }
-    ensures { λ r. ⌜ r ≡ stageBy k part (aRun (runIn (viewIn (now (w .entry)) (now (x .entry))) (now (s .entry)) (part .repeat) start legs)) ⌝ }
+    ensures { λ r. ⌜ r ≡ stageBy k part (aRun
+        (runIn (viewIn (now (w .entry)) (now (x .entry))) (now (s .entry)) (part .repeat) start legs)) ⌝ }
 {
     if !both_in_rows(start, legs, part.board, part.alight) {
         return Staged::Refused(47);
@@ -244,7 +250,8 @@ fn stage_along(w: &[u32], x: &[u32], s: &[u32], part: Part, k: u32, start: u32, 
 fn stage_ridden(w: &[u32], x: &[u32], s: &[u32], part: Part, k: u32) -> Staged
     requires { ⌜ Ready (now w) (now x) × (k < mostPeriodDays) ⌝ }
     requires { ⌜ recordSound (stops# (now w)) (now s) ≡ true ⌝ }
-    requires { ⌜ (part .board < calls# (now s)) × (part .alight < calls# (now s)) × (hasRun (openingAt (now s)) (part .repeat) ≡ true) ⌝ }
+    requires { ⌜ (part .board < calls# (now s)) × (part .alight < calls# (now s))
+        × (hasRun (openingAt (now s)) (part .repeat) ≡ true) ⌝ }
     ensures { λ r. ⌜ r ≡ stageRidden (viewIn (now (w .entry)) (now (x .entry))) (now (s .entry)) part k ⌝ }
 {
     let boarding = rows::call_of(s, part.board);
@@ -270,7 +277,8 @@ fn stage_between(
     requires { ⌜ (part .board < calls# (now s)) × (boarding ≡ callIn (now s) (part .board)) ⌝ }
     requires { ⌜ (part .alight < calls# (now s)) × (alighting ≡ callIn (now s) (part .alight)) ⌝ }
     requires { ⌜ (1 ≤ part .alight) × (hasRun (openingAt (now s)) (part .repeat) ≡ true) ⌝ }
-    ensures { λ r. ⌜ r ≡ stageCalls (viewIn (now (w .entry)) (now (x .entry))) (now (s .entry)) part k boarding alighting ⌝ }
+    ensures { λ r. ⌜ r ≡
+        stageCalls (viewIn (now (w .entry)) (now (x .entry))) (now (s .entry)) part k boarding alighting ⌝ }
 {
     let late = runs::lateness(table::opening_at(s), part.repeat);
     Stage {
@@ -338,7 +346,8 @@ fn in_rows(start: u32, legs: u32, call: u32) -> bool
 
 fn both_in_rows(start: u32, legs: u32, board: u32, alight: u32) -> bool
     requires { ⌜ start + legs < 2 ^ 32 ⌝ }
-    ensures { λ r. ⌜ r ≡ ((leb start board && leb board (start + legs)) && (leb start alight && leb alight (start + legs))) ⌝ }
+    ensures { λ r. ⌜ r ≡
+        ((leb start board && leb board (start + legs)) && (leb start alight && leb alight (start + legs))) ⌝ }
 {
     if !in_rows(start, legs, board) {
         return false;

@@ -9,7 +9,9 @@ ghost use lib.ListN.{length};
 ghost use Rattle.base.specs.Lists.{countIf, upto};
 ghost use Rattle.bitfield.specs.BitField.{bitWords, bitCount, bit, runsOn};
 ghost use Rattle.timetable.specs.Layout.{mostPeriodDays};
-ghost use Rattle.day_sets.specs.DaySets.{wordOf, fieldOf, bitIn, combined, complement, dayCount, isField, combineAsked, combineWritten, complementAsked, complementWritten, countAsked};
+ghost use Rattle.day_sets.specs.DaySets.{wordOf, fieldOf, bitIn, combined, complement, dayCount, isField};
+ghost use Rattle.day_sets.specs.DaySets.{combineAsked, combineWritten, complementAsked, complementWritten};
+ghost use Rattle.day_sets.specs.DaySets.{countAsked};
 
 // What of two sets of days is wanted: the days of either, those of both, those of the first that the second has not.
 pub enum Operation {
@@ -44,7 +46,8 @@ pub fn combine(
     result: &mut [u32],
 ) -> SetAnswer
     ensures answer { λ r. ⌜ r ≡ combineAsked n (now (first .entry)) (now (second .entry)) (now (result .entry)) ⌝ }
-    ensures words { λ r. ⌜ now (result .exit) ≡ combineWritten op n (now (first .entry)) (now (second .entry)) (now (result .entry)) ⌝ }
+    ensures words { λ r. ⌜ now (result .exit) ≡
+        combineWritten op n (now (first .entry)) (now (second .entry)) (now (result .entry)) ⌝ }
 {
     if !is_field(n, first) {
         return SetAnswer::Refused(NO_FIELD);

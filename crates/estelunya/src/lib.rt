@@ -17,7 +17,8 @@ ghost use mathlib.Core.Path.{_≡_};
 ghost use lib.ListN.{length};
 ghost use Rattle.timetable.specs.Delivery.{filesOf};
 ghost use Rattle.timetable.specs.Load.{loaded, written, helped};
-ghost use Rattle.timetable.specs.Questions.{dayAsked, interchangeAsked, betweenAsked, walkedBy, rowsBy, walked, walkRows};
+ghost use Rattle.timetable.specs.Questions.{dayAsked, interchangeAsked, betweenAsked, walkedBy, rowsBy, walked};
+ghost use Rattle.timetable.specs.Questions.{walkRows};
 ghost use Rattle.timetable.specs.StopNames.{stopNameAsked};
 ghost use Rattle.day_sets.specs.declared.Operation.the-variants.{Union, Intersection, Difference};
 ghost use Rattle.day_sets.specs.DaySets.{combineAsked, combineWritten, complementAsked, complementWritten, countAsked};
@@ -29,7 +30,9 @@ ghost use Rattle.board_questions.specs.Quick.{boardChecked, boardQuick};
 ghost use Rattle.connections.specs.Connection.{connectionAsked};
 ghost use Rattle.connections.specs.Quick.{connectionQuick};
 ghost use Rattle.plan_writing.specs.Writing.{planAnswer, planBytes};
-ghost use Rattle.estelunya.specs.Answers.{version, loadResult, dayResult, interchangeResult, nameResult, walkResult, indexResult, checkNumber, boardResult, connectionResult, writeResult};
+ghost use Rattle.estelunya.specs.Answers.{version, loadResult, dayResult, interchangeResult, nameResult};
+ghost use Rattle.estelunya.specs.Answers.{walkResult, indexResult, checkNumber, boardResult, connectionResult};
+ghost use Rattle.estelunya.specs.Answers.{writeResult};
 ghost use Rattle.room.specs.Room.{roomFor, Enough};
 ghost use Rattle.estelunya.specs.DaySets.{daySetResult, dayCountResult};
 
@@ -152,9 +155,18 @@ pub extern "C" fn estelunya_load(
     table: &mut [u32],
     helper: &mut [u32],
 ) -> LoadResult
-    ensures answer { λ r. ⌜ r ≡ loadResult (loaded (filesOf (now (eckdaten .entry)) (now (bitfeld .entry)) (now (bahnhof .entry)) (now (umsteigb .entry)) (now (fplan .entry)) (now (zugart .entry))) (length (now (table .entry))) (length (now (helper .entry)))) ⌝ }
-    ensures words { λ r. ⌜ now (table .exit) ≡ written (filesOf (now (eckdaten .entry)) (now (bitfeld .entry)) (now (bahnhof .entry)) (now (umsteigb .entry)) (now (fplan .entry)) (now (zugart .entry))) (now (table .entry)) (length (now (helper .entry))) ⌝ }
-    ensures helper { λ r. ⌜ now (helper .exit) ≡ helped (filesOf (now (eckdaten .entry)) (now (bitfeld .entry)) (now (bahnhof .entry)) (now (umsteigb .entry)) (now (fplan .entry)) (now (zugart .entry))) (now (helper .entry)) ⌝ }
+    ensures answer { λ r. ⌜ r ≡ loadResult (loaded
+        (filesOf (now (eckdaten .entry)) (now (bitfeld .entry)) (now (bahnhof .entry))
+        (now (umsteigb .entry)) (now (fplan .entry)) (now (zugart .entry)))
+        (length (now (table .entry))) (length (now (helper .entry)))) ⌝ }
+    ensures words { λ r. ⌜ now (table .exit) ≡ written
+        (filesOf (now (eckdaten .entry)) (now (bitfeld .entry)) (now (bahnhof .entry))
+        (now (umsteigb .entry)) (now (fplan .entry)) (now (zugart .entry)))
+        (now (table .entry)) (length (now (helper .entry))) ⌝ }
+    ensures helper { λ r. ⌜ now (helper .exit) ≡ helped
+        (filesOf (now (eckdaten .entry)) (now (bitfeld .entry)) (now (bahnhof .entry))
+        (now (umsteigb .entry)) (now (fplan .entry)) (now (zugart .entry)))
+        (now (helper .entry)) ⌝ }
 {
     load_result(load::load(
         eckdaten,
@@ -230,8 +242,10 @@ pub extern "C" fn estelunya_walk(
     year: u32,
     rows: &mut [u32],
 ) -> WalkResult
-    ensures answer { λ r. ⌜ r ≡ walkResult (walked (now (table .entry)) service repeat day month year (length (now (rows .entry)))) ⌝ }
-    ensures words { λ r. ⌜ now (rows .exit) ≡ walkRows (now (table .entry)) service repeat day month year (now (rows .entry)) ⌝ }
+    ensures answer { λ r. ⌜ r ≡
+        walkResult (walked (now (table .entry)) service repeat day month year (length (now (rows .entry)))) ⌝ }
+    ensures words { λ r. ⌜ now (rows .exit) ≡
+        walkRows (now (table .entry)) service repeat day month year (now (rows .entry)) ⌝ }
 {
     walk_result(walk::walk(table, service, repeat, day, month, year, rows))
 }
@@ -277,7 +291,8 @@ pub extern "C" fn estelunya_quick_interchange(
     arriving: u32,
     departing: u32,
 ) -> InterchangeResult
-    ensures { λ r. ⌜ r ≡ interchangeResult (interchangeQuick (now (table .entry)) (now (index .entry)) stop arriving departing) ⌝ }
+    ensures { λ r. ⌜ r ≡
+        interchangeResult (interchangeQuick (now (table .entry)) (now (index .entry)) stop arriving departing) ⌝ }
 {
     interchange_result(quick::quick_interchange(table, index, stop, arriving, departing))
 }
@@ -290,7 +305,8 @@ pub extern "C" fn estelunya_quick_interchange_between(
     arriving: u32,
     departing: u32,
 ) -> InterchangeResult
-    ensures { λ r. ⌜ r ≡ interchangeResult (betweenQuick (now (table .entry)) (now (index .entry)) stop arriving departing) ⌝ }
+    ensures { λ r. ⌜ r ≡
+        interchangeResult (betweenQuick (now (table .entry)) (now (index .entry)) stop arriving departing) ⌝ }
 {
     interchange_result(quick::quick_between(table, index, stop, arriving, departing))
 }
@@ -304,7 +320,8 @@ pub extern "C" fn estelunya_quick_stop_name(
     language: u32,
     kind: u32,
 ) -> NameResult
-    ensures { λ r. ⌜ r ≡ nameResult (stopNameQuick (now (table .entry)) (now (index .entry)) (now (bahnhof .entry)) stop language kind) ⌝ }
+    ensures { λ r. ⌜ r ≡ nameResult
+        (stopNameQuick (now (table .entry)) (now (index .entry)) (now (bahnhof .entry)) stop language kind) ⌝ }
 {
     name_result(quick::quick_name(table, index, bahnhof, stop, language, kind))
 }
@@ -320,8 +337,10 @@ pub extern "C" fn estelunya_quick_walk(
     year: u32,
     rows: &mut [u32],
 ) -> WalkResult
-    ensures answer { λ r. ⌜ r ≡ walkResult (walkedBy (walkQuick (now (table .entry)) (now (index .entry)) service repeat day month year) (length (now (rows .entry)))) ⌝ }
-    ensures words { λ r. ⌜ now (rows .exit) ≡ rowsBy (walkQuick (now (table .entry)) (now (index .entry)) service repeat day month year) (now (rows .entry)) ⌝ }
+    ensures answer { λ r. ⌜ r ≡ walkResult (walkedBy
+        (walkQuick (now (table .entry)) (now (index .entry)) service repeat day month year) (length (now (rows .entry)))) ⌝ }
+    ensures words { λ r. ⌜ now (rows .exit) ≡ rowsBy
+        (walkQuick (now (table .entry)) (now (index .entry)) service repeat day month year) (now (rows .entry)) ⌝ }
 {
     walk_result(quick::quick_walk(table, index, service, repeat, day, month, year, rows))
 }
@@ -341,8 +360,10 @@ pub extern "C" fn estelunya_board(
     last: u32,
     list: &mut [u32],
 ) -> BoardResult
-    ensures answer { λ r. ⌜ r ≡ boardResult (boardedBy (boardChecked (now (table .entry)) (now (index .entry)) stop day month year first last) (length (now (list .entry)))) ⌝ }
-    ensures words { λ r. ⌜ now (list .exit) ≡ boardInto (boardChecked (now (table .entry)) (now (index .entry)) stop day month year first last) (now (list .entry)) ⌝ }
+    ensures answer { λ r. ⌜ r ≡ boardResult (boardedBy
+        (boardChecked (now (table .entry)) (now (index .entry)) stop day month year first last) (length (now (list .entry)))) ⌝ }
+    ensures words { λ r. ⌜ now (list .exit) ≡ boardInto
+        (boardChecked (now (table .entry)) (now (index .entry)) stop day month year first last) (now (list .entry)) ⌝ }
 {
     board_result(board_questions::ask_board(
         table,
@@ -370,8 +391,10 @@ pub extern "C" fn estelunya_quick_board(
     last: u32,
     list: &mut [u32],
 ) -> BoardResult
-    ensures answer { λ r. ⌜ r ≡ boardResult (boardedBy (boardQuick (now (table .entry)) (now (index .entry)) stop day month year first last) (length (now (list .entry)))) ⌝ }
-    ensures words { λ r. ⌜ now (list .exit) ≡ boardInto (boardQuick (now (table .entry)) (now (index .entry)) stop day month year first last) (now (list .entry)) ⌝ }
+    ensures answer { λ r. ⌜ r ≡ boardResult (boardedBy
+        (boardQuick (now (table .entry)) (now (index .entry)) stop day month year first last) (length (now (list .entry)))) ⌝ }
+    ensures words { λ r. ⌜ now (list .exit) ≡ boardInto
+        (boardQuick (now (table .entry)) (now (index .entry)) stop day month year first last) (now (list .entry)) ⌝ }
 {
     board_result(board_questions::quick_board(
         table,
@@ -401,7 +424,8 @@ pub extern "C" fn estelunya_quick_connection(
     index: &[u32],
     parts: &[u32],
 ) -> ConnectionResult
-    ensures { λ r. ⌜ r ≡ connectionResult (connectionQuick (now (table .entry)) (now (index .entry)) (now (parts .entry))) ⌝ }
+    ensures { λ r. ⌜ r ≡
+        connectionResult (connectionQuick (now (table .entry)) (now (index .entry)) (now (parts .entry))) ⌝ }
 {
     connection_result(connections::quick_connection(table, index, parts))
 }
@@ -423,8 +447,10 @@ pub extern "C" fn estelunya_days_union(
     second: &[u32],
     result: &mut [u32],
 ) -> DaySetResult
-    ensures answer { λ r. ⌜ r ≡ daySetResult (combineAsked n (now (first .entry)) (now (second .entry)) (now (result .entry))) ⌝ }
-    ensures words { λ r. ⌜ now (result .exit) ≡ combineWritten Union n (now (first .entry)) (now (second .entry)) (now (result .entry)) ⌝ }
+    ensures answer { λ r. ⌜ r ≡
+        daySetResult (combineAsked n (now (first .entry)) (now (second .entry)) (now (result .entry))) ⌝ }
+    ensures words { λ r. ⌜ now (result .exit) ≡
+        combineWritten Union n (now (first .entry)) (now (second .entry)) (now (result .entry)) ⌝ }
 {
     day_set_result(day_sets::combine(Operation::Union, n, first, second, result))
 }
@@ -436,8 +462,10 @@ pub extern "C" fn estelunya_days_intersection(
     second: &[u32],
     result: &mut [u32],
 ) -> DaySetResult
-    ensures answer { λ r. ⌜ r ≡ daySetResult (combineAsked n (now (first .entry)) (now (second .entry)) (now (result .entry))) ⌝ }
-    ensures words { λ r. ⌜ now (result .exit) ≡ combineWritten Intersection n (now (first .entry)) (now (second .entry)) (now (result .entry)) ⌝ }
+    ensures answer { λ r. ⌜ r ≡
+        daySetResult (combineAsked n (now (first .entry)) (now (second .entry)) (now (result .entry))) ⌝ }
+    ensures words { λ r. ⌜ now (result .exit) ≡
+        combineWritten Intersection n (now (first .entry)) (now (second .entry)) (now (result .entry)) ⌝ }
 {
     day_set_result(day_sets::combine(Operation::Intersection, n, first, second, result))
 }
@@ -449,8 +477,10 @@ pub extern "C" fn estelunya_days_difference(
     second: &[u32],
     result: &mut [u32],
 ) -> DaySetResult
-    ensures answer { λ r. ⌜ r ≡ daySetResult (combineAsked n (now (first .entry)) (now (second .entry)) (now (result .entry))) ⌝ }
-    ensures words { λ r. ⌜ now (result .exit) ≡ combineWritten Difference n (now (first .entry)) (now (second .entry)) (now (result .entry)) ⌝ }
+    ensures answer { λ r. ⌜ r ≡
+        daySetResult (combineAsked n (now (first .entry)) (now (second .entry)) (now (result .entry))) ⌝ }
+    ensures words { λ r. ⌜ now (result .exit) ≡
+        combineWritten Difference n (now (first .entry)) (now (second .entry)) (now (result .entry)) ⌝ }
 {
     day_set_result(day_sets::combine(Operation::Difference, n, first, second, result))
 }

@@ -70,7 +70,8 @@ fn are_lookups(w: &[u32], x: &[u32]) -> bool
 fn both_right(w: &[u32], x: &[u32], s: Section, r: Section) -> bool
     requires { ⌜ Fits (now w) s × Fits (now w) r ⌝ }
     requires { ⌜ (s .from + 2 * s .n ≤ length (now x)) × (r .from + 2 * r .n ≤ length (now x)) ⌝ }
-    ensures { λ o. ⌜ o ≡ (chainsRight (now (w .entry)) (now (x .entry)) s && chainsRight (now (w .entry)) (now (x .entry)) r) ⌝ }
+    ensures { λ o. ⌜ o ≡
+        (chainsRight (now (w .entry)) (now (x .entry)) s && chainsRight (now (w .entry)) (now (x .entry)) r) ⌝ }
 {
     if !section_right(w, x, s) {
         return false;
@@ -91,7 +92,8 @@ fn section_right(w: &[u32], x: &[u32], s: Section) -> bool
 fn chained(w: &[u32], x: &[u32], at: usize, n: u32, size: usize, from: usize) -> bool
     requires { ⌜ Fits (now w) (record { at = at; n = n; size = size; from = from }) ⌝ }
     requires { ⌜ from + 2 * n ≤ length (now x) ⌝ }
-    ensures { λ r. ⌜ r ≡ chainsRight (now (w .entry)) (now (x .entry)) (record { at = at; n = n; size = size; from = from }) ⌝ }
+    ensures { λ r. ⌜ r ≡
+        chainsRight (now (w .entry)) (now (x .entry)) (record { at = at; n = n; size = size; from = from }) ⌝ }
 {
     let end = at + size * index::count(n);
     let to = from + 2 * index::count(n);

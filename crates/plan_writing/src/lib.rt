@@ -90,7 +90,8 @@ fn put_service(w: &[u32], s: &[u32], text: &mut [u8], q: usize) -> usize
     requires { ⌜ Standing (now w) (now s) ⌝ }
     requires { ⌜ q + length (recordText (now w) (now s)) ≤ length (now text) ⌝ }
     ensures end { λ r. ⌜ r ≡ q + length (recordText (now (w .entry)) (now (s .entry))) ⌝ }
-    ensures bytes { λ _. ⌜ now (text .exit) ≡ write (now (text .entry)) q (recordText (now (w .entry)) (now (s .entry))) ⌝ }
+    ensures bytes { λ _. ⌜ now (text .exit) ≡
+        write (now (text .entry)) q (recordText (now (w .entry)) (now (s .entry))) ⌝ }
 {
     put_first(s, text, q);
     let days = put_ranges(s, Part::Category, text, q + LINE);
@@ -103,7 +104,8 @@ fn put_service(w: &[u32], s: &[u32], text: &mut [u8], q: usize) -> usize
 fn put_first(s: &[u32], text: &mut [u8], q: usize)
     requires { ⌜ serviceHead ≤ length (now s) ⌝ }
     requires { ⌜ q + 60 ≤ length (now text) ⌝ }
-    ensures { λ _. ⌜ now (text .exit) ≡ write (now (text .entry)) q (withLF (openingLine (openingAt (now (s .entry))))) ⌝ }
+    ensures { λ _. ⌜ now (text .exit) ≡
+        write (now (text .entry)) q (withLF (openingLine (openingAt (now (s .entry))))) ⌝ }
 {
     let o = table::opening_at(s);
     if o.kind == KIND_Z {
@@ -138,7 +140,8 @@ fn put_ranges(s: &[u32], part: Part, text: &mut [u8], at: usize) -> usize
 fn put_range(s: &[u32], part: Part, p: usize, text: &mut [u8], q: usize)
     requires { ⌜ p + partSize part ≤ length (now s) ⌝ }
     requires { ⌜ q + 60 ≤ length (now text) ⌝ }
-    ensures { λ _. ⌜ now (text .exit) ≡ write (now (text .entry)) q (withLF (rangeText part (drop p (now (s .entry))))) ⌝ }
+    ensures { λ _. ⌜ now (text .exit) ≡
+        write (now (text .entry)) q (withLF (rangeText part (drop p (now (s .entry))))) ⌝ }
 {
     match part {
         Part::Category => plan_text::put_category(text, q, s[p], s[p + 1], s[p + 2]),
@@ -154,7 +157,8 @@ fn put_calls(w: &[u32], s: &[u32], text: &mut [u8], at: usize) -> usize
     requires { ⌜ Standing (now w) (now s) ⌝ }
     requires { ⌜ at + 60 * calls# (now s) ≤ length (now text) ⌝ }
     ensures end { λ r. ⌜ r ≡ at + 60 * calls# (now (s .entry)) ⌝ }
-    ensures bytes { λ _. ⌜ now (text .exit) ≡ write (now (text .entry)) at (callsText (tableOf (now (w .entry)) .stops) (now (s .entry))) ⌝ }
+    ensures bytes { λ _. ⌜ now (text .exit) ≡
+        write (now (text .entry)) at (callsText (tableOf (now (w .entry)) .stops) (now (s .entry))) ⌝ }
 {
     let mut p = SERVICE_WORDS;
     let mut k = s[CALLS_AT];

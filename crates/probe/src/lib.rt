@@ -27,7 +27,8 @@ ghost use Rattle.bitfield.specs.BitField.{bitCount, mostFramed, bitsIn, bit, ru
 ghost use Rattle.forms.specs.Kinds.{kindOf};
 ghost use Rattle.forms.specs.Form.{formOf};
 ghost use Rattle.forms.specs.Columns.{columnsOf};
-ghost use Rattle.probe.specs.Inner.Flat.{flatCut, noStep, flatTime, flatEnd, flatDetail, flatDate, flatPeriod, flatKind, flatForm, classOf, lineKind};
+ghost use Rattle.probe.specs.Inner.Flat.{flatCut, noStep, flatTime, flatEnd, flatDetail, flatDate, flatPeriod};
+ghost use Rattle.probe.specs.Inner.Flat.{flatKind, flatForm, classOf, lineKind};
 
 // Where a line's text stops, where the next line starts, and its number.
 #[repr(C)]
@@ -55,7 +56,8 @@ pub struct Words {
 // One line of a file, cut by the reader struct, which is thin over `lines::line_at`.
 #[no_mangle]
 pub extern "C" fn probe_line(file: &[u8], at: usize, no: u32) -> Step
-    ensures { λ r. ⌜ r ≡ cond (leb at (length (now (file .entry)))) (cond (ltb no 4294967295) (flatCut (cutAt (now (file .entry)) at no)) noStep) noStep ⌝ }
+    ensures { λ r. ⌜ r ≡ cond (leb at (length (now (file .entry))))
+        (cond (ltb no 4294967295) (flatCut (cutAt (now (file .entry)) at no)) noStep) noStep ⌝ }
 {
     if at <= file.len() {
         if no < 4294967295 {
@@ -245,7 +247,8 @@ pub extern "C" fn probe_all_bits() -> Words
 
 #[no_mangle]
 pub extern "C" fn probe_either(a: &[u32; BIT_WORDS], b: &[u32; BIT_WORDS]) -> Words
-    ensures { λ r. ⌜ ((k : ℕ) → k < bitCount → bit (r .words) k ≡ (bit (now (a .entry)) k || bit (now (b .entry)) k)) ⌝ }
+    ensures { λ r. ⌜ ((k : ℕ) → k < bitCount → bit (r .words) k
+        ≡ (bit (now (a .entry)) k || bit (now (b .entry)) k)) ⌝ }
 {
     Words {
         words: bitfield::either(*a, *b),
@@ -254,7 +257,8 @@ pub extern "C" fn probe_either(a: &[u32; BIT_WORDS], b: &[u32; BIT_WORDS]) -> Wo
 
 #[no_mangle]
 pub extern "C" fn probe_both(a: &[u32; BIT_WORDS], b: &[u32; BIT_WORDS]) -> Words
-    ensures { λ r. ⌜ ((k : ℕ) → k < bitCount → bit (r .words) k ≡ (bit (now (a .entry)) k && bit (now (b .entry)) k)) ⌝ }
+    ensures { λ r. ⌜ ((k : ℕ) → k < bitCount → bit (r .words) k
+        ≡ (bit (now (a .entry)) k && bit (now (b .entry)) k)) ⌝ }
 {
     Words {
         words: bitfield::both(*a, *b),
@@ -263,7 +267,8 @@ pub extern "C" fn probe_both(a: &[u32; BIT_WORDS], b: &[u32; BIT_WORDS]) -> Word
 
 #[no_mangle]
 pub extern "C" fn probe_without(a: &[u32; BIT_WORDS], b: &[u32; BIT_WORDS]) -> Words
-    ensures { λ r. ⌜ ((k : ℕ) → k < bitCount → bit (r .words) k ≡ (bit (now (a .entry)) k && not (bit (now (b .entry)) k))) ⌝ }
+    ensures { λ r. ⌜ ((k : ℕ) → k < bitCount → bit (r .words) k
+        ≡ (bit (now (a .entry)) k && not (bit (now (b .entry)) k))) ⌝ }
 {
     Words {
         words: bitfield::without(*a, *b),

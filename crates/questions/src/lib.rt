@@ -10,7 +10,8 @@ ghost use mathlib.Core.Bool.{cond, _&&_};
 ghost use Prim.Native.Nat.{_<_};
 ghost use lib.Dec.{leb};
 ghost use Rattle.timetable.specs.Layout.{mostClass, mostPeriodDays};
-ghost use Rattle.timetable.specs.Questions.{dated, dayBy, dayIn, dayAsked, firstTimeClass, minutesFor, interchangeIn, interchangeAsked, betweenIn, betweenAsked};
+ghost use Rattle.timetable.specs.Questions.{dated, dayBy, dayIn, dayAsked, firstTimeClass, minutesFor, interchangeIn};
+ghost use Rattle.timetable.specs.Questions.{interchangeAsked, betweenIn, betweenAsked};
 ghost use Rattle.index.specs.Index.{Ready, viewIn};
 
 // Two services of classes up to this one take the first time.
@@ -116,7 +117,8 @@ pub fn between_by(w: &[u32], x: &[u32], stop: u32, a: u32, b: u32) -> Interchang
 // Whether two categories are listed.
 pub fn both_listed(w: &[u32], x: &[u32], a: u32, b: u32) -> bool
     requires { ⌜ Ready (now w) (now x) ⌝ }
-    ensures { λ r. ⌜ r ≡ (viewIn (now (w .entry)) (now (x .entry)) .listed a && viewIn (now (w .entry)) (now (x .entry)) .listed b) ⌝ }
+    ensures { λ r. ⌜ r ≡
+        (viewIn (now (w .entry)) (now (x .entry)) .listed a && viewIn (now (w .entry)) (now (x .entry)) .listed b) ⌝ }
 {
     if !index::class_known(w, x, a) {
         return false;
@@ -127,7 +129,8 @@ pub fn both_listed(w: &[u32], x: &[u32], a: u32, b: u32) -> bool
 // The time at a stop for the classes of two categories.
 pub fn minutes_between(w: &[u32], x: &[u32], stop: u32, a: u32, b: u32) -> u32
     requires { ⌜ Ready (now w) (now x) ⌝ }
-    ensures { λ r. ⌜ r ≡ minutesFor (viewIn (now (w .entry)) (now (x .entry)) .times stop) (viewIn (now (w .entry)) (now (x .entry)) .class a) (viewIn (now (w .entry)) (now (x .entry)) .class b) ⌝ }
+    ensures { λ r. ⌜ r ≡ minutesFor (viewIn (now (w .entry)) (now (x .entry)) .times stop)
+        (viewIn (now (w .entry)) (now (x .entry)) .class a) (viewIn (now (w .entry)) (now (x .entry)) .class b) ⌝ }
 {
     let times = index::interchange_at(w, x, stop);
     minutes(times, index::class_for(w, x, a), index::class_for(w, x, b))

@@ -59,7 +59,8 @@ pub fn opening_sound(opening: Opening) -> bool
 
 // The same of a *T's.
 fn frequency_sound(opening: Opening) -> bool
-    ensures { λ r. ⌜ r ≡ (leb (R.runningTime opening) mostRunning && (leb 1 (R.density opening) && leb (R.density opening) mostRunning)) ⌝ }
+    ensures { λ r. ⌜ r ≡ (leb (R.runningTime opening) mostRunning
+        && (leb 1 (R.density opening) && leb (R.density opening) mostRunning)) ⌝ }
 {
     if MOST_RUNNING < opening.repeats {
         return false;

@@ -23,7 +23,8 @@ ghost use Rattle.timetable.specs.Table.{stops#, stopNumberAt, callAt, tableOf, 
 ghost use Rattle.table.specs.JustTable.{JustTable};
 ghost use Rattle.plan_services.specs.Services.{serviceLines, planLines};
 ghost use Rattle.writable.specs.Writable.{callWritable, serviceWritable};
-ghost use Rattle.service_lines.specs.Inner.Record.{partSize, partCount, partPlace, partRows, rangeWritable, shownCall, callRows, shown, Standing};
+ghost use Rattle.service_lines.specs.Inner.Record.{partSize, partCount, partPlace, partRows, rangeWritable};
+ghost use Rattle.service_lines.specs.Inner.Record.{shownCall, callRows, shown, Standing};
 
 // ---- ranges, by their part
 

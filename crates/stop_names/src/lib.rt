@@ -35,7 +35,8 @@ pub fn name_by(
     kind: u32,
 ) -> NameAnswer
     requires { ⌜ Ready (now w) (now x) ⌝ }
-    ensures { λ r. ⌜ r ≡ stopNameIn (viewIn (now (w .entry)) (now (x .entry))) (now (bahnhof .entry)) stop language kind ⌝ }
+    ensures { λ r. ⌜ r ≡
+        stopNameIn (viewIn (now (w .entry)) (now (x .entry))) (now (bahnhof .entry)) stop language kind ⌝ }
 {
     let asked = names::asked_for(language, kind);
     let Asked::For(wanted) = asked else {
@@ -47,7 +48,8 @@ pub fn name_by(
 // The name of a stop.
 fn stop_name(w: &[u32], x: &[u32], bahnhof: &[u8], stop: u32, wanted: Wanted) -> NameAnswer
     requires { ⌜ Ready (now w) (now x) ⌝ }
-    ensures { λ r. ⌜ r ≡ stopName (now (bahnhof .entry)) wanted (viewIn (now (w .entry)) (now (x .entry)) .named stop) ⌝ }
+    ensures { λ r. ⌜ r ≡
+        stopName (now (bahnhof .entry)) wanted (viewIn (now (w .entry)) (now (x .entry)) .named stop) ⌝ }
 {
     let found = index::stop_name(w, x, stop);
     match found {
@@ -58,7 +60,8 @@ fn stop_name(w: &[u32], x: &[u32], bahnhof: &[u8], stop: u32, wanted: Wanted) ->
 
 // The name in so many bytes from a place on: 41 not inside the bytes given, 39 no name list.
 fn name_within(bahnhof: &[u8], offset: u32, size: u32, wanted: Wanted) -> NameAnswer
-    ensures { λ r. ⌜ r ≡ nameWithin (now (bahnhof .entry)) wanted (record { number = 0; offset = offset; size = size }) ⌝ }
+    ensures { λ r. ⌜ r ≡
+        nameWithin (now (bahnhof .entry)) wanted (record { number = 0; offset = offset; size = size }) ⌝ }
 {
     let start = offset as usize;
     let end = start + size as usize;

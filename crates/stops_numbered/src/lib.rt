@@ -47,7 +47,8 @@ fn next(w: &[u32], x: &[u32], at: usize, n: u32, from: usize, number: u32, place
     requires { ⌜ at + stopSize * n ≤ length (now w) ⌝ }
     requires { ⌜ from + 2 * n ≤ length (now x) ⌝ }
     requires { ⌜ place < n ⌝ }
-    ensures { λ r. ⌜ r ≡ n - nextBy (now (w .entry)) (now (x .entry)) (at + stopSize * n) stopSize from number (n - place) ⌝ }
+    ensures { λ r. ⌜ r ≡
+        n - nextBy (now (w .entry)) (now (x .entry)) (at + stopSize * n) stopSize from number (n - place) ⌝ }
 {
     let end = at + STOP_WORDS * index::count(n);
     n - chains::next(w, x, end, STOP_WORDS, n, from, number, n - place)

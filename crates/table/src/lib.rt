@@ -47,7 +47,10 @@ ghost use lib.ListN.{length, drop};
 ghost use lib.Dec.{leb, eqb};
 ghost use Rattle.base.specs.Lists.{every};
 ghost use Rattle.timetable.specs.Layout.{headerSize, classSize, serviceHead, callSize, recordSize, firstService};
-ghost use Rattle.timetable.specs.Table.{wordCountIn, rowsIn, legsAt, classAt, callAt, openingAt, serviceAt, categoryPlace, dayPlace, extraPlace, used, tableOf, classSound, callSound, legsSound, serviceSound, countsSound, sizesSound, recordSound, recordsSound, headSound, isTable};
+ghost use Rattle.timetable.specs.Table.{wordCountIn, rowsIn, legsAt, classAt, callAt, openingAt, serviceAt};
+ghost use Rattle.timetable.specs.Table.{categoryPlace, dayPlace, extraPlace, used, tableOf, classSound, callSound};
+ghost use Rattle.timetable.specs.Table.{legsSound, serviceSound, countsSound, sizesSound, recordSound, recordsSound};
+ghost use Rattle.timetable.specs.Table.{headSound, isTable};
 ghost use Rattle.table.specs.JustTable.{recordEnd, headerSound, classesPlace};
 
 // The day after 31.12.2199.
@@ -243,7 +246,8 @@ fn sizes_sound(w: &[u32]) -> bool
 // Whether its first word says how long its counts make it, and is within the words.
 fn length_sound(w: &[u32]) -> bool
     requires { ⌜ serviceHead ≤ length (now w) ⌝ }
-    ensures { λ r. ⌜ r ≡ (eqb (wordCountIn (now (w .entry))) (recordEnd (now (w .entry))) && leb (wordCountIn (now (w .entry))) (length (now (w .entry)))) ⌝ }
+    ensures { λ r. ⌜ r ≡ (eqb (wordCountIn (now (w .entry))) (recordEnd (now (w .entry)))
+        && leb (wordCountIn (now (w .entry))) (length (now (w .entry)))) ⌝ }
 {
     let said = size(w[SIZE_AT]);
     if said as u64 != record_end(w) {

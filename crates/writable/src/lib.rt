@@ -6,7 +6,9 @@ ghost use mathlib.Core.Bool.{_&&_};
 ghost use Rattle.base.specs.Lists.{every};
 ghost use Rattle.line_text.specs.Text.{twoOf, threeOf};
 ghost use Rattle.line_text.specs.Laid.{notLF};
-ghost use Rattle.writable.specs.Writable.{filledByte, halfWritable, administrationWritable, openingWritable, nameWritable, fieldWritable, codeWritable, timeWritable, timesWritable, callWritable};
+ghost use Rattle.writable.specs.Writable.{filledByte, halfWritable, administrationWritable, openingWritable};
+ghost use Rattle.writable.specs.Writable.{nameWritable, fieldWritable, codeWritable, timeWritable, timesWritable};
+ghost use Rattle.writable.specs.Writable.{callWritable};
 
 const BLANK: u32 = 32;
 
