@@ -12,9 +12,13 @@ ghost use mathlib.Core.Option.{some};
 ghost use Prim.Native.Nat.{_+_, _^_, _≤_, _<_};
 ghost use lib.ListN.{length, drop};
 ghost use Rattle.timetable.specs.Offences.{offenceAt, verdictBy};
-ghost use Rattle.timetable.specs.Layout.{headerSize, bitWords, bitFieldSize, stopSize, interchangeSize, classSize, serviceHead, callSize, categorySize, daySize, extraSize, rowSize, helperHead, helperLine};
-ghost use Rattle.timetable.specs.Layout.{mostFileBytes, mostPeriodDays, mostClass, mostCalls, mostCategories, mostDays, mostExtras, mostRepeats, mostRunning, latestTime, allFlags, kindZ, kindT};
-ghost use Rattle.timetable.specs.Ranges.{inOrder};
+ghost use Rattle.timetable.specs.Layout.{headerSize, bitWords, bitFieldSize, stopSize, interchangeSize};
+ghost use Rattle.timetable.specs.Layout.{classSize, serviceHead, callSize, categorySize, daySize, extraSize};
+ghost use Rattle.timetable.specs.Layout.{rowSize, helperHead, helperLine};
+ghost use Rattle.timetable.specs.Layout.{mostFileBytes, mostPeriodDays, mostClass, mostCalls, mostCategories};
+ghost use Rattle.timetable.specs.Layout.{mostDays, mostExtras, mostRepeats, mostRunning, latestTime, allFlags};
+ghost use Rattle.timetable.specs.Layout.{kindZ, kindT};
+ghost use Rattle.timetable.specs.Ranges.{inOrder, hasArrival, hasDeparture};
 ghost use Rattle.timetable.specs.Plan.{twoBytes, threeBytes, attributePart, isOpening};
 ghost use Rattle.timetable.specs.Table.{callAt};
 
@@ -164,6 +168,19 @@ pub fn call_at(w: &[u32], at: usize) -> Call
         high: w[at + 5],
         low: w[at + 6],
     }
+}
+
+// Whether its arrival is stated; its departure.
+pub fn has_arrival(call: Call) -> bool
+    ensures { λ r. ⌜ r ≡ hasArrival call ⌝ }
+{
+    call.flags % 2 == 1
+}
+
+pub fn has_departure(call: Call) -> bool
+    ensures { λ r. ⌜ r ≡ hasDeparture call ⌝ }
+{
+    call.flags / 2 % 2 == 1
 }
 
 // ---- offences
@@ -357,13 +374,6 @@ pub const LATEST_TIME: u32 = 59999;
 // Every flag of a call.
 pub const ALL_FLAGS: u32 = 15;
 
-// The words of a service that has as many calls and ranges as it may.
-pub const MOST_SERVICE_WORDS: usize = SERVICE_WORDS
-    + CALL_WORDS * MOST_CALLS as usize
-    + CATEGORY_WORDS * MOST_CATEGORIES as usize
-    + DAYS_WORDS * MOST_DAYS as usize
-    + EXTRA_WORDS * MOST_EXTRAS as usize;
-
 // Whether a range's ends are in order; other *A ranges are loose: from may equal to.
 pub fn in_order(loose: bool, from: u32, to: u32) -> bool
     ensures { λ r. ⌜ r ≡ inOrder loose from to ⌝ }
@@ -376,7 +386,8 @@ pub fn in_order(loose: bool, from: u32, to: u32) -> bool
 
 // The sizes that the contracts name, by the names that the code uses.
 pub fn sizes_tied() -> [usize; 14]
-    ensures { λ r. ⌜ r ≡ headerSize ∷ bitWords ∷ bitFieldSize ∷ stopSize ∷ interchangeSize ∷ classSize ∷ serviceHead ∷ callSize ∷ categorySize ∷ daySize ∷ extraSize ∷ rowSize ∷ helperHead ∷ helperLine ∷ [] ⌝ }
+    ensures { λ r. ⌜ r ≡ headerSize ∷ bitWords ∷ bitFieldSize ∷ stopSize ∷ interchangeSize ∷ classSize ∷ serviceHead
+        ∷ callSize ∷ categorySize ∷ daySize ∷ extraSize ∷ rowSize ∷ helperHead ∷ helperLine ∷ [] ⌝ }
 {
     [
         HEADER_WORDS,
@@ -398,7 +409,8 @@ pub fn sizes_tied() -> [usize; 14]
 
 // The limits and the kinds, in the same way.
 pub fn limits_tied() -> [usize; 13]
-    ensures { λ r. ⌜ r ≡ mostFileBytes ∷ mostPeriodDays ∷ mostClass ∷ mostCalls ∷ mostCategories ∷ mostDays ∷ mostExtras ∷ mostRepeats ∷ mostRunning ∷ latestTime ∷ allFlags ∷ kindZ ∷ kindT ∷ [] ⌝ }
+    ensures { λ r. ⌜ r ≡ mostFileBytes ∷ mostPeriodDays ∷ mostClass ∷ mostCalls ∷ mostCategories ∷ mostDays ∷ mostExtras
+        ∷ mostRepeats ∷ mostRunning ∷ latestTime ∷ allFlags ∷ kindZ ∷ kindT ∷ [] ⌝ }
 {
     [
         MOST_FILE_BYTES,
