@@ -8,8 +8,7 @@ use native.Mathlib.Omega.{arith}
 use lib.ListN.{getD, drop}
 use borrow.Author.Tests.{not-true, not-false, eq-eqb, ne-eqb}
 use Rattle.base.proofs.Laws.{tests}
-use Rattle.bitfield.specs.BitField.{runsOn}
-use Rattle.timetable.specs.Layout.{daySize, mostPeriodDays}
+use Rattle.timetable.specs.Layout.{daySize}
 use Rattle.timetable.specs.Delivery.{DayRange}
 use Rattle.timetable.specs.View.{View}
 use Rattle.timetable.specs.Table.{rowsIn, dayAt}
@@ -61,9 +60,9 @@ module _ (d : View) (k : ℕ) (v : List ℕ) (p left : ℕ) (l r : DayLegs) (x :
   pub say-out : not x ≡ true → (u : DayLegs) → u ≡ unknownLegs → u ≡ r
   say-out n u q = q ∙ (rw (not-true x n) at say-here)
 
-  -- ws are the words that the look-up gave, m what the ranges up to this one say
-  pub say-again : not x ≡ false → k < mostPeriodDays → (ws : List ℕ) → ((c : ℕ) → c < mostPeriodDays → runsOn ws c ≡ d .runs (getD v p 0) c) → (y : Bool) → y ≡ runsOn ws k → (m : DayLegs) → m ≡ withRange y (getD v (p + 1) 0) (getD v (p + 2) 0) l → rangesSay d k m (rowsIn dayAt daySize (left - 1) (drop (p + daySize) v)) ≡ r
-  say-again n g ws f y q m z = rw (z, q ∙ f k g) (rw (not-false x n) at say-here)
+  -- m is what the ranges up to this one say
+  pub say-again : not x ≡ false → (y : Bool) → y ≡ d .runs (getD v p 0) k → (m : DayLegs) → m ≡ withRange y (getD v (p + 1) 0) (getD v (p + 2) 0) l → rangesSay d k m (rowsIn dayAt daySize (left - 1) (drop (p + daySize) v)) ≡ r
+  say-again n y q m z = rw (z, q) (rw (not-false x n) at say-here)
 
 pub say-start : (d : View) (k n : ℕ) (v : List ℕ) (l : DayLegs) → l ≡ noLegs → rangesSay d k l (rowsIn dayAt daySize n (drop 0 v)) ≡ rangesSay d k noLegs (rowsIn dayAt daySize n v)
 say-start d k n v l e = rw e

@@ -5,7 +5,7 @@ use Rattle.timetable.specs.Layout.{daySize}
 use Rattle.timetable.specs.Table.{rowsIn, dayAt}
 use Rattle.index.specs.Index.{viewIn}
 use Rattle.legs.specs.Inner.Turn.{noLegs, rangesSay}
-use Rattle.legs.proofs.Turn.{turn}
+use Rattle.legs.proofs.Turn.{turn, say-again}
 use Rattle.legs.proofs.day_legs.Statement.{statement}
 use Rattle.legs.proofs.day_legs.Tie as tie
 
@@ -21,14 +21,14 @@ no-legs-requires c κs = search turn
 loop-holds : tie.Need-loop-holds Inv-loop μ-loop
 loop-holds c = search turn
 
-mul-field-words : tie.Need-mul-field-words Inv-loop μ-loop
-mul-field-words c = search turn
+mul-field-day : tie.Need-mul-field-day Inv-loop μ-loop
+mul-field-day c = search turn
 
-shared-slice-read-field-words : tie.Need-shared-slice-read-field-words Inv-loop μ-loop
-shared-slice-read-field-words c = search turn
+shared-slice-read-field-day : tie.Need-shared-slice-read-field-day Inv-loop μ-loop
+shared-slice-read-field-day c = search turn
 
-field-words-requires : tie.Need-field-words-requires Inv-loop μ-loop
-field-words-requires c κs = search turn
+field-day-requires : tie.Need-field-day-requires Inv-loop μ-loop
+field-day-requires c κs = search turn
 
 unknown-legs-requires : tie.Need-unknown-legs-requires Inv-loop μ-loop
 unknown-legs-requires c κs = search turn
@@ -54,9 +54,6 @@ mul-with-range-2 c = search turn
 shared-slice-read-with-range-2 : tie.Need-shared-slice-read-with-range-2 Inv-loop μ-loop
 shared-slice-read-with-range-2 c = search turn
 
-field-runs-requires : tie.Need-field-runs-requires Inv-loop μ-loop
-field-runs-requires c κs = search turn
-
 with-range-requires : tie.Need-with-range-requires Inv-loop μ-loop
 with-range-requires c κs = search turn
 
@@ -70,7 +67,13 @@ loop-less : tie.Need-loop-less Inv-loop μ-loop
 loop-less c = search turn
 
 loop-again : tie.Need-loop-again Inv-loop μ-loop
-loop-again c = search turn
+loop-again c =
+    let met = c .before .before .before .before .before in
+    let turned = met .before .before .before in
+    let given = turned .before .before .before .before .before .args in (
+      search turn,
+      say-again (viewIn (given .w .now) (given .x .now)) (given .k) (given .v .now) (turned .loop .p) (turned .loop .left) (turned .loop .seen) _ _ (met .before .before .loop-test .taken) (met .field-day .ensures .0) (turned .loop .inv .1) (c .before .before .before .if1 .left) _ (met .field-day .ensures .1) _ (c .with-range .ensures),
+    )
 
 returns-2 : tie.Need-returns-2 Inv-loop μ-loop
 returns-2 c = search turn
@@ -83,9 +86,9 @@ day-legs-spec =
     μ-loop
     no-legs-requires
     loop-holds
-    mul-field-words
-    shared-slice-read-field-words
-    field-words-requires
+    mul-field-day
+    shared-slice-read-field-day
+    field-day-requires
     unknown-legs-requires
     returns
     add-with-range
@@ -94,7 +97,6 @@ day-legs-spec =
     add-with-range-2
     mul-with-range-2
     shared-slice-read-with-range-2
-    field-runs-requires
     with-range-requires
     add-p
     sub-left
