@@ -96,17 +96,17 @@ module _ (w x : List ℕ) (places i j : ℕ) (h : Shelved w x places) (a : j ≡
   shelf-past l = omega (arith, h .from, h .long)
 
   module _ (l : places + j < length x) where
-    shelf-some : i < services# w
+    pub shelf-some : i < services# w
     shelf-some = omega (arith, h .from, h .long)
 
-    shelf-place : (at : ℕ) → at ≡ getD x (places + j) 0 → at ≡ recordPlaceIn w x i
+    pub shelf-place : (at : ℕ) → at ≡ getD x (places + j) 0 → at ≡ recordPlaceIn w x i
     unfolding recordPlaceIn
     shelf-place at e = e ∙ rw (ne-eqb (length x) 0 (λ z. absurd (omega arith)), ← (h .from), a)
 
 -- ---- the first look
 
 module _ (w x : List ℕ) (places t u i p j : ℕ) (h : Shelved w x places) (a : j ≡ i) where
-  past-none : length x ≤ places + j → (n k : ℕ) → departuresAt (viewIn w x) n k t u i p ≡ []
+  pub past-none : length x ≤ places + j → (n k : ℕ) → departuresAt (viewIn w x) n k t u i p ≡ []
   unfolding departuresAt viewIn recordIn
   past-none l n k = rw (le-ltb i (services# w) (shelf-past w x places i j h a l))
 

@@ -1,3 +1,5 @@
 pub mod Interval
 pub mod Needs
 pub mod Hidden
+pub mod Plain
+pub mod Goes

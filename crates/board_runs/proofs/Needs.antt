@@ -182,6 +182,11 @@ pub ruleset stops = (tests, stop-other, stop-same)
 
 -- ---- a record, and a service
 
+module _ (v : View) (s : List ℕ) (n k t u i p : ℕ) (b : Batch) where
+  pub record-idle : leaves (courseOn v (serviceAt s) k) p ≡ false → Batched b [] → Batched b (placeDepartures v n k t u i (withStops (v .shown) (serviceAt s)) p)
+  unfolding shownBy serviceAt
+  record-idle e g = rw (ap (λ (c : Course). leaves c p) (on-shown v (serviceAt s) k) ∙ e) g
+
 module _ (v : View) (s : List ℕ) (n k t u i p : ℕ) (b : Batch) (g : Batched b (callDepartures n t u i (openingAt s) p (getElem? (withStops (v .shown) (serviceAt s) .calls) p))) where
   abbrev Placed : Batch → Type 0
   Placed b = Batched b (placeDepartures v n k t u i (withStops (v .shown) (serviceAt s)) p)
@@ -197,39 +202,12 @@ module _ (v : View) (s : List ℕ) (n k t u i p : ℕ) (b : Batch) (g : Batched 
   unfolding serviceAt
   placed-by y e = ap (λ (c : Course). cond (leaves c p) (callDepartures n t u i (openingAt s) p (getElem? (withStops (v .shown) (serviceAt s) .calls) p)) []) shown-course ∙ ap by e
 
-  pub record-none : b .high ≤ b .low → Batched b (placeDepartures v n k t u i (withStops (v .shown) (serviceAt s)) p)
-  unfolding upto
-  record-none h =
-      let z : b .high - b .low ≡ 0 = omega arith in
-      let none : batchRows b ≡ [] = rw z in
-      record { rows = none ∙ either (leaves (courseOn v (serviceAt s) k) p) refl (sym none ∙ g .rows); sound = g .sound; there = g .there; early = g .early }
-    where
-      either : (y : Bool) → leaves (courseOn v (serviceAt s) k) p ≡ y → [] ≡ callDepartures n t u i (openingAt s) p (getElem? (withStops (v .shown) (serviceAt s) .calls) p) → [] ≡ placeDepartures v n k t u i (withStops (v .shown) (serviceAt s)) p
-      either true e f = f ∙ sym (placed-by true e)
-      either false e f = sym (placed-by false e)
-
   module _ (c : Course) (y : Bool) (q : c ≡ courseOn v (serviceAt s) k) (r : y ≡ leaves c p) where
     goes : leaves (courseOn v (serviceAt s) k) p ≡ y
     goes = ap (λ (c : Course). leaves c p) (sym q) ∙ sym r
 
-    pub record-stays : (d : Batch) → not y ≡ true → Batched d [] → Batched d (placeDepartures v n k t u i (withStops (v .shown) (serviceAt s)) p)
-    record-stays d h f = rw (placed-by y goes, not-true y h) f
-
     pub record-goes : not y ≡ false → Batched b (placeDepartures v n k t u i (withStops (v .shown) (serviceAt s)) p)
     record-goes h = rw (placed-by y goes, not-false y h) g
-
-pub ruleset records = (tests, sized, record-none, record-stays, record-goes)
-
-module _ (w x : List ℕ) (n k t u i p : ℕ) (r : ServiceRecord) (e : r ≡ recordIn w x i) (b : Batch) where
-  pub found-none : (number : ℕ) → r ≡ RecordRefused number → Batched b [] → Batched b (departuresAt (viewIn w x) n k t u i p)
-  unfolding departuresAt
-  found-none number g f = rw (record-refused w x i r e number g) f
-
-  pub found-some : (at : ℕ) (s : List ℕ) → r ≡ From at → s ≡ drop at w → Batched b (placeDepartures (viewIn w x) n k t u i (withStops (viewIn w x .shown) (serviceAt s)) p) → Batched b (departuresAt (viewIn w x) n k t u i p)
-  unfolding departuresAt
-  found-some at s g d f = rw (record-service w x i r e at g s d) f
-
-pub ruleset services = (tests, record-within, record-sound, found-none, found-some)
 
 -- ---- how many, and their rows
 

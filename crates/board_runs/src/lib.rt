@@ -1,14 +1,20 @@
 // The departures from one call of a service: which runs they are, by arithmetic and one look at the day's course, and their rows.
 // `w` are words with a sound header, `x` an index of look-ups, or none.
-use index::ServiceRecord;
 use sort::ROW_WORDS;
+use timetable::ALL_FLAGS;
 use timetable::CALL_WORDS;
 use timetable::CALLS_AT;
+use timetable::CATEGORIES_AT;
+use timetable::CATEGORY_WORDS;
 use timetable::Call;
 use timetable::Course;
+use timetable::DAYS_AT;
+use timetable::DAYS_WORDS;
+use timetable::LATEST_TIME;
 use timetable::Opening;
 use timetable::REPEATS_AT;
 use timetable::SERVICE_WORDS;
+use timetable::STOPS_AT;
 ghost use mathlib.Core.Path.{_≡_};
 ghost use mathlib.Core.List.{[], map};
 ghost use mathlib.Core.Bool.{true, _&&_};
@@ -18,13 +24,14 @@ ghost use lib.Dec.{eqb, leb, ltb};
 ghost use Rattle.base.specs.Lists.{gathered, upto};
 ghost use Rattle.timetable.specs.Layout.{mostPeriodDays, serviceHead, callSize, latestTime};
 ghost use Rattle.timetable.specs.Runs.{openingSound};
-ghost use Rattle.timetable.specs.Table.{stops#, callAt, openingAt, serviceAt, withStops, recordSound};
+ghost use Rattle.timetable.specs.Table.{stops#, calls#, callAt, openingAt, serviceAt, withStops, sizesSound, recordSound};
 ghost use Rattle.words.specs.Words.{write};
 ghost use Rattle.index.specs.Index.{Ready, viewIn};
 ghost use Rattle.sort.specs.Rows.{boardRowSize, boardRowWords};
 ghost use Rattle.spans.specs.Spans.{runs#};
-ghost use Rattle.board.specs.Board.{boardable, departureOf, runsFrom, callDepartures, leaves, placeDepartures};
+ghost use Rattle.board.specs.Board.{boardable, departureOf, runsFrom, callDepartures, leaves};
 ghost use Rattle.board_runs.specs.Batch.{departuresAt, batchRows, Batched, Shelved, outside, Quiet, AtMost, MostFrom};
+ghost use Rattle.board_runs.specs.Inner.Plain.{recordDepartures, goesFrom, goesAlong, unrefused, opensPlain, passesPlain, endsPlain, twoPlain, fourPlain, laterPlain, callsPlain, Opened, DaysInTurn, PlainSays};
 
 // Departures from one place of a service's route: of the runs from `low` on and below `high`, where run 0 leaves at `departure`.
 pub struct Batch {
@@ -38,15 +45,30 @@ pub struct Batch {
 
 // ---- which runs
 
-// From place p of the i-th service, where that is at stop n, on day k of the period, within two minutes of the day.
-pub fn runs_at(w: &[u32], x: &[u32], n: u32, k: u32, first: u32, last: u32, i: u32, p: u32) -> Batch
-    requires { ⌜ Ready (now w) (now x) × (k < mostPeriodDays) ⌝ }
+// From place p of the i-th service, where that is at stop n, on day k of the period, within two minutes of the day; the places of the services begin at `places` of
+// the index.
+pub fn runs_at(
+    w: &[u32],
+    x: &[u32],
+    places: usize,
+    n: u32,
+    k: u32,
+    first: u32,
+    last: u32,
+    i: u32,
+    p: u32,
+) -> Batch
+    requires { ⌜ Shelved (now w) (now x) places × (k < mostPeriodDays) ⌝ }
     ensures { λ r. ⌜ Batched r (departuresAt (viewIn (now (w .entry)) (now (x .entry))) n k first last i p) ⌝ }
 {
-    let record = index::service_record(w, x, i);
-    let ServiceRecord::From(at) = record else {
+    let place = places + wide(i);
+    if x.len() <= place {
         return no_runs();
-    };
+    }
+    let at = wide(x[place]);
+    if w.len() < at {
+        return no_runs();
+    }
     record_runs(w, x, index::words_from(w, at), n, k, first, last, i, p)
 }
 
@@ -136,7 +158,8 @@ fn wide(x: u32) -> usize
     x as usize
 }
 
-// Of the service whose record stands at the front of `s`: none where the day's course does not go on from there.
+// Of the service whose record stands at the front of `s`: none where that is not sound, or where the day's course does not go on from there. What is looked at in a
+// moment comes first, the calls of the record last.
 fn record_runs(
     w: &[u32],
     x: &[u32],
@@ -149,17 +172,234 @@ fn record_runs(
     p: u32,
 ) -> Batch
     requires { ⌜ Ready (now w) (now x) × (k < mostPeriodDays) ⌝ }
-    requires { ⌜ recordSound (stops# (now w)) (now s) ≡ true ⌝ }
-    ensures { λ r. ⌜ Batched r (placeDepartures (viewIn (now (w .entry)) (now (x .entry))) n k first last i (withStops (viewIn (now (w .entry)) (now (x .entry)) .shown) (serviceAt (now (s .entry)))) p) ⌝ }
+    ensures { λ r. ⌜ Batched r (recordDepartures (viewIn (now (w .entry)) (now (x .entry))) (stops# (now (w .entry))) n k first last i (now (s .entry)) p) ⌝ }
 {
-    let b = call_runs(w, x, s, n, first, last, i, p);
-    if b.high <= b.low {
-        return b;
-    }
-    if !goes_on(course::course_on(w, x, s, k), p) {
+    if !table::sizes_sound(s) {
         return no_runs();
     }
-    b
+    if !runs::opening_sound(table::opening_at(s)) {
+        return no_runs();
+    }
+    if !goes_from(w, x, s, k, p) {
+        return no_runs();
+    }
+    call_runs(w, x, s, n, first, last, i, p)
+}
+
+// ---- whether the record is sound, and the day's course goes on
+
+// From place p, by the operating-day ranges: where they follow each other the day's stretch is known before the calls are looked at.
+fn goes_from(w: &[u32], x: &[u32], s: &[u32], k: u32, p: u32) -> bool
+    requires { ⌜ Ready (now w) (now x) × (k < mostPeriodDays) ⌝ }
+    requires { ⌜ Opened (now s) ⌝ }
+    ensures { λ r. ⌜ r ≡ goesFrom (viewIn (now (w .entry)) (now (x .entry))) (stops# (now (w .entry))) (now (s .entry)) k p ⌝ }
+{
+    let v = legs::day_words(s);
+    let n = s[DAYS_AT];
+    if !cover::in_turn(v, n, DAYS_WORDS, s[CALLS_AT] - 1) {
+        return goes_slowly(w, x, s, k, p);
+    }
+    let day = legs::day_legs(w, x, v, n, k);
+    if !day.known {
+        return false;
+    }
+    goes_along(s, w[STOPS_AT], day.start, day.end, day.again, p)
+}
+
+// Whatever its ranges.
+fn goes_slowly(w: &[u32], x: &[u32], s: &[u32], k: u32, p: u32) -> bool
+    requires { ⌜ Ready (now w) (now x) × (k < mostPeriodDays) ⌝ }
+    ensures { λ r. ⌜ r ≡ goesFrom (viewIn (now (w .entry)) (now (x .entry))) (stops# (now (w .entry))) (now (s .entry)) k p ⌝ }
+{
+    if !table::record_sound(s, w[STOPS_AT]) {
+        return false;
+    }
+    goes_on(course::course_on(w, x, s, k), p)
+}
+
+// Where the day's first stretch begins and ends, and where another begins.
+fn goes_along(s: &[u32], stops: u32, start: u32, end: u32, again: u32, p: u32) -> bool
+    requires { ⌜ DaysInTurn (now s) ⌝ }
+    requires { ⌜ (start ≤ end) × (end ≤ calls# (now s) - 1) ⌝ }
+    ensures { λ r. ⌜ r ≡ goesAlong stops (now (s .entry)) start end again p ⌝ }
+{
+    if p < start {
+        return false;
+    }
+    if end <= p {
+        return false;
+    }
+    if again < s[CALLS_AT] - 1 {
+        return false;
+    }
+    if is_plain(s, stops) {
+        return true;
+    }
+    stands(s, stops, start, end - start)
+}
+
+// Whether the record is sound, and no call of a stretch is refused.
+fn stands(s: &[u32], stops: u32, start: u32, legs: u32) -> bool
+    requires { ⌜ sizesSound (now s) ≡ true ⌝ }
+    requires { ⌜ start + legs < calls# (now s) ⌝ }
+    ensures { λ r. ⌜ r ≡ (recordSound stops (now (s .entry)) && unrefused (now (s .entry)) start legs) ⌝ }
+{
+    if !table::record_sound(s, stops) {
+        return false;
+    }
+    rows::calls_refusal(s, start, legs) == 0
+}
+
+// ---- one look at a record as nearly all are: its ranges follow each other, both times of each call between the first and the last are stated, and no time falls. Then it is
+// sound, and no call of any stretch is refused.
+
+fn is_plain(s: &[u32], stops: u32) -> bool
+    requires { ⌜ DaysInTurn (now s) ⌝ }
+    ensures { λ r. ⌜ PlainSays stops (now (s .entry)) r ⌝ }
+{
+    let g = rows::category_words(s);
+    if !cover::in_turn(g, s[CATEGORIES_AT], CATEGORY_WORDS, s[CALLS_AT] - 1) {
+        return false;
+    }
+    if !table::extras_sound(s) {
+        return false;
+    }
+    calls_plain(s, stops)
+}
+
+// Of the calls: the first has a departure, and its arrival is not bound by the order.
+fn calls_plain(s: &[u32], stops: u32) -> bool
+    requires { ⌜ sizesSound (now s) ≡ true ⌝ }
+    ensures { λ r. ⌜ r ≡ callsPlain stops (now (s .entry)) ⌝ }
+{
+    let first = timetable::call_at(s, SERVICE_WORDS);
+    if !opens(first, stops) {
+        return false;
+    }
+    later_plain(s, stops, s[CALLS_AT] - 2, first.departure)
+}
+
+// Of the calls after the first, which leaves at `departure`: `left` calls between, and the last. Four calls a turn: most of a board's instructions go here.
+fn later_plain(s: &[u32], stops: u32, left: u32, departure: u32) -> bool
+    requires { ⌜ serviceHead + callSize * (left + 2) ≤ length (now s) ⌝ }
+    ensures { λ r. ⌜ r ≡ laterPlain stops left departure (drop (serviceHead + callSize) (now (s .entry))) ⌝ }
+{
+    let mut p = SERVICE_WORDS + CALL_WORDS;
+    let mut k = left;
+    let mut before = departure;
+    while 3 < k {
+        if !four_pass(s, p, stops, before) {
+            return false;
+        }
+        before = s[p + FOURTH_DEPARTURE];
+        p += 4 * CALL_WORDS;
+        k -= 4;
+    }
+    few_plain(s, p, stops, k, before)
+}
+
+// How far behind a call the departures of the second and the fourth from it on stand.
+const SECOND_DEPARTURE: usize = CALL_WORDS + 2;
+
+const FOURTH_DEPARTURE: usize = 3 * CALL_WORDS + 2;
+
+// Of those from a place on.
+fn few_plain(s: &[u32], from: usize, stops: u32, left: u32, departure: u32) -> bool
+    requires { ⌜ from + callSize * (left + 1) ≤ length (now s) ⌝ }
+    ensures { λ r. ⌜ r ≡ laterPlain stops left departure (drop from (now (s .entry))) ⌝ }
+{
+    let mut p = from;
+    let mut k = left;
+    let mut before = departure;
+    while 0 < k {
+        let call = timetable::call_at(s, p);
+        if !passes(call, stops, before) {
+            return false;
+        }
+        before = call.departure;
+        p += CALL_WORDS;
+        k -= 1;
+    }
+    ends(timetable::call_at(s, p), stops, before)
+}
+
+// Four calls between.
+fn four_pass(s: &[u32], p: usize, stops: u32, before: u32) -> bool
+    requires { ⌜ p + 28 ≤ length (now s) ⌝ }
+    ensures { λ r. ⌜ r ≡ fourPlain stops before (drop p (now (s .entry))) ⌝ }
+{
+    if !two_pass(s, p, stops, before) {
+        return false;
+    }
+    two_pass(s, p + 2 * CALL_WORDS, stops, s[p + SECOND_DEPARTURE])
+}
+
+fn two_pass(s: &[u32], p: usize, stops: u32, before: u32) -> bool
+    requires { ⌜ p + 14 ≤ length (now s) ⌝ }
+    ensures { λ r. ⌜ r ≡ twoPlain stops before (drop p (now (s .entry))) ⌝ }
+{
+    let call = timetable::call_at(s, p);
+    if !passes(call, stops, before) {
+        return false;
+    }
+    passes(timetable::call_at(s, p + CALL_WORDS), stops, call.departure)
+}
+
+// The first call.
+fn opens(c: Call, stops: u32) -> bool
+    ensures { λ r. ⌜ r ≡ opensPlain stops c ⌝ }
+{
+    if stops <= c.stop {
+        return false;
+    }
+    if LATEST_TIME < c.arrival {
+        return false;
+    }
+    if ALL_FLAGS < c.flags {
+        return false;
+    }
+    c.flags / 2 % 2 == 1
+}
+
+// A call between: since times do not fall, only the last has to be compared with the latest.
+fn passes(c: Call, stops: u32, before: u32) -> bool
+    ensures { λ r. ⌜ r ≡ passesPlain stops before c ⌝ }
+{
+    if stops <= c.stop {
+        return false;
+    }
+    if c.arrival < before {
+        return false;
+    }
+    if c.departure < c.arrival {
+        return false;
+    }
+    if ALL_FLAGS < c.flags {
+        return false;
+    }
+    c.flags % 4 == 3
+}
+
+// The last call: its departure is not bound by the order.
+fn ends(c: Call, stops: u32, before: u32) -> bool
+    ensures { λ r. ⌜ r ≡ endsPlain stops before c ⌝ }
+{
+    if stops <= c.stop {
+        return false;
+    }
+    if c.arrival < before {
+        return false;
+    }
+    if LATEST_TIME < c.arrival {
+        return false;
+    }
+    if LATEST_TIME < c.departure {
+        return false;
+    }
+    if ALL_FLAGS < c.flags {
+        return false;
+    }
+    c.flags % 2 == 1
 }
 
 // Whether a course goes on from place p of the route.
@@ -183,7 +423,9 @@ fn is_left(start: u32, legs: u32, p: u32) -> bool
     p - start < legs
 }
 
-// By the call alone, whatever the course.
+// ---- by the call alone
+
+// Whatever the course.
 fn call_runs(
     w: &[u32],
     x: &[u32],

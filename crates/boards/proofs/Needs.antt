@@ -430,7 +430,7 @@ module _ (w x y : List ℕ) (l : Lends w x y) where
   pub lends-heads : stops# w ≤ length y
   lends-heads = l .heads
 
-pub ruleset tolds = (tests, lends-word, lends-ready, lends-heads, told-first, told-inside, told-some, told-low, told-long, told-last, told-end, told-room, told-turn)
+pub ruleset tolds = (tests, lends-head, lends-word, lends-shelved, lends-heads, told-first, told-inside, told-some, told-low, told-long, told-last, told-end, told-room, told-turn)
 
 module _ (w x y : List ℕ) (end s from n k t u : ℕ) (c : Cursor) (a : end ≡ sectionEnd (stopSection w)) (b : s ≡ getD w 4 0) (d : from ≡ stopsFrom w)
     (m : ℕ) (z : m ≡ getD w 0 0) (q : leftAt w x y end s from n c ≡ take m (callsBy w x y end s from n)) where

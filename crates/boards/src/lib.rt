@@ -322,7 +322,7 @@ fn count_call(
     if gives_none(w, x, y, s, places, first, last, e) {
         return 0;
     }
-    let b = call_batch(w, x, y, s, n, k, first, last, e);
+    let b = call_batch(w, x, y, s, places, n, k, first, last, e);
     board_runs::batch_size(b)
 }
 
@@ -332,19 +332,20 @@ fn call_batch(
     x: &[u32],
     y: &[u32],
     s: u32,
+    places: usize,
     n: u32,
     k: u32,
     first: u32,
     last: u32,
     e: u32,
 ) -> Batch
-    requires { ⌜ Ready (now w) (now x) × (k < mostPeriodDays) ⌝ }
+    requires { ⌜ Shelved (now w) (now x) places × (k < mostPeriodDays) ⌝ }
     requires { ⌜ (s ≤ length (now y)) × (0 < e) × (e ≤ entries# s (now y)) ⌝ }
     ensures { λ r. ⌜ Batched r (entryDepartures (viewIn (now (w .entry)) (now (x .entry))) s (now (y .entry)) n k first last e) ⌝ }
 {
     let i = stop_calls::entry_word(y, s, 1, e);
     let p = stop_calls::entry_word(y, s, 3, e);
-    board_runs::runs_at(w, x, n, k, first, last, i, p)
+    board_runs::runs_at(w, x, places, n, k, first, last, i, p)
 }
 
 // ---- written
@@ -428,7 +429,7 @@ fn put_call(
     if gives_none(w, x, y, s, places, first, last, e) {
         return to;
     }
-    put_rows(w, x, y, s, n, k, first, last, e, list, to)
+    put_rows(w, x, y, s, places, n, k, first, last, e, list, to)
 }
 
 // The same, where its record is checked.
@@ -437,6 +438,7 @@ fn put_rows(
     x: &[u32],
     y: &[u32],
     s: u32,
+    places: usize,
     n: u32,
     k: u32,
     first: u32,
@@ -445,13 +447,13 @@ fn put_rows(
     list: &mut [u32],
     to: usize,
 ) -> usize
-    requires { ⌜ Ready (now w) (now x) × (k < mostPeriodDays) ⌝ }
+    requires { ⌜ Shelved (now w) (now x) places × (k < mostPeriodDays) ⌝ }
     requires { ⌜ (s ≤ length (now y)) × (0 < e) × (e ≤ entries# s (now y)) ⌝ }
     requires { ⌜ to + boardRowSize * length (entryDepartures (viewIn (now w) (now x)) s (now y) n k first last e) ≤ length (now list) ⌝ }
     ensures end { λ r. ⌜ r ≡ to + boardRowSize * length (entryDepartures (viewIn (now (w .entry)) (now (x .entry))) s (now (y .entry)) n k first last e) ⌝ }
     ensures words { λ _. ⌜ now (list .exit) ≡ write (now (list .entry)) to (gathered boardRowWords (entryDepartures (viewIn (now (w .entry)) (now (x .entry))) s (now (y .entry)) n k first last e)) ⌝ }
 {
-    let b = call_batch(w, x, y, s, n, k, first, last, e);
+    let b = call_batch(w, x, y, s, places, n, k, first, last, e);
     board_runs::put_batch(list, to, b)
 }
 
@@ -477,10 +479,11 @@ fn put_kept(
     ensures words { λ _. ⌜ now (list .exit) ≡ write (now (list .entry)) 0 (gathered boardRowWords (departuresBy (now (w .entry)) (now (x .entry)) (now (y .entry)) n k first last)) ⌝ }
 {
     let s = w[STOPS_AT];
+    let places = index::services_from(w);
     let mut j: usize = 0;
     let mut to: usize = 0;
     while j < m {
-        to = put_rows(w, x, y, s, n, k, first, last, kept[j], list, to);
+        to = put_rows(w, x, y, s, places, n, k, first, last, kept[j], list, to);
         j += 1;
     }
     to / ROW_WORDS

@@ -16,7 +16,7 @@ use Rattle.timetable.specs.Runs.{openingSound}
 use Rattle.timetable.specs.Table.{rowsIn, openingAt, callAt, legsAt, wordCountIn, calls#, categories#, days#, extras#, categoryPlace, dayPlace, extraPlace, serviceAt, classAt, usedWords, stops#, services#, servicesPlace, classes#, used, tableOf, classSound, callSound, legsSound, serviceSound, countsSound, sizesSound, recordSound, recordsSound, isTable}
 use Rattle.timetable.specs.declared.Opening.{Opening}
 use Rattle.timetable.proofs.Rows.{rows-again, rows-out, rows-done}
-use Rattle.table.specs.JustTable.{recordEnd, headerSound, classesPlace}
+use Rattle.table.specs.JustTable.{recordEnd, headerSound, classesPlace, extrasSound}
 use Rattle.table.proofs.Says.{Sizes, sizes-say, record-says, service-parts, HeadOf, header-says, header-word, table-says, table-word}
 
 -- ---- the length of a record: said is its first word, y what its counts make it
@@ -69,6 +69,13 @@ module _ (stops : ℕ) (w : List ℕ) (o : Opening) (a : o ≡ openingAt w) (t :
         parts-extras o p l r q = sym (after-categories ∙ rw (not-false z o, q, l))
 
 pub ruleset parts = (tests, parts-opening, parts-calls, parts-categories, parts-days, parts-extras)
+
+-- its other *A alone, from p on
+pub extras-are : (w : List ℕ) (p : ℕ) → p ≡ extraPlace w → (r : Bool) → r ≡ every (legsSound true (calls# w)) (rowsIn (legsAt 2) extraSize (extras# w) (drop p w))
+    → r ≡ extrasSound w
+extras-are w p e r q = rw e at q
+
+pub ruleset extras = (tests, extras-are)
 
 -- ---- one record; x says whether its sizes are sound
 

@@ -3,9 +3,10 @@ use Prim.Native.Nat.{ℕ, _+_, _*_}
 use mathlib.Core.Path.{_≡_}
 use mathlib.Core.List.{List}
 use mathlib.Core.Bool.{Bool, true}
-use lib.ListN.{length}
-use Rattle.timetable.specs.Layout.{headerSize, bitFieldSize, stopSize, interchangeSize, recordSize}
-use Rattle.timetable.specs.Table.{usedWords, firstDay, periodDays, bitFields#, stops#, interchanges#, servicesPlace, classes#, calls#, categories#, days#, extras#, headSound, isTable}
+use lib.ListN.{length, drop}
+use Rattle.base.specs.Lists.{every}
+use Rattle.timetable.specs.Layout.{headerSize, bitFieldSize, stopSize, interchangeSize, extraSize, recordSize}
+use Rattle.timetable.specs.Table.{usedWords, firstDay, periodDays, bitFields#, stops#, interchanges#, servicesPlace, classes#, calls#, categories#, days#, extras#, rowsIn, legsAt, extraPlace, legsSound, headSound, isTable}
 
 -- the words of a table, and no later ones
 pub record JustTable (w : List ℕ) : Type 0 where
@@ -29,3 +30,7 @@ classesPlace w = interchangesPlace w + interchangeSize * interchanges# w
 -- where the record at the front of the words ends, by its counts
 abbrev pub recordEnd : List ℕ → ℕ
 recordEnd w = recordSize (calls# w) (categories# w) (days# w) (extras# w)
+
+-- its other *A are sound
+abbrev pub extrasSound : List ℕ → Bool
+extrasSound w = every (legsSound true (calls# w)) (rowsIn (legsAt 2) extraSize (extras# w) (drop (extraPlace w) w))

@@ -51,7 +51,7 @@ ghost use Rattle.timetable.specs.Table.{wordCountIn, rowsIn, legsAt, classAt, c
 ghost use Rattle.timetable.specs.Table.{categoryPlace, dayPlace, extraPlace, used, tableOf, classSound, callSound};
 ghost use Rattle.timetable.specs.Table.{legsSound, serviceSound, countsSound, sizesSound, recordSound, recordsSound};
 ghost use Rattle.timetable.specs.Table.{headSound, isTable};
-ghost use Rattle.table.specs.JustTable.{recordEnd, headerSound, classesPlace};
+ghost use Rattle.table.specs.JustTable.{recordEnd, headerSound, classesPlace, extrasSound};
 
 // The day after 31.12.2199.
 const AFTER_LAST_DAY: u64 = calendar::LAST_DAY as u64 + 1;
@@ -231,7 +231,7 @@ pub fn record_sound(w: &[u32], stops: u32) -> bool
 }
 
 // Whether its counts are in their bounds, and it is as long as it says.
-fn sizes_sound(w: &[u32]) -> bool
+pub fn sizes_sound(w: &[u32]) -> bool
     ensures { λ r. ⌜ r ≡ sizesSound (now (w .entry)) ⌝ }
 {
     if w.len() < SERVICE_WORDS {
@@ -312,6 +312,14 @@ fn service_sound(w: &[u32], stops: u32) -> bool
         return false;
     }
     ranges_sound(w, extra_place(w), w[EXTRAS_AT], 2, true, c)
+}
+
+// Whether its other *A are sound, of a record with sound sizes: for a look at a record that does without the others.
+pub fn extras_sound(w: &[u32]) -> bool
+    requires { ⌜ recordEnd (now w) ≤ length (now w) ⌝ }
+    ensures { λ r. ⌜ r ≡ extrasSound (now (w .entry)) ⌝ }
+{
+    ranges_sound(w, extra_place(w), w[EXTRAS_AT], 2, true, w[CALLS_AT])
 }
 
 // ---- the sections of a record

@@ -1,17 +1,20 @@
 use Prim.Native.Nat.{_-_}
 use Rattle.boards.specs.ByWords.{PuttingKept}
-use Rattle.boards.proofs.Needs.{tolds}
+use Rattle.boards.proofs.Needs.{tolds, told-room}
 use Rattle.boards.proofs.put_kept.Statement.{statement}
 use Rattle.boards.proofs.put_kept.Tie as tie
 
 abbrev Inv-loop : tie.InvT-loop
-Inv-loop w x y n k first last list₀ kept m s j₀ to₀ list j to = PuttingKept w x y n k first last kept m list₀ list j to
+Inv-loop w x y n k first last list₀ kept m s places j₀ to₀ list j to = PuttingKept w x y n k first last kept m list₀ list j to
 
 abbrev μ-loop : tie.MeasureT-loop
-μ-loop w x y n k first last list₀ kept m s j₀ to₀ list j to = m - j
+μ-loop w x y n k first last list₀ kept m s places j₀ to₀ list j to = m - j
 
 shared-slice-read-s : tie.Need-shared-slice-read-s Inv-loop μ-loop
 shared-slice-read-s c = search tolds
+
+services-from-requires : tie.Need-services-from-requires Inv-loop μ-loop
+services-from-requires c κs = search tolds
 
 loop-holds : tie.Need-loop-holds Inv-loop μ-loop
 loop-holds c = search tolds
@@ -23,7 +26,15 @@ shared-slice-read-put-rows : tie.Need-shared-slice-read-put-rows Inv-loop μ-loo
 shared-slice-read-put-rows c = search tolds
 
 put-rows-requires : tie.Need-put-rows-requires Inv-loop μ-loop
-put-rows-requires c κs = ((search tolds, search tolds), ((search tolds, search tolds, search tolds), search tolds))
+put-rows-requires c κs =
+    let turned = c .before .before .before in
+    let start = turned .before .before .before .before .before .before .before .before in (
+      (search tolds, search tolds),
+      (
+        (search tolds, search tolds, search tolds),
+        told-room _ _ _ _ _ _ _ _ _ (start .pre .1 .0) _ _ _ _ (turned .loop .inv) (c .before .before .loop-test .taken) (start .pre .1 .1),
+      ),
+    )
 
 add-j : tie.Need-add-j Inv-loop μ-loop
 add-j c = search tolds
@@ -47,6 +58,7 @@ put-kept-spec =
     Inv-loop
     μ-loop
     shared-slice-read-s
+    services-from-requires
     loop-holds
     mul-put-rows
     shared-slice-read-put-rows
