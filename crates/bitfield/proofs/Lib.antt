@@ -1,6 +1,6 @@
 pub mod Fill
-pub mod Frame
 pub mod Sets
+pub mod Frame
 pub mod Hex
 pub mod Pack
 pub mod Meaning

@@ -6,7 +6,7 @@ use Prim.Native.Nat.{ℕ, zero, suc, _+_, _*_, _≤_, _<_}
 use native.Mathlib.Omega.{arith}
 use lib.ListN.{length, getD, take, drop, set, length-drop}
 use Rattle.base.specs.Lists.{every}
-use Rattle.base.proofs.Laws.{tests}
+use Rattle.base.proofs.Laws.{clash, tests}
 use Rattle.base.proofs.Loops.{and-true}
 use Rattle.columns.specs.Columns.{padTo, columns, isHex, hexValue, isOf}
 use Rattle.columns.specs.declared.ByteClass.the-variants.{Hex}
@@ -51,10 +51,21 @@ module _ (line : List ℕ) (i w : ℕ) (m : 103 ≤ length line) (h : i < bitWor
   pub word-is : (x : ℕ) → x ≡ hexadecimal (map hexValue (bytesOf 8 w)) → x ≡ getD (bitsIn line) i 0
   word-is x d = d ∙ digits-hex 0 (bytesOf 8 w) ∙ ap (hexFrom 0) (sym bytes-are) ∙ sym (word-in line i h)
 
+-- blanks behind a short line are no hex digits
+hex-reaches : (w : ℕ) (l : List ℕ) → every isHex (padTo w l) ≡ true → w ≤ length l
+unfolding every padTo
+hex-reaches zero l e = omega arith
+hex-reaches (suc w) [] e = clash e
+hex-reaches (suc w) (b ∷ l) e = omega (arith, hex-reaches w l (and-true (isHex b) (every isHex (padTo w l)) e .1))
+
+pub hex-long : (line : List ℕ) → every isHex (columns 8 103 line) ≡ true → 103 ≤ length line
+unfolding columns
+hex-long line e = omega (arith, hex-reaches 96 (drop 7 line) e, length-drop 7 line)
+
 pub all-hex : (l : List ℕ) (t : Bool) → t ≡ every (isOf Hex) l → t ≡ true → every isHex l ≡ true
 all-hex l t e y = sym e ∙ y
 
 pub pack-next : (line r : List ℕ) (i x : ℕ) → i < bitWords → x ≡ getD (bitsIn line) i 0 → Filled (wordIn line) r i → Filled (wordIn line) (set r i x) (i + 1)
 pack-next line r i x h e v = filled-next (wordIn line) r i x h e v
 
-pub ruleset packing = (tests, word-hex, word-is, all-hex, filled-none, pack-next, words-done)
+pub ruleset packing = (tests, hex-long, word-hex, word-is, all-hex, filled-none, pack-next, words-done)

@@ -6,7 +6,7 @@ use mathlib.Core.List.{List, [], _∷_}
 use mathlib.Core.Bool.{Bool, true, false, cond, not}
 use lib.ListN.{getD, take, drop}
 use lib.Dec.{eqb, ltb}
-use Rattle.base.specs.Lists.{every, some-of, below}
+use Rattle.base.specs.Lists.{every, some-of, upto, below}
 use Rattle.columns.specs.Columns.{hexValue}
 use Rattle.columns.specs.LineFields.{fieldIn, bitFieldBits}
 
@@ -58,9 +58,9 @@ someDay n ws = some-of (runsOn ws) (below n)
 
 -- ---- nobody has to believe what follows: it is for contracts of inner functions
 
--- the next bit after bit k that the frame of n days binds
-abbrev pub nextBound : ℕ → ℕ → ℕ
-nextBound n k = cond (ltb k 1) (k + 1) (cond (ltb k (n + 2)) (n + 2) (k + 1))
+-- no bit from bit k on is set
+unfoldable pub clearFrom : ℕ → List ℕ → Bool
+clearFrom k ws = every (λ (j : ℕ). not (bit ws j)) (upto (bitCount - k) k)
 
 -- word i is 0
 abbrev pub zeroAt : List ℕ → ℕ → Bool

@@ -3,11 +3,11 @@ use columns::ByteClass;
 use columns::line_fields::bit_field;
 ghost use mathlib.Core.Path.{_≡_};
 ghost use mathlib.Core.Bool.{not, true, false, _&&_, _||_};
-ghost use Prim.Native.Nat.{ℕ, _+_, _*_, _≤_, _<_};
+ghost use Prim.Native.Nat.{ℕ, _+_, _-_, _%_, _^_, _≤_, _<_};
 ghost use lib.ListN.{length, take, drop, getD};
 ghost use Rattle.base.specs.Lists.{every};
 ghost use Rattle.columns.specs.Columns.{padTo, columns, isHex};
-ghost use Rattle.bitfield.specs.BitField.{bitWords, bitCount, mostFramed, hexFrom, bitsIn, bit, runsOn, frameBit, nextBound, framed, someDay, noBit};
+ghost use Rattle.bitfield.specs.BitField.{bitWords, bitCount, mostFramed, hexFrom, bitsIn, bit, runsOn, framed, someDay, clearFrom, noBit};
 
 // The words of a bit field, and its bits (specs/BitField).
 pub const BIT_WORDS: usize = 12;
@@ -27,6 +27,20 @@ pub fn bits_in(line: &[u8]) -> [u32; BIT_WORDS]
         }
     }
     bits_by_words(line)
+}
+
+// The same of a line whose columns 8 to 103 are known to be hex digits.
+pub fn hex_words(line: &[u8]) -> [u32; BIT_WORDS]
+    requires { ⌜ every isHex (columns 8 103 (now line)) ≡ true ⌝ }
+    ensures { λ r. ⌜ r ≡ bitsIn (now (line .entry)) ⌝ }
+{
+    let mut r = [0u32; BIT_WORDS];
+    let mut i: usize = 0;
+    while i < BIT_WORDS {
+        r[i] = eight_digits(line, i);
+        i += 1;
+    }
+    r
 }
 
 // Twelve words of a slice as one value.
@@ -60,20 +74,17 @@ pub fn runs_on(b: [u32; BIT_WORDS], d: u32) -> bool
     bit_of(b, d + 2)
 }
 
-// Whether the frame bits are right for n days.
+// Whether the frame bits are right for n days: two in front, two behind the days, and nothing behind those.
 pub fn is_framed(b: [u32; BIT_WORDS], n: u32) -> bool
     requires { ⌜ n ≤ mostFramed ⌝ }
     ensures { λ r. ⌜ r ≡ framed n b ⌝ }
 {
-    let mut k: u32 = 0;
-    while k < BIT_COUNT {
-        if fits_frame(n, k, bit_of(b, k)) {
-            k = next_bound(n, k);
-        } else {
-            return false;
+    if two_bits(b, 0) {
+        if two_bits(b, n + 2) {
+            return is_clear(b, n + 4);
         }
     }
-    true
+    false
 }
 
 // Whether some of the first n days is in the set. Mostly there is no bit at all, which is sooner seen.
@@ -173,22 +184,7 @@ pub fn without(a: [u32; BIT_WORDS], b: [u32; BIT_WORDS]) -> [u32; BIT_WORDS]
 
 // ---- inner functions
 
-// The twelve words of a line whose columns 8 to 103 are hex digits.
-fn hex_words(line: &[u8]) -> [u32; BIT_WORDS]
-    requires { ⌜ 103 ≤ length (now line) ⌝ }
-    requires { ⌜ every isHex (columns 8 103 (now line)) ≡ true ⌝ }
-    ensures { λ r. ⌜ r ≡ bitsIn (now (line .entry)) ⌝ }
-{
-    let mut r = [0u32; BIT_WORDS];
-    let mut i: usize = 0;
-    while i < BIT_WORDS {
-        r[i] = eight_digits(line, i);
-        i += 1;
-    }
-    r
-}
-
-// Word i of them.
+// Word i of a line whose columns 8 to 103 are hex digits.
 fn eight_digits(line: &[u8], i: usize) -> u32
     requires { ⌜ 103 ≤ length (now line) ⌝ }
     requires { ⌜ every isHex (columns 8 103 (now line)) ≡ true ⌝ }
@@ -227,33 +223,36 @@ fn hex_word(p: &[u8]) -> u32
     n
 }
 
-// The next bit after bit k that the frame of n days binds: the days may be any.
-fn next_bound(n: u32, k: u32) -> u32
-    requires { ⌜ (n ≤ mostFramed) × (k < bitCount) ⌝ }
-    ensures { λ r. ⌜ r ≡ nextBound n k ⌝ }
+// Whether bit k and the one behind it are set.
+fn two_bits(b: [u32; BIT_WORDS], k: u32) -> bool
+    requires { ⌜ k + 1 < bitCount ⌝ }
+    ensures { λ r. ⌜ r ≡ (bit b k && bit b (k + 1)) ⌝ }
 {
-    if k < 1 {
-        return k + 1;
+    if bit_of(b, k) {
+        return bit_of(b, k + 1);
     }
-    if k < n + 2 {
-        return n + 2;
-    }
-    k + 1
+    false
 }
 
-// Whether bit k may be b in a frame of n days.
-fn fits_frame(n: u32, k: u32, b: bool) -> bool
-    requires { ⌜ n ≤ mostFramed ⌝ }
-    ensures { λ r. ⌜ r ≡ frameBit n k b ⌝ }
+// Whether no bit from bit `from` on is set: the rest of its word at once, then the words behind it.
+fn is_clear(b: [u32; BIT_WORDS], from: u32) -> bool
+    ensures { λ r. ⌜ r ≡ clearFrom from b ⌝ }
 {
-    if k < 2 {
-        return b;
+    let mut k = from;
+    while k < BIT_COUNT {
+        let word = b[(k / 32) as usize] as u64;
+        if word % rest_values(k) != 0 {
+            return false;
+        }
+        k = k / 32 * 32 + 32;
     }
-    if k < n + 2 {
-        return true;
-    }
-    if k < n + 4 {
-        return b;
-    }
-    !b
+    true
+}
+
+// How many values the rest of a word has, from bit k on.
+fn rest_values(k: u32) -> u64
+    ensures { λ r. ⌜ r ≡ 2 ^ (32 - k % 32) ⌝ }
+    ensures { λ r. ⌜ 0 < r ⌝ }
+{
+    1u64 << (32 - k % 32)
 }
