@@ -217,6 +217,18 @@ module _ (f : List ℕ) (at end : ℕ) (e : end ≡ at + toLF (drop at f)) where
       let d : end - at ≡ toLF (drop at f) = omega arith in
       rw (s, x, d, e)
 
+-- ---- of a line that reaches so far: its LF is at `end` if one is seen there, and there is one byte at least where the first is none
+
+module _ (f : List ℕ) (at width : ℕ) (w : width ≤ toLF (drop at f)) where
+  pub beyond-inside : at ≤ length f → at + width ≤ length f
+  beyond-inside h = omega (arith, toLF-le (drop at f), length-drop at f)
+
+  pub beyond-end : at + width < length f → getD f (at + width) 0 ≡ 10 → at + width ≡ at + toLF (drop at f)
+  beyond-end h b = omega (arith, toLF-before (drop at f) width (simp length-drop (omega arith)) (getD-drop at f width 0 ∙ b))
+
+pub one-beyond : (f : List ℕ) (at : ℕ) → at < length f → (getD f at 0 ≡ 10 → ⊥) → 1 ≤ toLF (drop at f)
+one-beyond f at h n = omega (arith, toLF-next f at h n)
+
 -- an empty line
 pub cut-empty : (f : List ℕ) (at n : ℕ) → at < length f → getD f at 0 ≡ 10 → _≡_ {A = Cut} (record { stop = at; next = at + 1; no = n + 1 }) (cutAt f at n)
 cut-empty f at n h b = cut-is f at at (omega (arith, toLF-here f at h b)) at (at + 1) n (cr-empty f at at (omega arith) (omega arith)) (rw (lt-ltb at (length f) h) refl)

@@ -20,7 +20,16 @@ pub fn line_at(file: &[u8], at: usize, no: u32) -> Cut
     requires { ⌜ no < 4294967295 ⌝ }
     ensures { λ r. ⌜ r ≡ cutAt (now (file .entry)) at no ⌝ }
 {
-    let end = line_end(file, at);
+    cut_to(file, at, line_end(file, at), no)
+}
+
+// The line that starts at `at`, whose LF, or the file's end, is at `end`.
+pub fn cut_to(file: &[u8], at: usize, end: usize, no: u32) -> Cut
+    requires { ⌜ at ≤ length (now file) ⌝ }
+    requires { ⌜ end ≡ at + toLF (drop at (now file)) ⌝ }
+    requires { ⌜ no < 4294967295 ⌝ }
+    ensures { λ r. ⌜ r ≡ cutAt (now (file .entry)) at no ⌝ }
+{
     let stop = before_cr(file, at, end);
     let next = past_lf(file, end);
     Cut {

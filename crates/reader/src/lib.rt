@@ -1,9 +1,10 @@
 // The reader of a file: it holds the file, its place and its line number, cuts the next line and stands behind it. Thin over `lines::line_at`.
 ghost use mathlib.Core.Path.{_≡_};
 ghost use Prim.Native.Nat.{_+_, _≤_, _<_, _^_};
-ghost use lib.ListN.{length};
-ghost use Rattle.lines.specs.Lines.{cutAt, linesOf};
+ghost use lib.ListN.{length, getD, drop};
+ghost use Rattle.lines.specs.Lines.{toLF, cutAt, linesOf};
 ghost use Rattle.reader.specs.Inner.Past.{past};
+ghost use Rattle.reader.specs.Inner.Skips.{pastSkipped};
 use lines::Cut;
 
 // A file, the place where its next line starts, and that line's number.
@@ -35,6 +36,37 @@ pub fn line_from(file: &[u8], at: usize, no: u32) -> Cut
 {
     let mut reader = Reader { file, at, no };
     reader.next_line()
+}
+
+// The same of a line that is known to reach so far, none of its first `width` bytes being an LF: its LF is likely to be the next.
+pub fn line_beyond(file: &[u8], at: usize, no: u32, width: usize) -> Cut
+    requires { ⌜ at ≤ length (now file) ⌝ }
+    requires { ⌜ no < 4294967295 ⌝ }
+    requires { ⌜ width ≤ toLF (drop at (now file)) ⌝ }
+    ensures { λ r. ⌜ r ≡ cutAt (now (file .entry)) at no ⌝ }
+{
+    let end = at + width;
+    if end < file.len() {
+        if file[end] == b'\n' {
+            return lines::cut_to(file, at, end, no);
+        }
+    }
+    line_from(file, at, no)
+}
+
+// The place after the line that starts at `at`, where that line is skipped, else `at`; the line is not empty. It may have one byte: a file may have half as
+// many such lines as bytes.
+pub fn past_skipped(file: &[u8], at: usize) -> usize
+    requires { ⌜ at < length (now file) ⌝ }
+    requires { ⌜ (getD (now file) at 0 ≡ 10 → ⊥) ⌝ }
+    ensures { λ r. ⌜ r ≡ pastSkipped (now (file .entry)) at ⌝ }
+{
+    let cut = line_beyond(file, at, 1, 1);
+    let stop = cut.stop;
+    if lines::skips(&file[at..stop]) {
+        return cut.next;
+    }
+    at
 }
 
 // How many lines a file has, without cutting them: those that end within its first bytes, and those that a reader passes in the rest.
