@@ -28,7 +28,7 @@ use Rattle.timetable.specs.Plan.{threeBytes}
 use Rattle.timetable.specs.declared.Offence.{Offence}
 use Rattle.timetable.specs.declared.Checked.the-variants.{Holds, Refused}
 use Rattle.timetable.proofs.Offences.{first-none}
-use Rattle.sections.specs.Inner.Sections.{numberedBy, numberOn, asNumber, numbers, hasNumber, recordOffence, lineOffence}
+use Rattle.sections.specs.Inner.Sections.{isSound, numberedBy, numberOn, asNumber, numbers, hasNumber, recordOffence, lineOffence, soundSection}
 use Rattle.sections.specs.declared.Section.the-variants.{Classes}
 use Rattle.sections.specs.declared.Numbered.{Numbered}
 use Rattle.sections.specs.declared.Numbered.the-variants.{Number, Skipped, Broken}
@@ -37,7 +37,7 @@ use Rattle.sections.proofs.Lookups.{has-class}
 use Rattle.sections.proofs.Walk.{Walked}
 use Rattle.sections.proofs.Scans.{numbers-more}
 use Rattle.sections.proofs.Files.{classes-checked}
-use Rattle.classes.specs.Inner.Passes.{before, codes, isSound, brokenColumn, sound, BreaksAt, FormedAs, once, any, codeOn, Repeats, RepeatAs, differs, groupOf, groupOn, otherGroup, groupWith, tariffOffenceOn, Differs, TariffAs}
+use Rattle.classes.specs.Inner.Passes.{before, codes, brokenColumn, sound, BreaksAt, FormedAs, once, any, codeOn, Repeats, RepeatAs, differs, groupOf, groupOn, otherGroup, groupWith, tariffOffenceOn, Differs, TariffAs}
 use Rattle.classes.specs.Inner.Index.{IndexOf, ClassesAfter}
 use Rattle.classes.specs.declared.Formed.{Formed}
 use Rattle.classes.specs.declared.Stand.{Stand}
@@ -47,7 +47,7 @@ use Rattle.classes.proofs.Once.{once-append, once-front, numbers-append
 -- ---- forms: n is what the line cut at `at` has for a number, t whether it is broken
 
 pub sound-none : (f : List ℕ) → sound (before f 0) ≡ true
-unfolding sound every
+unfolding sound soundSection every
 sound-none f = ap sound (before-first f)
 
 pub count-none : (f : List ℕ) → 0 ≡ length (codes f 0)

@@ -18,16 +18,16 @@ use Rattle.lines.specs.declared.Cut.{Cut}
 use Rattle.lines.proofs.Laws.{cutting, lines-nil, lines-le, walk}
 use Rattle.forms.specs.Form.{formOf}
 use Rattle.forms.specs.Columns.{classColumns}
-use Rattle.forms.specs.declared.Form.{Form}
-use Rattle.forms.specs.declared.Form.the-variants.{Fits, Broken as BrokenForm}
 use Rattle.timetable.specs.Plan.{threeBytes}
-use Rattle.sections.specs.Inner.Sections.{numberedBy, numberOn, asNumber, numbers}
+use Rattle.sections.specs.Inner.Sections.{isSound, numberedBy, numberOn, asNumber, numbers, soundSection}
 use Rattle.sections.specs.declared.Section.the-variants.{Classes}
 use Rattle.sections.specs.declared.Numbered.{Numbered}
 use Rattle.sections.specs.declared.Numbered.the-variants.{Number, Skipped, Broken}
 use Rattle.sections.proofs.Walk.{Walked, walked-first, walked-lines, walked-before, walked-next}
-use Rattle.sections.proofs.Scans.{numbers-le, numbers-more, place-inside, number-small}
-use Rattle.classes.specs.Inner.Passes.{before, codes, Upto, Next, isSound, brokenColumn, sound, noCode, LineCode, groupOn}
+use Rattle.sections.proofs.Held.{skipped-number}
+use Rattle.sections.proofs.Sound.{sound-number as record-number}
+use Rattle.sections.proofs.Scans.{numbers-le, numbers-more, place-inside, walked-small}
+use Rattle.classes.specs.Inner.Passes.{before, codes, Upto, Next, brokenColumn, sound, noCode, LineCode, groupOn}
 use Rattle.classes.specs.Inner.Index.{holdsCode}
 
 -- ---- lists
@@ -53,16 +53,10 @@ some-append t (x ∷ a) b = go (t x) (some-append t a b)
 -- ---- a line that is skipped or has its form
 
 pub sound-held : (text : List ℕ) → isSound (numberOn Classes text) ≡ true → skipped text ≡ false → numberOn Classes text ≡ Number (threeBytes 1 text)
-unfolding numberOn
-sound-held text z e = rw e (go (formOf classColumns text) (rw e at z))
-  where
-    go : (g : Form) → isSound (numberedBy g (threeBytes 1 text)) ≡ true → numberedBy g (threeBytes 1 text) ≡ Number (threeBytes 1 text)
-    go Fits z = refl
-    go (BrokenForm c) z = apart cc
+sound-held text z e = sym (record-number Classes text z e)
 
 pub number-skips : (text : List ℕ) → skipped text ≡ true → numberOn Classes text ≡ Skipped
-unfolding numberOn
-number-skips text e = rw e refl
+number-skips text e = sym (skipped-number Classes text e)
 
 -- what is a record is not skipped
 pub held-stands : (text : List ℕ) (k : ℕ) → numberOn Classes text ≡ Number k → skipped text ≡ false
@@ -74,19 +68,19 @@ held-stands text k e = go (skipped text) refl e
     go false s e = refl
 
 pub sound-split : (a b : List Line) → sound (a ++ b) ≡ true → (sound a ≡ true) × (sound b ≡ true)
-unfolding sound
+unfolding sound soundSection
 sound-split a b s = and-true (sound a) (sound b) (sym (every-append _ a b) ∙ s)
 
 pub sound-first : (l : Line) (ls : List Line) → sound (l ∷ ls) ≡ true → (isSound (numberOn Classes (l .text)) ≡ true) × (sound ls ≡ true)
-unfolding sound every
+unfolding sound soundSection every
 sound-first l ls s = and-true (isSound (numberOn Classes (l .text))) (sound ls) s
 
 sound-one : (l : Line) → isSound (numberOn Classes (l .text)) ≡ true → sound (l ∷ []) ≡ true
-unfolding sound every
+unfolding sound soundSection every
 sound-one l z = rw z refl
 
 pub sound-more : (a : List Line) (l : Line) → sound a ≡ true → isSound (numberOn Classes (l .text)) ≡ true → sound (a ++ (l ∷ [])) ≡ true
-unfolding sound
+unfolding sound soundSection
 sound-more a l s z = every-append _ a (l ∷ []) ∙ rw (s, sound-one l z) refl
 
 -- ---- the walk: r is the line cut at `at`
@@ -171,7 +165,7 @@ walked-past f at n r h e = cutting f at n r h e .inside
 pub start-inside : (f : List ℕ) → 0 ≤ length f
 start-inside f = omega arith
 
-pub ruleset walking = (tests, walk, walked-first, walked-next, walked-past, start-inside, place-inside, number-small)
+pub ruleset walking = (tests, walk, walked-first, walked-next, walked-past, start-inside, place-inside, walked-small)
 
 -- ---- what is read on a line, for `search line-reads`: t is whether it is skipped, c its code
 

@@ -28,12 +28,12 @@ use Rattle.timetable.specs.Layout.{mostFileBytes, helperHead}
 use Rattle.timetable.specs.Delivery.{CategoryClass}
 use Rattle.timetable.specs.Files.{skip, listed, held-in, heldBy, classOf, hasClass}
 use Rattle.timetable.specs.Plan.{threeBytes}
-use Rattle.sections.specs.Inner.Sections.{numberedBy, numberOn}
+use Rattle.sections.specs.Inner.Sections.{isSound, numberedBy, numberOn, soundSection}
 use Rattle.sections.specs.declared.Section.the-variants.{Classes}
 use Rattle.sections.specs.declared.Numbered.the-variants.{Skipped}
 use Rattle.sections.proofs.Held.{held-gathered}
-use Rattle.sections.proofs.Walk.{Walked, walked-lines}
-use Rattle.classes.specs.Inner.Passes.{before, isSound, sound}
+use Rattle.sections.proofs.Walk.{number-small, Walked, walked-lines}
+use Rattle.classes.specs.Inner.Passes.{before, sound}
 use Rattle.classes.specs.Inner.Index.{holdsCode, firstSlot, endSlot, Entry, Slot, Entered, FilledTo, IndexOf, SlotSays, FreeSlot, EnteredOn, PutOn, IndexRoom}
 use Rattle.classes.proofs.Lines.{some-append, sound-split, sound-first, before-first, before-next, here-split, here-sound}
 
@@ -167,15 +167,12 @@ held-any n m at s = go n m at (pieces s)
     go n m at (p ∷ ps) = ap (λ (cs : List CategoryClass). listed (classOf (record { no = n; start = at; text = noCR p })) ++ cs) (go (n + 1) (m + 1) (at + length p + 1) ps)
 
 sound-any : (n m at : ℕ) (s : List ℕ) → sound (linesFrom n at s) ≡ sound (linesFrom m at s)
-unfolding sound every linesFrom numbered
+unfolding sound soundSection every linesFrom numbered
 sound-any n m at s = go n m at (pieces s)
   where
     go : (n m at : ℕ) (ps : List (List ℕ)) → every (λ (l : Line). isSound (numberOn Classes (l .text))) (numbered n at ps) ≡ every (λ (l : Line). isSound (numberOn Classes (l .text))) (numbered m at ps)
     go n m at [] = refl
     go n m at (p ∷ ps) = ap (λ (u : Bool). isSound (numberOn Classes (noCR p)) && u) (go (n + 1) (m + 1) (at + length p + 1) ps)
-
-pub number-small : (f : List ℕ) (at n : ℕ) → n ≤ at + 1 → at < length f → length f ≤ mostFileBytes → n < 4294967295
-number-small f at n v h l = omega arith
 
 module _ (f : List ℕ) (at n : ℕ) (r : Cut) (h : at < length f) (e : r ≡ cutAt f at n) (v : sound (linesFrom n at (drop at f)) ≡ true) where
   abbrev line : Line

@@ -13,12 +13,14 @@ ghost use lib.ListN.{length, drop, replicate};
 ghost use Rattle.columns.specs.LineFields.{classCode};
 ghost use Rattle.lines.specs.Lines.{linesAt, linesOf};
 ghost use Rattle.timetable.specs.Layout.{mostFileBytes, helperHead};
-ghost use Rattle.timetable.specs.Offences.{checkedBy};
-ghost use Rattle.timetable.specs.Files.{held-in, classOf, classesIn, hasClass, classesFirst};
+ghost use Rattle.timetable.specs.Files.{held-in, classOf, classesIn, hasClass};
 ghost use Rattle.timetable.specs.Plan.{threeBytes};
-ghost use Rattle.sections.specs.Inner.Sections.{asNumber};
-ghost use Rattle.classes.specs.Inner.Passes.{isSound, brokenColumn, sound, FormedAs, noCode, LineCode, firstByte, PassAs, RepeatAs, Rising, aboveOn, markWords, marked, withMark, repeatsOn, marksWith, lesser, TariffAs, groupOn, otherGroup, groupWith};
-ghost use Rattle.classes.specs.Inner.Index.{holdsCode, firstSlot, endSlot, FreeSlot, FilledTo, IndexOf, IndexRoom, EnteredOn, PutOn, ClassesAfter, SlotSays};
+ghost use Rattle.sections.specs.Inner.Sections.{isSound, asNumber};
+ghost use Rattle.classes.specs.Inner.Passes.{classesChecked, brokenColumn, sound, FormedAs, noCode, LineCode, firstByte, PassAs, RepeatAs};
+ghost use Rattle.classes.specs.Inner.Passes.{Rising, aboveOn, markWords, marked, withMark, repeatsOn, marksWith, lesser};
+ghost use Rattle.classes.specs.Inner.Passes.{TariffAs, groupOn, otherGroup, groupWith};
+ghost use Rattle.classes.specs.Inner.Index.{holdsCode, firstSlot, endSlot, FreeSlot, FilledTo, IndexOf, IndexRoom};
+ghost use Rattle.classes.specs.Inner.Index.{EnteredOn, PutOn, ClassesAfter, SlotSays};
 
 // ---- the check
 
@@ -47,7 +49,7 @@ struct Pass {
 pub fn check_classes(zugart: &[u8], index: &mut [u32]) -> Checked
     requires { ⌜ length (now zugart) ≤ mostFileBytes ⌝ }
     requires { ⌜ IndexRoom (now index) ⌝ }
-    ensures { λ r. ⌜ r ≡ checkedBy (classesFirst (linesOf (now (zugart .entry)))) (length (classesIn (now (zugart .entry)))) (length (linesOf (now (zugart .entry))) + 1) ⌝ }
+    ensures { λ r. ⌜ r ≡ classesChecked (now (zugart .entry)) ⌝ }
     ensures { λ r. ⌜ ClassesAfter (now (zugart .entry)) r (now (index .exit)) ⌝ }
 {
     let formed = formed_lines(zugart);

@@ -49,19 +49,19 @@ just-number stops [] line c = refl
 just-number stops (e ∷ es) line c = refl
 
 module _ (n : ℕ) (stops : List StopRecord) (before : List Line) (l : Line) where
-  line-of-fields : lineOffence BitFields n stops before l ≡ bitFieldLineOffence n before l
+  pub line-of-fields : lineOffence BitFields n stops before l ≡ bitFieldLineOffence n before l
   unfolding lineOffence numberOn recordOffence
   line-of-fields = sym (by-number _ (recordOffence BitFields n stops before (l .no) (l .text)) (l .no) (skipped (l .text)) (formOf bitFieldColumns (l .text)) _ (number (columns 1 6 (l .text))) refl)
 
-  line-of-stops : lineOffence Stops n stops before l ≡ stopLineOffence before l
+  pub line-of-stops : lineOffence Stops n stops before l ≡ stopLineOffence before l
   unfolding lineOffence numberOn recordOffence
   line-of-stops = sym (by-number _ (recordOffence Stops n stops before (l .no) (l .text)) (l .no) (skipped (l .text)) (formOf stopColumns (l .text)) _ (number (columns 1 7 (l .text))) refl)
 
-  line-of-interchanges : lineOffence Interchanges n stops before l ≡ interchangeLineOffence stops before l
+  pub line-of-interchanges : lineOffence Interchanges n stops before l ≡ interchangeLineOffence stops before l
   unfolding lineOffence numberOn recordOffence
   line-of-interchanges = sym (by-number _ (recordOffence Interchanges n stops before (l .no) (l .text)) (l .no) (skipped (l .text)) (formOf interchangeColumns (l .text)) _ (number (columns 1 7 (l .text))) (just-number stops (held-in interchangeOf before) (l .no) _))
 
-  line-of-classes : lineOffence Classes n stops before l ≡ classLineOffence before l
+  pub line-of-classes : lineOffence Classes n stops before l ≡ classLineOffence before l
   unfolding lineOffence numberOn recordOffence
   line-of-classes = sym (by-number _ (recordOffence Classes n stops before (l .no) (l .text)) (l .no) (skipped (l .text)) (formOf classColumns (l .text)) _ (threeBytes 1 (l .text)) refl)
 

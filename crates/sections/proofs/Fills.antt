@@ -15,7 +15,9 @@ use Rattle.base.proofs.Lists.{gathered-append}
 use Rattle.lines.specs.Lines.{Line, linesOf, cutAt}
 use Rattle.lines.specs.declared.Cut.{Cut}
 use Rattle.lines.proofs.Laws.{lines-nil}
+use Rattle.reader.specs.Inner.Skips.{pastSkipped}
 use Rattle.lines.proofs.Pieces.{cut-empty}
+use Rattle.reader.proofs.Skipping.{passed-text, passed-next}
 use Rattle.map.specs.Inner.Map.{mapRecordSize, wordValues, column, Chained, Added, Distinct}
 use Rattle.map.proofs.Puts.{empty-zeros}
 use Rattle.map.proofs.Meaning.{distinct-none, distinct-more}
@@ -32,7 +34,7 @@ use Rattle.sections.specs.Inner.SectionMap.{ifHeld, texts, Filled, Lent,
 use Rattle.sections.specs.declared.Section.{Section}
 use Rattle.sections.specs.declared.Numbered.{Numbered}
 use Rattle.sections.specs.declared.Numbered.the-variants.{Number, Skipped, Broken}
-use Rattle.sections.proofs.Held.{map-append, empty-skipped}
+use Rattle.sections.proofs.Held.{map-append, skipped-number, empty-skipped}
 use Rattle.sections.proofs.Lookups.{own-part}
 use Rattle.sections.proofs.Bits.{text-some}
 use Rattle.sections.proofs.Offences.{record-unseen}
@@ -179,10 +181,11 @@ module _ (f : List ℕ) (at no : ℕ) (r : Cut) (h : at < length f) (e : r ≡ c
         };
       }
 
--- an empty line, passed at once
-pub fill-empty : (s : Section) (f m₀ m : List ℕ) (split at line count : ℕ) → at < length f → getD f at 0 ≡ 10 → Walked f at line → Filling s f m₀ split at count m → Filling s f m₀ split (at + 1) count m
-fill-empty s f m₀ m split at line count h b w v =
-    fill-turn f at line _ h (cut-empty f at line h b) w s Skipped (empty-skipped s f at) 0 [] Fine refl m₀ m m split count count refl v (record {
+-- a line that is skipped, passed at once: r is the line as it would be cut
+skip-turn : (s : Section) (f m₀ m : List ℕ) (split at line count : ℕ) (r : Cut) → at < length f → r ≡ cutAt f at line → Skipped ≡ numberOn s (take (r .stop - at) (drop at f)) → Walked f at line
+    → Filling s f m₀ split at count m → Filling s f m₀ split (r .next) count m
+skip-turn s f m₀ m split at line count r h e y w v =
+    fill-turn f at line r h e w s Skipped y 0 [] Fine refl m₀ m m split count count refl v (record {
       same = refl;
       front = refl;
       counted = omega arith;
@@ -191,10 +194,17 @@ fill-empty s f m₀ m split at line count h b w v =
       places-held = rw append-nil refl;
     })
 
+pub fill-empty : (s : Section) (f m₀ m : List ℕ) (split at line count : ℕ) → at < length f → getD f at 0 ≡ 10 → Walked f at line → Filling s f m₀ split at count m → Filling s f m₀ split (at + 1) count m
+fill-empty s f m₀ m split at line count h b w v = skip-turn s f m₀ m split at line count _ h (cut-empty f at line h b) (empty-skipped s f at) w v
+
+pub fill-passed : (s : Section) (f m₀ m : List ℕ) (split at line count p : ℕ) → at < length f → p ≡ pastSkipped f at → at < p → Walked f at line → Filling s f m₀ split at count m → Filling s f m₀ split p count m
+fill-passed s f m₀ m split at line count p h e l w v =
+    rw (passed-next f at line p e l) at (skip-turn s f m₀ m split at line count (cutAt f at line) h refl (skipped-number s (take (cutAt f at line .stop - at) (drop at f)) (passed-text f at line p e l)) w v)
+
 pub fill-done : (s : Section) (f m₀ m : List ℕ) (split at count line : ℕ) → length f ≤ at → Filling s f m₀ split at count m → MapAfter s f (Holds count line) (drop split m)
 fill-done s f m₀ m split at count line h v = record { held = λ c n e. record { count = count; filled = rw (take-all at f h) at (v .filled) } }
 
 pub fill-refused : (s : Section) (f m : List ℕ) (o : Offence) → MapAfter s f (Refused o) m
 fill-refused s f m o = record { held = λ c n e. apart cc }
 
-pub ruleset fills = (tests, fill-first, fill-reached, fill-ready, fill-turn, fill-empty, fill-done, fill-refused)
+pub ruleset fills = (tests, fill-first, fill-reached, fill-ready, fill-turn, fill-empty, fill-passed, fill-done, fill-refused)

@@ -54,6 +54,11 @@ by-number off own line true g x k e = refl
 by-number off own line false Fits x k e = e
 by-number off own line false (BrokenForm c) x k e = refl
 
+-- a line that is skipped has none
+pub skipped-number : (s : Section) (text : List ℕ) → skipped text ≡ true → Skipped ≡ numberOn s text
+unfolding numberOn
+skipped-number s text e = sym (rw e refl)
+
 -- an empty line, as it stands in its file
 pub empty-skipped : (s : Section) (f : List ℕ) (at : ℕ) → Skipped ≡ numberOn s (take (at - at) (drop at f))
 unfolding numberOn skipped every

@@ -7,3 +7,4 @@ pub mod Scans
 pub mod Fills
 pub mod Files
 pub mod Places
+pub mod Sound

@@ -1,16 +1,22 @@
 -- The needs of the own checks of a line. In each law v is the verdict that the code answers. Assumes nothing.
 use mathlib.Core.Path.{_≡_, refl, ap, sym, _∙_}
 use mathlib.Core.List.{List, [], _∷_}
-use mathlib.Core.Bool.{Bool, true, false, not, _||_}
+use mathlib.Core.Bool.{Bool, true, false, cond, not, _||_}
 use mathlib.Core.Option.{none}
 use Prim.Native.Nat.{ℕ, _%_}
 use native.Mathlib.Omega.{arith}
 use lib.ListN.{length, length-map}
 use lib.Dec.{eqb}
 use borrow.Author.Tests.{eq-eqb, ne-eqb}
-use Rattle.base.specs.Lists.{some-of}
-use Rattle.base.proofs.Laws.{tests}
-use Rattle.lines.specs.Lines.{Line}
+use Rattle.base.specs.Lists.{every, some-of}
+use Rattle.base.proofs.Laws.{apart, tests}
+use Rattle.columns.specs.Columns.{columns, isHex}
+use Rattle.lines.specs.Lines.{Line, skipped}
+use Rattle.forms.specs.Form.{formOf}
+use Rattle.forms.specs.Columns.{bitFieldColumns}
+use Rattle.forms.specs.declared.Form.{Form}
+use Rattle.forms.specs.declared.Form.the-variants.{Fits, Broken as BrokenForm}
+use Rattle.forms.proofs.Laws.{row-holds}
 use Rattle.bitfield.specs.BitField.{bitsIn, framed}
 use Rattle.names.specs.Names.{isNameList}
 use Rattle.timetable.specs.Delivery.{StopRecord, Interchange}
@@ -19,7 +25,7 @@ use Rattle.timetable.specs.Files.{held-in, bitFieldOf, bitFieldOffence, hasInte
 use Rattle.timetable.specs.declared.Verdict.{Verdict}
 use Rattle.timetable.specs.declared.Verdict.the-variants.{Fine, Offends}
 use Rattle.timetable.proofs.Offences.{then-none, given-none}
-use Rattle.sections.specs.Inner.Sections.{numbers, hasNumber, recordOffence, numberedOffence}
+use Rattle.sections.specs.Inner.Sections.{keyOn, numberedBy, numberOn, numbers, hasNumber, recordOffence, numberedOffence}
 use Rattle.sections.specs.Inner.SectionMap.{Reached}
 use Rattle.sections.specs.declared.Section.{Section}
 use Rattle.sections.specs.declared.Section.the-variants.{BitFields, Stops, Interchanges, Classes}
@@ -168,11 +174,21 @@ module _ (s : Section) (days no : ℕ) (stops : List StopRecord) (before : List 
     pub line-class : (part b : List ℕ) (split : ℕ) (m : List ℕ) → s ≡ Classes → Reached s part b split m → LineGives v
     line-class part b split m z w = absurd (w .mapped z)
 
+-- a bit field's line that has a number has its form
+pub line-hex : (s : Section) (text : List ℕ) (n : Numbered) (k : ℕ) → s ≡ BitFields → n ≡ numberOn s text → n ≡ Number k → every isHex (columns 8 103 text) ≡ true
+unfolding numberOn
+line-hex s text n k z y d = row-holds bitFieldColumns text 1 (go (skipped text) (formOf bitFieldColumns text) (keyOn BitFields text) (sym d ∙ y ∙ rw z refl))
+  where
+    go : (t : Bool) (g : Form) (x : ℕ) → Number k ≡ cond t Skipped (numberedBy g x) → g ≡ Fits
+    go true g x e = apart cc
+    go false Fits x e = refl
+    go false (BrokenForm c) x e = apart cc
+
 -- the records before, where they are those of UMSTEIGB
 pub interchanges-before : (s : Section) (c : ℕ) (ls : List Line) → s ≡ Interchanges → c ≡ length (numbers s ls) → c ≡ length (numbers Interchanges ls)
 interchanges-before s c ls z e = rw (← z) e
 
-pub ruleset line-checks = (tests, line-skipped, line-broken, line-field, line-stop, line-interchange, line-class, interchanges-before, reached)
+pub ruleset line-checks = (tests, line-hex, line-skipped, line-broken, line-field, line-stop, line-interchange, line-class, interchanges-before, reached)
 
 -- ---- a record without an offence was not seen earlier: 6
 

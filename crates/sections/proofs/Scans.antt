@@ -7,13 +7,16 @@ use Prim.Native.Nat.{ℕ, suc, _+_, _-_, _≤_, _<_, _^_}
 use native.Mathlib.Nat.{zero-add, add-zero, sub-zero}
 use native.Mathlib.Omega.{arith}
 use lib.ListN.{length, getD, take, drop, length-append}
+use borrow.Author.Needs.{needs}
 use Rattle.base.specs.Lists.{gathered}
 use Rattle.base.proofs.Laws.{tests}
 use Rattle.base.proofs.Lists.{gathered-append}
 use Rattle.lines.specs.Lines.{Line, linesFrom, linesOf, cutAt}
 use Rattle.lines.specs.declared.Cut.{Cut}
 use Rattle.lines.proofs.Laws.{cutting, lines-none, lines-nil, cut-low, cut-high, cut-less}
+use Rattle.reader.specs.Inner.Skips.{pastSkipped}
 use Rattle.lines.proofs.Pieces.{cut-empty}
+use Rattle.reader.proofs.Skipping.{passed-text, passed-next}
 use Rattle.timetable.specs.Layout.{mostFileBytes}
 use Rattle.timetable.specs.Delivery.{StopRecord}
 use Rattle.timetable.specs.Offences.{_<|>_, first, verdictBy, checkedBy}
@@ -27,8 +30,8 @@ use Rattle.sections.specs.Inner.Sections.{numberOn, asNumber, numbers, r
 use Rattle.sections.specs.declared.Section.{Section}
 use Rattle.sections.specs.declared.Numbered.{Numbered}
 use Rattle.sections.specs.declared.Numbered.the-variants.{Number, Skipped, Broken}
-use Rattle.sections.proofs.Held.{empty-skipped}
-use Rattle.sections.proofs.Walk.{Walked, walked-first, walked-number, walked-before, walked-next}
+use Rattle.sections.proofs.Held.{skipped-number, empty-skipped}
+use Rattle.sections.proofs.Walk.{Walked, number-small, walked-first, walked-number, walked-before, walked-next}
 
 -- ---- how many records lines have
 
@@ -72,8 +75,8 @@ count-first f s = rw lines-nil refl
 pub place-inside : (f : List ℕ) (at : ℕ) → at < length f → at ≤ length f
 place-inside f at h = omega arith
 
-pub number-small : (f : List ℕ) (at n : ℕ) → Walked f at n → at < length f → length f ≤ mostFileBytes → n < 4294967295
-number-small f at n w h l = omega (arith, walked-number f at n w)
+pub walked-small : (f : List ℕ) (at n : ℕ) → Walked f at n → at < length f → length f ≤ mostFileBytes → n < 4294967295
+walked-small f at n w h l = number-small f at n (walked-number f at n w) h l
 
 -- the part before, as it is handed on
 pub part-count : (f : List ℕ) (at count : ℕ) (s : Section) → count ≡ length (numbers s (linesOf (take at f))) → count ≡ length (numbers s (linesOf (take (at - 0) (drop 0 f))))
@@ -125,7 +128,32 @@ module _ (f : List ℕ) (at no : ℕ) (h : at < length f) (b : getD f at 0 ≡ 1
       → scanFrom (lineOffence s days stops) s (linesOf (take (at + 1) f)) count (no + 1) (linesFrom (no + 1) (at + 1) (drop (at + 1) f)) ≡ q
   empty-scan s count days stops q v = scan-again f at no count _ h (cut-empty f at no h b) w s Skipped (empty-skipped s f at) days stops q Fine refl v count refl (omega arith)
 
+-- another line that is skipped, passed at once: the next starts at p
+module _ (f : List ℕ) (at no p : ℕ) (h : at < length f) (e : p ≡ pastSkipped f at) (l : at < p) (w : Walked f at no) where
+  passed-held : (s : Section) → Skipped ≡ numberOn s (take (cutAt f at no .stop - at) (drop at f))
+  passed-held s = skipped-number s (take (cutAt f at no .stop - at) (drop at f)) (passed-text f at no p e l)
+
+  passed-number : cutAt f at no .no ≡ no + 1
+  passed-number = cutting f at no (cutAt f at no) h refl .count
+
+  pub passed-walked : Walked f p (no + 1)
+  passed-walked = rw (passed-next f at no p e l, passed-number) at (walked-next f at no w (cutAt f at no) h refl)
+
+  pub passed-count : (s : Section) (count : ℕ) → count ≡ length (numbers s (linesOf (take at f))) → count ≡ length (numbers s (linesOf (take p f)))
+  passed-count s count c = rw (passed-next f at no p e l) at (count-next f at no count (cutAt f at no) h refl w s Skipped count c (passed-held s) (omega arith))
+
+  pub passed-scan : (s : Section) (count days : ℕ) (stops : List StopRecord) (q : Checked)
+      → scanFrom (lineOffence s days stops) s (linesOf (take at f)) count no (linesFrom no at (drop at f)) ≡ q
+      → scanFrom (lineOffence s days stops) s (linesOf (take p f)) count (no + 1) (linesFrom (no + 1) p (drop p f)) ≡ q
+  passed-scan s count days stops q v = rw (passed-next f at no p e l, passed-number) at (scan-again f at no count (cutAt f at no) h refl w s Skipped (passed-held s) days stops q Fine refl v count refl (omega arith))
+
+pub passed-less : (f : List ℕ) (at p : ℕ) → at < length f → at < p → length f - p < length f - at
+passed-less f at p h l = omega arith
+
 pub number-next : (f : List ℕ) (at n : ℕ) → Walked f at n → at < length f → length f ≤ mostFileBytes → n + 1 < 2 ^ 32
 number-next f at n w h l = omega (arith, walked-number f at n w)
 
-pub ruleset scans = (tests, empty-walked, empty-count, empty-scan, number-next, cut-low, cut-high, cut-less, walked-first, walked-next, scan-first, count-first, place-inside, number-small, part-count, count-next, scan-out, scan-again, scan-done)
+pub ruleset scans = (tests, empty-walked, empty-count, empty-scan, passed-walked, passed-count, passed-scan, passed-less, number-next, cut-low, cut-high, cut-less, walked-first, walked-next, scan-first, count-first, place-inside, walked-small, part-count, count-next, scan-out, scan-again, scan-done)
+
+-- for a measure after so many calls
+pub ruleset walked = (needs, cut-less)

@@ -7,6 +7,7 @@ use lib.ListN.{length, take, drop, length-append, length-take}
 use Rattle.lines.specs.Lines.{linesFrom, linesOf, cutAt}
 use Rattle.lines.specs.declared.Cut.{Cut}
 use Rattle.lines.proofs.Laws.{cutting, lines-nil, lines-le}
+use Rattle.timetable.specs.Layout.{mostFileBytes}
 use Rattle.lines.proofs.Parts.{LineStart, start-first, start-next, lines-parts, part-lines}
 
 -- line number no starts at the place `at`
@@ -16,6 +17,10 @@ pub record Walked (f : List ℕ) (at no : ℕ) : Type 0 where
 
 pub walked-first : (f : List ℕ) → Walked f 0 1
 walked-first f = record { start = start-first f; number = rw lines-nil refl }
+
+-- a line's number is small, and there is one more
+pub number-small : (f : List ℕ) (at n : ℕ) → n ≤ at + 1 → at < length f → length f ≤ mostFileBytes → n < 4294967295
+number-small f at n v h l = omega arith
 
 module _ (f : List ℕ) (at no : ℕ) (w : Walked f at no) where
   -- the lines before and the lines from there on

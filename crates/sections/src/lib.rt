@@ -12,26 +12,25 @@ use timetable::Checked;
 use timetable::Offence;
 use timetable::Verdict;
 ghost use mathlib.Core.Path.{_≡_};
-ghost use mathlib.Core.List.{[]};
 ghost use mathlib.Core.Bool.{true, cond, not, _||_};
-ghost use Prim.Native.Nat.{_+_, _%_, _≤_};
+ghost use Prim.Native.Nat.{_%_, _≤_};
 ghost use lib.ListN.{length, take, drop};
 ghost use lib.Dec.{eqb};
-ghost use Rattle.columns.specs.Columns.{number};
+ghost use Rattle.base.specs.Lists.{every};
+ghost use Rattle.columns.specs.Columns.{columns, isHex, number};
 ghost use Rattle.columns.specs.LineFields.{fieldIn, bitFieldNumber, stopNumber, classCode};
 ghost use Rattle.lines.specs.Lines.{linesOf};
 ghost use Rattle.forms.specs.Form.{formOf};
 ghost use Rattle.forms.specs.Columns.{columnsOf};
-ghost use Rattle.bitfield.specs.BitField.{bitsIn};
 ghost use Rattle.timetable.specs.Layout.{mostFileBytes, mostPeriodDays};
-ghost use Rattle.timetable.specs.Offences.{first, verdictBy, checkedBy};
-ghost use Rattle.timetable.specs.Files.{bitFieldsIn, hasField, bitFieldOffence, bitFieldsFirst};
-ghost use Rattle.timetable.specs.Files.{stopsIn, defaultStop, hasStop, stopOffence, namedStopOffence, stopsFirst};
-ghost use Rattle.timetable.specs.Files.{interchangesIn, interchangeOffence, interchangesFirst};
+ghost use Rattle.timetable.specs.Offences.{verdictBy};
+ghost use Rattle.timetable.specs.Files.{bitFieldsIn, hasField, bitFieldOffence};
+ghost use Rattle.timetable.specs.Files.{stopsIn, defaultStop, hasStop, stopOffence, namedStopOffence};
 ghost use Rattle.timetable.specs.Plan.{threeBytes};
 ghost use Rattle.timetable.specs.Table.{stopPlace};
 ghost use Rattle.sections.specs.Inner.Sections.{lineKind, keyOn, numberedBy, numberOn, asNumber, numbers, hasNumber};
-ghost use Rattle.sections.specs.Inner.Sections.{recordOffence, numberedOffence, lineOffence, wordsOf};
+ghost use Rattle.sections.specs.Inner.Sections.{numberedField, numberedStop, lineVerdict, interchangeVerdict, wordsOf};
+ghost use Rattle.sections.specs.Inner.Sections.{sectionChecked, fieldsChecked, stopsChecked, interchangesChecked};
 ghost use Rattle.sections.specs.Inner.SectionMap.{textAt, Seen, MapOf, Lent, MapAfter, Ready, Reached, PutReady, Put};
 ghost use Rattle.sections.specs.declared.Section.the-variants.{BitFields, Stops, Interchanges};
 
@@ -57,7 +56,7 @@ pub fn check_bit_fields(f: &[u8], days: u32, m: &mut [u32]) -> Checked
     requires { ⌜ length (now f) ≤ mostFileBytes ⌝ }
     requires { ⌜ days ≤ mostPeriodDays ⌝ }
     requires { ⌜ Lent (now f) (now m) ⌝ }
-    ensures { λ r. ⌜ r ≡ checkedBy (bitFieldsFirst days (linesOf (now (f .entry)))) (length (bitFieldsIn (now (f .entry)))) (length (linesOf (now (f .entry))) + 1) ⌝ }
+    ensures { λ r. ⌜ r ≡ fieldsChecked days (now (f .entry)) ⌝ }
     ensures { λ r. ⌜ MapAfter BitFields (now (f .entry)) r (now (m .exit)) ⌝ }
 {
     check_section(Section::BitFields, f, days, f, m, 0)
@@ -67,7 +66,7 @@ pub fn check_bit_fields(f: &[u8], days: u32, m: &mut [u32]) -> Checked
 pub fn check_stops(f: &[u8], m: &mut [u32]) -> Checked
     requires { ⌜ length (now f) ≤ mostFileBytes ⌝ }
     requires { ⌜ Lent (now f) (now m) ⌝ }
-    ensures { λ r. ⌜ r ≡ checkedBy (stopsFirst (linesOf (now (f .entry)))) (length (stopsIn (now (f .entry)))) (length (linesOf (now (f .entry))) + 1) ⌝ }
+    ensures { λ r. ⌜ r ≡ stopsChecked (now (f .entry)) ⌝ }
     ensures { λ r. ⌜ MapAfter Stops (now (f .entry)) r (now (m .exit)) ⌝ }
 {
     check_section(Section::Stops, f, 0, f, m, 0)
@@ -80,7 +79,7 @@ pub fn check_interchanges(f: &[u8], bahnhof: &[u8], m: &mut [u32], split: usize)
     requires { ⌜ split ≤ length (now m) ⌝ }
     requires { ⌜ MapOf Stops (now bahnhof) (take split (now m)) ⌝ }
     requires { ⌜ Lent (now f) (drop split (now m)) ⌝ }
-    ensures { λ r. ⌜ r ≡ checkedBy (interchangesFirst (stopsIn (now (bahnhof .entry))) (linesOf (now (f .entry)))) (length (interchangesIn (now (f .entry)))) (length (linesOf (now (f .entry))) + 1) ⌝ }
+    ensures { λ r. ⌜ r ≡ interchangesChecked (now (bahnhof .entry)) (now (f .entry)) ⌝ }
     ensures { λ _. ⌜ take split (now (m .exit)) ≡ take split (now (m .entry)) ⌝ }
 {
     let checked = check_section(Section::Interchanges, f, 0, bahnhof, m, split);
@@ -195,7 +194,7 @@ fn line_kind(section: Section) -> LineKind
 }
 
 // A record's number, which starts in column 1; a category's is its code.
-fn key_on(section: Section, text: &[u8]) -> u32
+pub fn key_on(section: Section, text: &[u8]) -> u32
     ensures { λ r. ⌜ r ≡ keyOn section (now (text .entry)) ⌝ }
 {
     match section {
@@ -242,7 +241,7 @@ fn code_on(text: &[u8]) -> u32
 // ---- checks
 
 // The own checks of every line of a file, whose records go into the words from `split` on. The words before it are the map of BAHNHOF, where UMSTEIGB is
-// checked. An empty line is passed at once: there may be as many as bytes.
+// checked. An empty line is passed at once: there may be as many as bytes; and so is another that is skipped, without being handed on.
 fn check_section(
     section: Section,
     f: &[u8],
@@ -254,7 +253,7 @@ fn check_section(
     requires { ⌜ length (now f) ≤ mostFileBytes ⌝ }
     requires { ⌜ days ≤ mostPeriodDays ⌝ }
     requires { ⌜ Ready section (now f) (now bahnhof) split (now m) ⌝ }
-    ensures { λ r. ⌜ r ≡ checkedBy (first (lineOffence section days (stopsIn (now (bahnhof .entry)))) [] (linesOf (now (f .entry)))) (length (numbers section (linesOf (now (f .entry))))) (length (linesOf (now (f .entry))) + 1) ⌝ }
+    ensures { λ r. ⌜ r ≡ sectionChecked section days (now (bahnhof .entry)) (now (f .entry)) ⌝ }
     ensures { λ r. ⌜ MapAfter section (now (f .entry)) r (drop split (now (m .exit))) ⌝ }
     ensures { λ _. ⌜ take split (now (m .exit)) ≡ take split (now (m .entry)) ⌝ }
 {
@@ -266,6 +265,14 @@ fn check_section(
             at += 1;
             no += 1;
             continue;
+        }
+        if f[at] <= b'%' {
+            let past = reader::past_skipped(f, at);
+            if at < past {
+                at = past;
+                no += 1;
+                continue;
+            }
         }
         let cut = reader::line_from(f, at, no);
         let stop = cut.stop;
@@ -323,9 +330,10 @@ fn line_verdict(
     count: u32,
 ) -> Verdict
     requires { ⌜ days ≤ mostPeriodDays ⌝ }
+    requires { ⌜ n ≡ numberOn section (now text) ⌝ }
     requires { ⌜ count ≡ length (numbers section (linesOf (now before))) ⌝ }
     requires { ⌜ Reached section (now before) (now bahnhof) split (now m) ⌝ }
-    ensures { λ r. ⌜ r ≡ verdictBy (numberedOffence (recordOffence section days (stopsIn (now (bahnhof .entry))) (linesOf (now (before .entry))) no (now (text .entry))) no n) ⌝ }
+    ensures { λ r. ⌜ r ≡ lineVerdict section days (now (bahnhof .entry)) (now (before .entry)) no (now (text .entry)) n ⌝ }
 {
     match n {
         Numbered::Skipped => Verdict::Fine,
@@ -351,7 +359,7 @@ fn line_verdict(
     }
 }
 
-// 7, 6 or 8: 000000, seen earlier, frame bits wrong.
+// 7, 6 or 8: 000000, seen earlier, frame bits wrong. The line has its form, so its bits are hex digits.
 fn field_verdict(
     number: u32,
     before: &[u8],
@@ -361,8 +369,9 @@ fn field_verdict(
     days: u32,
 ) -> Verdict
     requires { ⌜ days ≤ mostPeriodDays ⌝ }
+    requires { ⌜ every isHex (columns 8 103 (now text)) ≡ true ⌝ }
     requires { ⌜ Seen BitFields (linesOf (now before)) (now seen) ⌝ }
-    ensures { λ r. ⌜ r ≡ verdictBy (bitFieldOffence days (bitFieldsIn (now (before .entry))) no (record { number = number; words = bitsIn (now (text .entry)) })) ⌝ }
+    ensures { λ r. ⌜ r ≡ verdictBy (bitFieldOffence days (bitFieldsIn (now (before .entry))) no (numberedField number (now (text .entry)))) ⌝ }
 {
     if number == 0 {
         return timetable::offends(7, no);
@@ -370,7 +379,7 @@ fn field_verdict(
     if has_number(Section::BitFields, before, seen, number) {
         return timetable::offends(6, no);
     }
-    if bitfield::is_framed(bitfield::bits_in(text), days) {
+    if bitfield::is_framed(bitfield::hex_words(text), days) {
         return Verdict::Fine;
     }
     timetable::offends(8, no)
@@ -379,7 +388,7 @@ fn field_verdict(
 // 39, then the others: the name field is no name list.
 fn named_stop_verdict(number: u32, before: &[u8], seen: &[u32], text: &[u8], no: u32) -> Verdict
     requires { ⌜ Seen Stops (linesOf (now before)) (now seen) ⌝ }
-    ensures { λ r. ⌜ r ≡ verdictBy (namedStopOffence (stopsIn (now (before .entry))) no (now (text .entry)) (record { number = number; offset = 0; size = 0 })) ⌝ }
+    ensures { λ r. ⌜ r ≡ verdictBy (namedStopOffence (stopsIn (now (before .entry))) no (now (text .entry)) (numberedStop number)) ⌝ }
 {
     if name_field::is_named(text) {
         return stop_verdict(number, before, seen, no);
@@ -390,7 +399,7 @@ fn named_stop_verdict(number: u32, before: &[u8], seen: &[u32], text: &[u8], no:
 // 7 or 6: a number that no stop has, seen earlier.
 fn stop_verdict(number: u32, before: &[u8], seen: &[u32], no: u32) -> Verdict
     requires { ⌜ Seen Stops (linesOf (now before)) (now seen) ⌝ }
-    ensures { λ r. ⌜ r ≡ verdictBy (stopOffence (stopsIn (now (before .entry))) no (record { number = number; offset = 0; size = 0 })) ⌝ }
+    ensures { λ r. ⌜ r ≡ verdictBy (stopOffence (stopsIn (now (before .entry))) no (numberedStop number)) ⌝ }
 {
     if is_barred(number) {
         return timetable::offends(7, no);
@@ -427,7 +436,7 @@ fn interchange_verdict(
     requires { ⌜ count ≡ length (numbers Interchanges (linesOf (now before))) ⌝ }
     requires { ⌜ Seen Interchanges (linesOf (now before)) (now seen) ⌝ }
     requires { ⌜ MapOf Stops (now bahnhof) (now stops) ⌝ }
-    ensures { λ r. ⌜ r ≡ verdictBy (interchangeOffence (stopsIn (now (bahnhof .entry))) (interchangesIn (now (before .entry))) no (record { number = number; firstTime = 0; secondTime = 0 })) ⌝ }
+    ensures { λ r. ⌜ r ≡ interchangeVerdict (now (bahnhof .entry)) (now (before .entry)) no number ⌝ }
 {
     if count == 0 {
         if number == ALL_STOPS {

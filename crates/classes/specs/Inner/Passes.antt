@@ -12,17 +12,22 @@ use Rattle.base.specs.Lists.{every}
 use Rattle.columns.specs.Columns.{column, isBlank}
 use Rattle.columns.specs.LineFields.{classCode, classTariff}
 use Rattle.lines.specs.Lines.{Line, linesOf, skipped}
-use Rattle.timetable.specs.Offences.{given, first}
-use Rattle.timetable.specs.Files.{held-in, hasTariff, tariffOf}
+use Rattle.timetable.specs.Offences.{given, first, checkedBy}
+use Rattle.timetable.specs.Files.{held-in, hasTariff, tariffOf, classesIn, classesFirst}
 use Rattle.timetable.specs.Plan.{threeBytes}
 use Rattle.timetable.specs.declared.Offence.{Offence}
-use Rattle.sections.specs.Inner.Sections.{numberOn, numbers, hasNumber}
+use Rattle.timetable.specs.declared.Checked.{Checked}
+use Rattle.sections.specs.Inner.Sections.{numberOn, soundSection, numbers, hasNumber}
 use Rattle.sections.specs.declared.Section.the-variants.{Classes}
 use Rattle.sections.specs.declared.Numbered.{Numbered}
 use Rattle.sections.specs.declared.Numbered.the-variants.{Number, Skipped, Broken}
 use Rattle.classes.specs.declared.Formed.{Formed}
 use Rattle.classes.specs.declared.Stand.{Stand}
 use Rattle.classes.specs.declared.Pass.{Pass}
+
+-- what the check of ZUGART answers
+abbrev pub classesChecked : List ℕ → Checked
+classesChecked f = checkedBy (classesFirst (linesOf f)) (length (classesIn f)) (length (linesOf f) + 1)
 
 -- ---- lines up to a place
 
@@ -49,11 +54,6 @@ pub record Next (f : List ℕ) (at : ℕ) (P : Line → Type 0) : Type 0 where
 
 -- ---- forms
 
-abbrev pub isSound : Numbered → Bool
-isSound Skipped = true
-isSound (Broken column) = false
-isSound (Number k) = true
-
 abbrev pub brokenColumn : Numbered → ℕ
 brokenColumn Skipped = 0
 brokenColumn (Broken column) = column
@@ -61,7 +61,7 @@ brokenColumn (Number k) = 0
 
 -- every line is skipped or has its form
 unfoldable pub sound : List Line → Bool
-sound ls = every (λ (l : Line). isSound (numberOn Classes (l .text))) ls
+sound ls = soundSection Classes ls
 
 -- a line that breaks its form at a column
 unfoldable pub BreaksAt : ℕ → Line → Type 0

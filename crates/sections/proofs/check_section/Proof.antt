@@ -9,7 +9,7 @@ use Rattle.timetable.specs.Offences.{first, checkedBy}
 use Rattle.timetable.specs.Files.{held-in, stopOf}
 use Rattle.sections.specs.Inner.Sections.{numbers, lineOffence}
 use Rattle.sections.proofs.Walk.{Walked}
-use Rattle.sections.proofs.Scans.{scanFrom, scans}
+use Rattle.sections.proofs.Scans.{scanFrom, scans, walked}
 use Rattle.sections.proofs.Fills.{Filling, fills}
 use Rattle.sections.proofs.check_section.Statement.{statement}
 use Rattle.sections.proofs.check_section.Tie as tie
@@ -42,6 +42,21 @@ loop-less c = search scans
 loop-again : tie.Need-loop-again Inv-loop μ-loop
 loop-again c = (search scans, search scans, search scans, search fills)
 
+shared-slice-read-if2 : tie.Need-shared-slice-read-if2 Inv-loop μ-loop
+shared-slice-read-if2 c = search scans
+
+past-skipped-requires : tie.Need-past-skipped-requires Inv-loop μ-loop
+past-skipped-requires c κs = search scans
+
+add-no-2 : tie.Need-add-no-2 Inv-loop μ-loop
+add-no-2 c = search scans
+
+loop-less-2 : tie.Need-loop-less-2 Inv-loop μ-loop
+loop-less-2 c = search scans
+
+loop-again-2 : tie.Need-loop-again-2 Inv-loop μ-loop
+loop-again-2 c = (search scans, search scans, search scans, search fills)
+
 line-from-requires : tie.Need-line-from-requires Inv-loop μ-loop
 line-from-requires c κs = search scans
 
@@ -67,7 +82,7 @@ part-line-verdict-end : tie.Need-part-line-verdict-end Inv-loop μ-loop
 part-line-verdict-end c = search scans
 
 line-verdict-requires : tie.Need-line-verdict-requires Inv-loop μ-loop
-line-verdict-requires c κs = (search scans, (search scans, search fills))
+line-verdict-requires c κs = (search scans, (search scans, (search scans, search fills)))
 
 enum-known-own : tie.Need-enum-known-own Inv-loop μ-loop
 enum-known-own c = search scans
@@ -84,11 +99,11 @@ enum-told c = search scans
 put-number-requires : tie.Need-put-number-requires Inv-loop μ-loop
 put-number-requires c κs = search fills
 
-loop-less-2 : tie.Need-loop-less-2 Inv-loop μ-loop
-loop-less-2 c = search scans
+loop-less-3 : tie.Need-loop-less-3 Inv-loop μ-loop
+loop-less-3 c = search walked
 
-loop-again-2 : tie.Need-loop-again-2 Inv-loop μ-loop
-loop-again-2 c = (search scans, search scans, search scans, search fills)
+loop-again-3 : tie.Need-loop-again-3 Inv-loop μ-loop
+loop-again-3 c = (search scans, search scans, search scans, search fills)
 
 same-length-2 : tie.Need-same-length-2 Inv-loop μ-loop
 same-length-2 c = search scans
@@ -108,6 +123,11 @@ check-section-spec =
     add-no
     loop-less
     loop-again
+    shared-slice-read-if2
+    past-skipped-requires
+    add-no-2
+    loop-less-2
+    loop-again-2
     line-from-requires
     sub-text
     part-text-start
@@ -122,7 +142,7 @@ check-section-spec =
     returns
     enum-told
     put-number-requires
-    loop-less-2
-    loop-again-2
+    loop-less-3
+    loop-again-3
     same-length-2
     returns-2)

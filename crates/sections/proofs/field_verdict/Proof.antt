@@ -17,8 +17,8 @@ offends-requires-2 c κs = search field-checks
 returns-2 : tie.Need-returns-2
 returns-2 c = search field-checks
 
-bits-in-requires : tie.Need-bits-in-requires
-bits-in-requires c κs = search field-checks
+hex-words-requires : tie.Need-hex-words-requires
+hex-words-requires c κs = search field-checks
 
 is-framed-requires : tie.Need-is-framed-requires
 is-framed-requires c κs = search field-checks
@@ -41,7 +41,7 @@ field-verdict-spec =
     has-number-requires
     offends-requires-2
     returns-2
-    bits-in-requires
+    hex-words-requires
     is-framed-requires
     returns-3
     offends-requires-3
