@@ -24,15 +24,16 @@ use Rattle.timetable.specs.declared.Loaded.{Loaded}
 use Rattle.timetable.specs.declared.Loaded.the-variants.{Accepted, Refused as LoadRefused}
 use Rattle.plan.specs.Inner.Services.{allSound}
 use Rattle.plan.proofs.Within.{head-none, plan-sound}
-use Rattle.table_words.specs.Inner.Words.{headerWords, bodyWords}
+use Rattle.table_words.specs.Inner.Words.{headerWords, bodyWords, SectionsSound}
 use Rattle.table_words.specs.declared.Header.{Header}
 use Rattle.load.specs.Inner.Delivered.{longIn, headerOf, deliveredBy, answered, left}
 use Rattle.load.specs.Inner.Helper.{roomOf}
 use Rattle.load.specs.declared.Room.{Room}
 use Rattle.load.specs.declared.Delivered.{Delivered}
+use Rattle.sections.proofs.Sound.{fields-sound, stops-sound, interchanges-sound, classes-sound}
 use Rattle.load.specs.declared.Delivered.the-variants.{Holds, Refused}
 use Rattle.load.proofs.Table.{words-needed, words-used, table-is}
-use Rattle.load.proofs.Files.{too-long, none-too-long, all-short, plan-none}
+use Rattle.load.proofs.Files.{too-long, none-too-long, all-short, sections-none, plan-none}
 use Rattle.load.proofs.Helper.{room-small}
 
 module _ (e b s u p z : List ℕ) (n : ℕ) (k : n ≡ longIn (length e) (length b) (length s) (length u) (length z) (length p)) where
@@ -144,6 +145,16 @@ module _ (e b s u p z : List ℕ) (d : Delivered)
 
     pub none-over : allSound (blocks (linesOf p)) ≡ true
     none-over = plan-sound (bitFieldsIn b) (stopsIn s) (classesIn z) (periodIn (linesOf e) .n) (linesOf p) (plan-none e b s u p z (clean .0))
+
+    pub none-broken : SectionsSound b s u z
+    none-broken =
+        let o = sections-none e b s u p z (clean .0) in
+        record {
+          fields = fields-sound (linesOf b) (periodIn (linesOf e) .n) (o .0);
+          stops = stops-sound (linesOf s) (o .1);
+          interchanges = interchanges-sound (linesOf u) (stopsIn s) (o .2);
+          classes = classes-sound (linesOf z) (o .3);
+        }
 
     words-known : g .words ≡ headerSize + length (bodyWords b s u z p)
     words-known = ap (λ (x : Header). x .words) (sym (clean .1)) ∙ words-needed e b s u p z

@@ -120,14 +120,23 @@ module _ (e b s u p z : List ℕ) where
       pub short-plan : length p ≤ mostFileBytes
       short-plan = all-short .fplan
 
-  pub plan-none : contentOffence (filesOf e b s u p z) ≡ none → planFirst (bitFieldsIn b) (stopsIn s) (classesIn z) (periodIn (linesOf e) .n) (linesOf p) ≡ none
-  plan-none v =
-      let a₁ = then-none (inFile 1 (periodFirst (linesOf e))) _ (sym content-is ∙ v) in
-      let a₂ = then-none (inFile 2 (bitFieldsFirst (periodIn (linesOf e) .n) (linesOf b))) _ (a₁ .1) in
-      let a₃ = then-none (inFile 3 (stopsFirst (linesOf s))) _ (a₂ .1) in
-      let a₄ = then-none (inFile 4 (interchangesFirst (stopsIn s) (linesOf u))) _ (a₃ .1) in
-      let a₆ = then-none (inFile 6 (classesFirst (linesOf z))) _ (a₄ .1) in
-      in-none 5 _ (a₆ .1)
+  module _ (v : contentOffence (filesOf e b s u p z) ≡ none) where
+    -- none in any file
+    each-none : (inFile 2 (bitFieldsFirst (periodIn (linesOf e) .n) (linesOf b)) ≡ none) × (inFile 3 (stopsFirst (linesOf s)) ≡ none) × (inFile 4 (interchangesFirst (stopsIn s) (linesOf u)) ≡ none)
+        × (inFile 6 (classesFirst (linesOf z)) ≡ none) × (inFile 5 (planFirst (bitFieldsIn b) (stopsIn s) (classesIn z) (periodIn (linesOf e) .n) (linesOf p)) ≡ none)
+    each-none =
+        let a₁ = then-none (inFile 1 (periodFirst (linesOf e))) _ (sym content-is ∙ v) in
+        let a₂ = then-none (inFile 2 (bitFieldsFirst (periodIn (linesOf e) .n) (linesOf b))) _ (a₁ .1) in
+        let a₃ = then-none (inFile 3 (stopsFirst (linesOf s))) _ (a₂ .1) in
+        let a₄ = then-none (inFile 4 (interchangesFirst (stopsIn s) (linesOf u))) _ (a₃ .1) in
+        let a₆ = then-none (inFile 6 (classesFirst (linesOf z))) _ (a₄ .1) in
+        (a₂ .0, a₃ .0, a₄ .0, a₆ .0, a₆ .1)
+
+    pub sections-none : (bitFieldsFirst (periodIn (linesOf e) .n) (linesOf b) ≡ none) × (stopsFirst (linesOf s) ≡ none) × (interchangesFirst (stopsIn s) (linesOf u) ≡ none) × (classesFirst (linesOf z) ≡ none)
+    sections-none = (in-none 2 _ (each-none .0), in-none 3 _ (each-none .1), in-none 4 _ (each-none .2), in-none 6 _ (each-none .3))
+
+    pub plan-none : planFirst (bitFieldsIn b) (stopsIn s) (classesIn z) (periodIn (linesOf e) .n) (linesOf p) ≡ none
+    plan-none = in-none 5 _ (each-none .4)
 
 -- ---- a file's own offence, or the next file's: what is said of each is x, and r is what is answered where it does not hold
 

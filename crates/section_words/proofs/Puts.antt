@@ -1,30 +1,37 @@
 -- The needs of writing a record (`search record-puts`), a line (`search line-puts`) and a section (`search section-puts`). Assumes nothing.
 use mathlib.Core.Path.{_≡_, refl, ap, sym, _∙_}
 use mathlib.Core.List.{List, [], _∷_, _++_}
+use mathlib.Core.Bool.{Bool, true, false}
 use Prim.Native.Nat.{ℕ, _+_, _-_, _≤_, _<_}
 use native.Mathlib.Nat.{add-zero}
 use native.Mathlib.Omega.{arith}
 use lib.ListN.{length, getD, take, drop, set, length-append, length-set}
-use Rattle.base.specs.Lists.{gathered}
+use borrow.Author.Needs.{needs}
+use Rattle.base.specs.Lists.{every, gathered}
 use Rattle.base.proofs.Laws.{len-trans, tests}
-use Rattle.columns.specs.Columns.{columns, number}
-use Rattle.lines.specs.Lines.{linesAt, cutAt}
+use Rattle.columns.specs.Columns.{columns, isHex, number}
+use Rattle.lines.specs.Lines.{linesAt, cutAt, skipped}
+use Rattle.reader.specs.Inner.Skips.{pastSkipped}
 use Rattle.lines.specs.declared.Cut.{Cut}
 use Rattle.lines.proofs.Laws.{cutting, lines-none, walk}
 use Rattle.lines.proofs.Pieces.{cut-empty}
+use Rattle.reader.proofs.Skipping.{passed-text, passed-next}
 use Rattle.bitfield.specs.BitField.{bitWords, bitsIn}
 use Rattle.words.specs.Words.{write}
 use Rattle.words.proofs.Laws.{write-none, write-one, write-write}
 use Rattle.timetable.specs.Layout.{mostFileBytes, bitFieldSize, stopSize, interchangeSize, classSize}
 use Rattle.timetable.specs.Files.{nameLength}
-use Rattle.sections.specs.Inner.Sections.{numberOn}
-use Rattle.sections.proofs.Held.{empty-skipped}
+use Rattle.sections.specs.Inner.Sections.{keyOn, numberOn, isSound}
+use Rattle.sections.proofs.Held.{skipped-number, empty-skipped}
+use Rattle.sections.proofs.Walk.{number-small}
+use Rattle.sections.proofs.Scans.{passed-less}
+use Rattle.sections.proofs.Offences.{line-hex}
+use Rattle.sections.proofs.Sound.{sound-number, sound-here, sound-next, sound-empty, sound-passed}
 use Rattle.sections.specs.declared.Section.{Section}
 use Rattle.sections.specs.declared.Section.the-variants.{BitFields, Stops, Interchanges, Classes}
-use Rattle.sections.specs.declared.Numbered.{Numbered}
-use Rattle.sections.specs.declared.Numbered.the-variants.{Number, Skipped, Broken}
+use Rattle.sections.specs.declared.Numbered.the-variants.{Number, Skipped}
 use Rattle.section_words.specs.Inner.Words.{recordWords, wordsOn, sectionWords}
-use Rattle.section_words.proofs.Words.{words-skipped, words-broken, words-number, sizeOf, length-record}
+use Rattle.section_words.proofs.Words.{words-skipped, words-number, sizeOf, length-record}
 
 -- ---- a record
 
@@ -52,35 +59,33 @@ class-written t text q n a h d = rw (← d) (write-one (set t q n) (q + 1) a (cl
 
 pub ruleset record-puts = (tests, bits-room, bits-written, bits-kept, stop-written, interchange-written, class-inside, class-written)
 
--- ---- a line, by what it has for a number
+-- ---- a line: t is whether it is skipped
 
-module _ (s : Section) (start : ℕ) (text : List ℕ) (n : Numbered) (e : n ≡ numberOn s text) (q : ℕ) where
-  -- a line without a record
-  place-stays : wordsOn s start text ≡ [] → q ≡ q + length (wordsOn s start text)
-  place-stays y = sym (rw y (add-zero q))
+-- a bit field's line has hex digits
+pub field-hex : (s : Section) (text : List ℕ) (t : Bool) → t ≡ skipped text → t ≡ false → isSound (numberOn s text) ≡ true → s ≡ BitFields → every isHex (columns 8 103 text) ≡ true
+field-hex s text t d y m z = line-hex s text (Number (keyOn s text)) (keyOn s text) z (sound-number s text m (sym d ∙ y)) refl
 
-  words-stay : (t : List ℕ) → wordsOn s start text ≡ [] → t ≡ write t q (wordsOn s start text)
-  words-stay t y = sym (rw y (write-none t q))
+module _ (s : Section) (start : ℕ) (text : List ℕ) (q : ℕ) (t : Bool) (d : t ≡ skipped text) where
+  -- one that is skipped has no words
+  none-here : t ≡ true → wordsOn s start text ≡ []
+  none-here y = words-skipped s start text Skipped (skipped-number s text (sym d ∙ y)) refl
 
-  pub skipped-place : n ≡ Skipped → q ≡ q + length (wordsOn s start text)
-  skipped-place y = place-stays (words-skipped s start text n e y)
+  pub skipped-place : t ≡ true → q ≡ q + length (wordsOn s start text)
+  skipped-place y = sym (rw (none-here y) (add-zero q))
 
-  pub skipped-written : (t : List ℕ) → n ≡ Skipped → t ≡ write t q (wordsOn s start text)
-  skipped-written t y = words-stay t (words-skipped s start text n e y)
-
-  pub broken-place : (c : ℕ) → n ≡ Broken c → q ≡ q + length (wordsOn s start text)
-  broken-place c y = place-stays (words-broken s start text n e c y)
-
-  pub broken-written : (c : ℕ) (t : List ℕ) → n ≡ Broken c → t ≡ write t q (wordsOn s start text)
-  broken-written c t y = words-stay t (words-broken s start text n e c y)
+  pub skipped-written : (w : List ℕ) → t ≡ true → w ≡ write w q (wordsOn s start text)
+  skipped-written w y = sym (rw (none-here y) (write-none w q))
 
   -- a record of number k: t is the table, r the table afterwards, p the place after it
-  module _ (k : ℕ) (y : n ≡ Number k) where
+  module _ (y : t ≡ false) (m : isSound (numberOn s text) ≡ true) (k : ℕ) (g : k ≡ keyOn s text) where
+    number-is : Number k ≡ numberOn s text
+    number-is = ap Number g ∙ sound-number s text m (sym d ∙ y)
+
     size-is : length (wordsOn s start text) ≡ sizeOf s
-    size-is = ap length (words-number s start text n e k y) ∙ length-record s start text k
+    size-is = ap length (words-number s start text (Number k) number-is k refl) ∙ length-record s start text k
 
     record-put : (t r ws : List ℕ) → recordWords s start text k ≡ ws → r ≡ write t q ws → r ≡ write t q (wordsOn s start text)
-    record-put t r ws z d = d ∙ sym (ap (write t q) (words-number s start text n e k y ∙ z))
+    record-put t r ws z x = x ∙ sym (ap (write t q) (words-number s start text (Number k) number-is k refl ∙ z))
 
     module _ (z : s ≡ BitFields) where
       pub field-room : (t : List ℕ) → q + length (wordsOn s start text) ≤ length t → q + bitFieldSize ≤ length t
@@ -122,15 +127,12 @@ module _ (s : Section) (start : ℕ) (text : List ℕ) (n : Numbered) (e : n ≡
       pub class-put : (t r : List ℕ) → r ≡ write t q (k ∷ number (columns 5 6 text) ∷ []) → r ≡ write t q (wordsOn s start text)
       class-put t r d = record-put t r _ (rw z refl) d
 
-pub ruleset line-puts = (tests, skipped-place, skipped-written, broken-place, broken-written, field-room, field-place, field-put, stop-room, stop-place, stop-put, interchange-room, interchange-place, interchange-put, class-room, class-place, class-put)
+pub ruleset line-puts = (tests, skipped-place, skipped-written, field-hex, field-room, field-place, field-put, stop-room, stop-place, stop-put, interchange-room, interchange-place, interchange-put, class-room, class-place, class-put)
 
 -- ---- a section: t₀ and p are the table and the place at entry, n the words of the file; r is the line cut at the place `at`
 
 pub start-small : (f : List ℕ) (at : ℕ) → at < length f → length f ≤ mostFileBytes → at ≤ mostFileBytes
 start-small f at h l = omega arith
-
-pub number-small : (f : List ℕ) (at n : ℕ) → n ≤ at + 1 → at < length f → length f ≤ mostFileBytes → n < 4294967295
-number-small f at n v h l = omega arith
 
 module _ (f : List ℕ) (at no : ℕ) (r : Cut) (h : at < length f) (e : r ≡ cutAt f at no) (s : Section) where
   -- the words of this line, and those of the lines after it
@@ -159,18 +161,34 @@ module _ (f : List ℕ) (at no : ℕ) (r : Cut) (h : at < length f) (e : r ≡ c
           → write t′ q′ (sectionWords s (linesAt f (r .next) (r .no))) ≡ w
       put-again t′ w k v = rw (k, next) (write-write t q here after put-room ∙ sym (ap (write t q) words-step) ∙ v)
 
--- an empty line, passed at once
+-- a line that is skipped, passed at once: r is the line as it would be cut
+skip-words : (f : List ℕ) (at line : ℕ) (r : Cut) (h : at < length f) (e : r ≡ cutAt f at line) (s : Section) → Skipped ≡ numberOn s (take (r .stop - at) (drop at f))
+    → sectionWords s (linesAt f at line) ≡ sectionWords s (linesAt f (r .next) (r .no))
+skip-words f at line r h e s y =
+    words-step f at line r h e s
+    ∙ ap (λ (ws : List ℕ). ws ++ sectionWords s (linesAt f (r .next) (r .no))) (words-skipped s at (take (r .stop - at) (drop at f)) Skipped y refl)
+
 module _ (f : List ℕ) (at no : ℕ) (h : at < length f) (b : getD f at 0 ≡ 10) (s : Section) (q : ℕ) where
   empty-words : sectionWords s (linesAt f at no) ≡ sectionWords s (linesAt f (at + 1) (no + 1))
-  empty-words =
-      words-step f at no _ h (cut-empty f at no h b) s
-      ∙ ap (λ (ws : List ℕ). ws ++ sectionWords s (linesAt f (at + 1) (no + 1))) (words-skipped s at (take (at - at) (drop at f)) Skipped (empty-skipped s f at) refl)
+  empty-words = skip-words f at no _ h (cut-empty f at no h b) s (empty-skipped s f at)
 
   pub empty-count : (m : ℕ) → q + length (sectionWords s (linesAt f at no)) ≡ m → q + length (sectionWords s (linesAt f (at + 1) (no + 1))) ≡ m
   empty-count m v = rw empty-words at v
 
   pub empty-again : (t w : List ℕ) → write t q (sectionWords s (linesAt f at no)) ≡ w → write t q (sectionWords s (linesAt f (at + 1) (no + 1))) ≡ w
   empty-again t w v = rw empty-words at v
+
+module _ (f : List ℕ) (at no p : ℕ) (h : at < length f) (e : p ≡ pastSkipped f at) (l : at < p) (s : Section) (q : ℕ) where
+  passed-words : sectionWords s (linesAt f at no) ≡ sectionWords s (linesAt f p (no + 1))
+  passed-words =
+      skip-words f at no (cutAt f at no) h refl s (skipped-number s (take (cutAt f at no .stop - at) (drop at f)) (passed-text f at no p e l))
+      ∙ rw (passed-next f at no p e l, cutting f at no (cutAt f at no) h refl .count) refl
+
+  pub passed-count : (m : ℕ) → q + length (sectionWords s (linesAt f at no)) ≡ m → q + length (sectionWords s (linesAt f p (no + 1))) ≡ m
+  passed-count m v = rw passed-words at v
+
+  pub passed-again : (t w : List ℕ) → write t q (sectionWords s (linesAt f at no)) ≡ w → write t q (sectionWords s (linesAt f p (no + 1))) ≡ w
+  passed-again t w v = rw passed-words at v
 
 module _ (f : List ℕ) (at no : ℕ) (h : length f ≤ at) (s : Section) (q : ℕ) where
   pub put-last : (m : ℕ) → q + length (sectionWords s (linesAt f at no)) ≡ m → q ≡ m
@@ -181,6 +199,11 @@ module _ (f : List ℕ) (at no : ℕ) (h : length f ≤ at) (s : Section) (q : �
   unfolding sectionWords gathered
   put-done t w v = sym (write-none t q) ∙ (rw (lines-none f at no h) at v)
 
-pub ruleset section-puts = (tests, walk, start-small, number-small, put-room, put-count, put-again, put-last, put-done, len-trans)
+pub ruleset section-puts = (tests, walk, start-small, number-small, sound-here, sound-next, put-room, put-count, put-again, put-last, put-done, len-trans)
 
-pub ruleset empty-puts = (tests, empty-count, empty-again)
+pub ruleset empty-puts = (tests, sound-empty, empty-count, empty-again, sound-passed, passed-less, passed-count, passed-again)
+
+-- what a line asks for, each by its own law: there are many facts before it
+pub ruleset line-small = (needs, start-small)
+
+pub ruleset line-sound = (needs, sound-here)

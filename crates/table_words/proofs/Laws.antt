@@ -1,18 +1,21 @@
 -- A header and sections written one after the other are the table's words. Assumes nothing.
 use mathlib.Core.Path.{_≡_, _∙_}
 use mathlib.Core.List.{List, [], _∷_, _++_}
+use mathlib.Core.Bool.{true}
 use Prim.Native.Nat.{ℕ, _+_, _≤_}
 use native.Mathlib.Omega.{arith}
 use lib.ListN.{length, length-append}
+use borrow.Author.Needs.{needs}
 use Rattle.base.proofs.Laws.{len-trans, tests}
 use Rattle.lines.specs.Lines.{linesOf}
 use Rattle.words.specs.Words.{write}
 use Rattle.words.proofs.Laws.{write-write}
 use Rattle.timetable.specs.Layout.{headerSize}
+use Rattle.sections.specs.Inner.Sections.{soundSection}
 use Rattle.sections.specs.declared.Section.the-variants.{BitFields, Stops, Interchanges, Classes}
 use Rattle.section_words.specs.Inner.Words.{sectionWords}
 use Rattle.table_words.specs.declared.Header.{Header}
-use Rattle.table_words.specs.Inner.Words.{headerWords, sectionsWords}
+use Rattle.table_words.specs.Inner.Words.{headerWords, sectionsWords, SectionsSound}
 
 -- ---- the header, for `search heading`
 
@@ -77,6 +80,22 @@ sections-end b s u z q q₁ q₂ q₃ q₄ e₁ e₂ e₃ e₄ =
       length-append (sectionWords Stops (linesOf s)) (sectionWords Interchanges (linesOf u) ++ sectionWords Classes (linesOf z)),
       length-append (sectionWords Interchanges (linesOf u)) (sectionWords Classes (linesOf z)),
     )
+
+-- what is known of each file, for `search sounds`
+module _ (b s u z : List ℕ) (w : SectionsSound b s u z) where
+  pub sound-fields : soundSection BitFields (linesOf b) ≡ true
+  sound-fields = w .fields
+
+  pub sound-stops : soundSection Stops (linesOf s) ≡ true
+  sound-stops = w .stops
+
+  pub sound-interchanges : soundSection Interchanges (linesOf u) ≡ true
+  sound-interchanges = w .interchanges
+
+  pub sound-classes : soundSection Classes (linesOf z) ≡ true
+  sound-classes = w .classes
+
+pub ruleset sounds = (needs, sound-fields, sound-stops, sound-interchanges, sound-classes)
 
 pub ruleset sections = (tests, room-fields, room-stops, room-interchanges, room-classes, sections-written, sections-end, len-trans)
 

@@ -15,7 +15,7 @@ ghost use Rattle.timetable.specs.Checks.{headFirst};
 ghost use Rattle.draft.specs.Inner.Draft.{callsLent, rangesLent};
 ghost use Rattle.reading.specs.Inner.Maps.{StopMap};
 ghost use Rattle.plan.specs.Inner.Services.{allSound};
-ghost use Rattle.table_words.specs.Inner.Words.{headerWords, sectionsWords, bodyWords};
+ghost use Rattle.table_words.specs.Inner.Words.{headerWords, sectionsWords, bodyWords, SectionsSound};
 
 // The table's header: the words used, the period, how many records each section has, and the place of the first service. "The last being the count of
 // categories".
@@ -50,6 +50,7 @@ pub fn put_table(
     requires { ⌜ (callsLent ≤ length (now calls)) × (rangesLent ≤ length (now ranges)) ⌝ }
     requires { ⌜ (headFirst (linesOf (now fplan)) ≡ none) × (allSound (blocks (linesOf (now fplan))) ≡ true) ⌝ }
     requires { ⌜ headerSize + length (bodyWords (now bitfeld) (now bahnhof) (now umsteigb) (now zugart) (now fplan)) ≤ length (now t) ⌝ }
+    requires { ⌜ SectionsSound (now bitfeld) (now bahnhof) (now umsteigb) (now zugart) ⌝ }
     ensures { λ r. ⌜ now (t .exit) ≡ write (now (t .entry)) 0
         (headerWords h ++ bodyWords (now (bitfeld .entry)) (now (bahnhof .entry)) (now (umsteigb .entry)) (now (zugart .entry)) (now (fplan .entry))) ⌝ }
 {
@@ -79,6 +80,7 @@ fn put_sections(
     requires { ⌜ (length (now bitfeld) ≤ mostFileBytes) × (length (now bahnhof) ≤ mostFileBytes) × (length (now umsteigb) ≤ mostFileBytes) ×
         (length (now zugart) ≤ mostFileBytes) ⌝ }
     requires { ⌜ q + length (sectionsWords (now bitfeld) (now bahnhof) (now umsteigb) (now zugart)) ≤ length (now t) ⌝ }
+    requires { ⌜ SectionsSound (now bitfeld) (now bahnhof) (now umsteigb) (now zugart) ⌝ }
     ensures { λ r. ⌜ (r ≡ q + length (sectionsWords (now (bitfeld .entry)) (now (bahnhof .entry)) (now (umsteigb .entry)) (now (zugart .entry)))) ×
         (now (t .exit) ≡ write (now (t .entry)) q
         (sectionsWords (now (bitfeld .entry)) (now (bahnhof .entry)) (now (umsteigb .entry)) (now (zugart .entry)))) ⌝ }

@@ -1,6 +1,6 @@
 use mathlib.Core.Path.{_∙_}
 use Rattle.base.proofs.Laws.{tests}
-use Rattle.load.proofs.Answers.{loading, refused, stays, too-short, left-alone, none-stray, none-over, room-enough, accepted, filled}
+use Rattle.load.proofs.Answers.{loading, refused, stays, too-short, left-alone, none-stray, none-broken, none-over, room-enough, accepted, filled}
 use Rattle.load.proofs.Helper.{standing}
 use Rattle.load.proofs.load_drafting.Statement.{statement}
 use Rattle.load.proofs.load_drafting.Tie as tie
@@ -74,7 +74,10 @@ put-table-requires c κs =
               search (none-stray, checked .check-delivery .ensures .0, told .delivered2 .given .1),
               search (none-over, checked .check-delivery .ensures .0, told .delivered2 .given .1),
             ),
-            search (room-enough, checked .check-delivery .ensures .0, told .delivered2 .given .1, room .if1 .left),
+            (
+              search (room-enough, checked .check-delivery .ensures .0, told .delivered2 .given .1, room .if1 .left),
+              search (none-broken, checked .check-delivery .ensures .0, told .delivered2 .given .1),
+            ),
           ),
         ),
       ),

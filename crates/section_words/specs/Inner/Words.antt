@@ -11,11 +11,15 @@ use Rattle.sections.specs.Inner.Sections.{numberOn, asNumber}
 use Rattle.sections.specs.declared.Section.{Section}
 use Rattle.sections.specs.declared.Section.the-variants.{BitFields, Stops, Interchanges, Classes}
 
+-- the words of an interchange record of number k
+abbrev pub timesOn : List ℕ → ℕ → List ℕ
+timesOn text k = k ∷ number (fieldIn interchangeFirst text) ∷ number (fieldIn interchangeSecond text) ∷ []
+
 -- the words of the record of number k on a line that starts at a place
 abbrev pub recordWords : Section → ℕ → List ℕ → ℕ → List ℕ
 recordWords BitFields start text k = k ∷ bitsIn text
 recordWords Stops start text k = k ∷ (start + 12) ∷ nameLength (fieldIn stopNames text) ∷ []
-recordWords Interchanges start text k = k ∷ number (fieldIn interchangeFirst text) ∷ number (fieldIn interchangeSecond text) ∷ []
+recordWords Interchanges start text k = timesOn text k
 recordWords Classes start text k = k ∷ number (fieldIn classNumber text) ∷ []
 
 -- those that the line gives

@@ -1,18 +1,18 @@
-use Rattle.table_words.proofs.Laws.{sections-written, sections}
+use Rattle.table_words.proofs.Laws.{sections-written, sounds, sections}
 use Rattle.table_words.proofs.put_sections.Statement.{statement}
 use Rattle.table_words.proofs.put_sections.Tie as tie
 
 put-section-requires : tie.Need-put-section-requires
-put-section-requires c κs = search sections
+put-section-requires c κs = (search sections, (search sounds, search sections))
 
 put-section-requires-2 : tie.Need-put-section-requires-2
-put-section-requires-2 c κs = search sections
+put-section-requires-2 c κs = (search sections, (search sounds, search sections))
 
 put-section-requires-3 : tie.Need-put-section-requires-3
-put-section-requires-3 c κs = search sections
+put-section-requires-3 c κs = (search sections, (search sounds, search sections))
 
 put-section-requires-4 : tie.Need-put-section-requires-4
-put-section-requires-4 c κs = search sections
+put-section-requires-4 c κs = (search sections, (search sounds, search sections))
 
 same-length : tie.Need-same-length
 same-length c = search sections
@@ -27,7 +27,7 @@ returns c =
       search sections,
       search (
         sections-written,
-        start .pre .1,
+        start .pre .1 .0,
         fields .put-section .ensures,
         fields .put-section .kept,
         stops .put-section2 .ensures,
