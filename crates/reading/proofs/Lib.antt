@@ -1,5 +1,6 @@
 pub mod Heads
 pub mod Passing
+pub mod Reaching
 pub mod Own
 pub mod Again
 pub mod Checking

@@ -1,8 +1,10 @@
 // Reads FPLAN service by service: each line of a service is cut and told once, and drafted. A service ends where the next line that opens one
 // starts, or with the file.
+use columns::line_fields::plan_line;
 use draft::Counts;
 use draft::Drafted;
 use forms::Kind;
+use lines::Cut;
 use reader::Reader;
 use timetable::Offence;
 use timetable::Opening;
@@ -15,6 +17,7 @@ ghost use mathlib.Core.Bool.{true};
 ghost use Prim.Native.Nat.{_+_, _-_, _≤_, _<_};
 ghost use lib.ListN.{length, take, drop};
 ghost use lib.Dec.{leb};
+ghost use Rattle.lines.specs.Lines.{cutAt};
 ghost use Rattle.timetable.specs.Layout.{mostFileBytes, mostCalls};
 ghost use Rattle.timetable.specs.Offences.{verdictBy};
 ghost use Rattle.timetable.specs.Files.{bitFieldsIn, stopsIn, classesIn};
@@ -25,7 +28,7 @@ ghost use Rattle.timetable.specs.Legs.{fieldKnown};
 ghost use Rattle.timetable.specs.Checks.{most, categoryListed};
 ghost use Rattle.draft.specs.Inner.Draft.{callsLent, rangesLent, callsOn, rangesOn, onLine, callsAfter, counted, ranges#, Within};
 ghost use Rattle.reading.specs.Inner.Maps.{FieldMap, StopMap, ClassIndex};
-ghost use Rattle.reading.specs.Inner.Reading.{serviceLinesAt, Boundary, Sound, isFormed, ServiceRead, ReadAs, HeadAs, endsHead, headBy, NextAs};
+ghost use Rattle.reading.specs.Inner.Reading.{serviceLinesAt, Boundary, Sound, Reaching, isFormed, ServiceRead, ReadAs, HeadAs, endsHead, headBy, NextAs};
 ghost use Rattle.reading.specs.Inner.Reading.{countOf, categoryAfter, rangeAfter, callAfter, formAfter, offenceAfter};
 
 // A service as it was read and drafted, or the first own offence of its lines.
@@ -177,7 +180,7 @@ pub fn read_again(
     let mut end = cut.next;
     let mut line = cut.no;
     while end < fplan.len() {
-        let after = reader::line_from(fplan, end, line);
+        let after = cut_again(fplan, end, line);
         let last = after.stop;
         let kind = forms::kind_of(&fplan[end..last]);
         if timetable::is_opening(kind) {
@@ -208,6 +211,19 @@ pub fn read_again(
         end,
         no: line,
     }
+}
+
+// The line that starts at a place, where the lines were checked: a schedule line has its mark in column 59, so that its end is not looked for before it.
+fn cut_again(fplan: &[u8], at: usize, no: u32) -> Cut
+    requires { ⌜ at < length (now fplan) ⌝ }
+    requires { ⌜ no < 4294967295 ⌝ }
+    requires { ⌜ Reaching (now fplan) at ⌝ }
+    ensures { λ r. ⌜ r ≡ cutAt (now (fplan .entry)) at no ⌝ }
+{
+    if columns::is_digit(fplan[at]) {
+        return reader::line_beyond(fplan, at, no, plan_line::MARK);
+    }
+    reader::line_from(fplan, at, no)
 }
 
 // Drafts a line of a kind whose form is not broken.

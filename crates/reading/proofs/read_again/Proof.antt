@@ -3,6 +3,7 @@ use Prim.Native.Nat.{_-_}
 use lib.ListN.{length}
 use Rattle.reading.specs.Inner.Reading.{serviceLinesAt, Sound}
 use Rattle.reading.proofs.Passing.{Passed, passing}
+use Rattle.reading.proofs.Reaching.{reaching}
 use Rattle.reading.proofs.read_again.Statement.{statement}
 use Rattle.reading.proofs.read_again.Tie as tie
 
@@ -37,8 +38,8 @@ no-counts-requires c κs = search passing
 loop-holds : tie.Need-loop-holds Inv-loop μ-loop
 loop-holds c = (search passing, search passing, search passing, search passing)
 
-line-from-requires-2 : tie.Need-line-from-requires-2 Inv-loop μ-loop
-line-from-requires-2 c κs = search passing
+cut-again-requires : tie.Need-cut-again-requires Inv-loop μ-loop
+cut-again-requires c κs = (search passing, (search passing, search reaching))
 
 sub-kind-of : tie.Need-sub-kind-of Inv-loop μ-loop
 sub-kind-of c = search passing
@@ -105,7 +106,7 @@ read-again-spec =
     opening-of-requires
     no-counts-requires
     loop-holds
-    line-from-requires-2
+    cut-again-requires
     sub-kind-of
     part-kind-of-start
     part-kind-of-end

@@ -5,10 +5,11 @@ use mathlib.Core.Path.{_≡_}
 use mathlib.Core.List.{List, [], _∷_}
 use mathlib.Core.Bool.{Bool, true, false, not, cond}
 use mathlib.Core.Option.{Option, none, some}
-use lib.ListN.{length}
+use lib.ListN.{length, getD, drop}
 use lib.Dec.{leb}
 use Rattle.base.specs.Lists.{every}
-use Rattle.lines.specs.Lines.{Line, linesAt, linesOf, skipped}
+use Rattle.columns.specs.Columns.{isDigit}
+use Rattle.lines.specs.Lines.{Line, linesAt, linesOf, toLF, skipped}
 use Rattle.forms.specs.Kinds.{kindOf}
 use Rattle.forms.specs.declared.Form.the-variants.{Broken as BrokenForm}
 use Rattle.timetable.specs.Layout.{mostFileBytes, mostCalls}
@@ -75,6 +76,10 @@ allFormed ls = every (λ (l : Line). isFormed (toldIn (l .text))) ls
 pub record Sound (ls : List Line) : Type 0 where
   pub within : Within (countsOf ls)
   pub formed : allFormed ls ≡ true
+
+-- a schedule line that starts at a place has no LF before column 60
+pub record Reaching (f : List ℕ) (at : ℕ) : Type 0 where
+  pub long : isDigit (getD f at 0) ≡ true → 59 ≤ toLF (drop at f)
 
 -- ---- the steps of reading
 

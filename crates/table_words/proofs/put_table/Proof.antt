@@ -29,7 +29,7 @@ returns c =
     let start = header .before .before .before .before .before .before .before .before .before .before .before in
     search (
       joining,
-      start .pre .1 .1 .1 .1,
+      start .pre .1 .1 .1 .1 .0,
       header .put-header .kept .1 .0,
       header .put-header .ensures,
       sections .put-sections .kept .1 .1 .1 .1 .0,
