@@ -9,8 +9,7 @@ use lib.ListN.{length, getD, drop}
 use lib.Seq.{getD-drop}
 use Rattle.base.specs.Lists.{every}
 use Rattle.base.proofs.Laws.{tests}
-use Rattle.timetable.specs.Layout.{daySize}
-use Rattle.timetable.specs.Table.{rowsIn, categories#, days#, extras#, categoryPlace, dayPlace, sizesSound}
+use Rattle.timetable.specs.Table.{rowsIn, categories#, days#, extras#, categoryPlace, dayPlace, extraPlace, sizesSound}
 use Rattle.timetable.specs.declared.Part.{Part}
 use Rattle.timetable.specs.declared.Part.the-variants.{Category, Days, Extra}
 use Rattle.timetable.proofs.Rows.{stride-turn, rows-again, rows-out, rows-done}
@@ -24,13 +23,6 @@ use Rattle.service_lines.specs.Inner.Record.{partSize, partCount, partPl
 module _ (s : List ℕ) (e : sizesSound s ≡ true) where
   pub record-inside : recordEnd s ≤ length s
   record-inside = sizes-say s e .inside
-
-  -- x is the number of *A VE, y where they begin
-  pub days-fit : (x : ℕ) → x ≡ days# s → length s < 2 ^ 64 → daySize * x < 2 ^ 64
-  days-fit x q l = omega (arith, record-inside)
-
-  pub days-end : (x y : ℕ) → x ≡ days# s → y ≡ dayPlace s → length s < 2 ^ 64 → y + daySize * x < 2 ^ 64
-  days-end x y q p l = omega (arith, record-inside)
 
   pub parts-inside : (p : Part) → partPlace p s + partSize p * partCount p s ≤ length s
   parts-inside Category = omega (arith, record-inside)
@@ -54,10 +46,10 @@ module _ (p : Part) (s : List ℕ) where
     pub place-days : p ≡ Days → x ≡ dayPlace s → x ≡ partPlace p s
     place-days e q = rw e q
 
-    pub place-extra : (y : ℕ) → p ≡ Extra → y ≡ dayPlace s → x ≡ days# s → y + daySize * x ≡ partPlace p s
-    place-extra y e a b = rw (e, a, b)
+    pub place-extra : p ≡ Extra → x ≡ extraPlace s → x ≡ partPlace p s
+    place-extra e q = rw e q
 
-pub ruleset parts = (tests, head-word, record-inside, days-fit, days-end, count-category, count-days, count-extra, place-category, place-days, place-extra)
+pub ruleset parts = (tests, head-word, record-inside, count-category, count-days, count-extra, place-category, place-days, place-extra)
 
 -- ---- a range at q
 

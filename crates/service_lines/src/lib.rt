@@ -59,7 +59,7 @@ pub fn part_place(s: &[u32], part: Part) -> usize
     match part {
         Part::Category => table::category_place(s),
         Part::Days => table::day_place(s),
-        Part::Extra => table::day_place(s) + DAYS_WORDS * table::size(s[DAYS_AT]),
+        Part::Extra => table::extra_place(s),
     }
 }
 

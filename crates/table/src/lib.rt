@@ -341,7 +341,7 @@ pub fn day_place(w: &[u32]) -> usize
 }
 
 // Where its other *A begin.
-fn extra_place(w: &[u32]) -> usize
+pub fn extra_place(w: &[u32]) -> usize
     requires { ⌜ recordEnd (now w) ≤ length (now w) ⌝ }
     ensures { λ r. ⌜ r ≡ extraPlace (now (w .entry)) ⌝ }
 {

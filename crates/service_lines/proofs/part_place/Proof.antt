@@ -17,20 +17,8 @@ day-place-requires c κs = search parts
 enum-told-3 : tie.Need-enum-told-3
 enum-told-3 c = search parts
 
-day-place-requires-2 : tie.Need-day-place-requires-2
-day-place-requires-2 c κs = search parts
-
-shared-slice-read-size : tie.Need-shared-slice-read-size
-shared-slice-read-size c = search parts
-
-size-requires : tie.Need-size-requires
-size-requires c κs = search parts
-
-mul-result : tie.Need-mul-result
-mul-result c = search parts
-
-add-result : tie.Need-add-result
-add-result c = search parts
+extra-place-requires : tie.Need-extra-place-requires
+extra-place-requires c κs = search parts
 
 returns : tie.Need-returns
 returns c = search parts
@@ -50,11 +38,7 @@ part-place-spec =
     enum-told-2
     day-place-requires
     enum-told-3
-    day-place-requires-2
-    shared-slice-read-size
-    size-requires
-    mul-result
-    add-result
+    extra-place-requires
     returns
     returns-2
     returns-3)
