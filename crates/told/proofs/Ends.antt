@@ -1,7 +1,7 @@
 -- The ends of a range by words of eight bytes: the same as column by column. Assumes nothing.
 use mathlib.Core.Path.{_≡_, refl, ap, sym, _∙_}
 use mathlib.Core.List.{List}
-use mathlib.Core.Bool.{Bool, true, false}
+use mathlib.Core.Bool.{Bool, true, false, _||_}
 use Prim.Native.Nat.{ℕ, _+_, _-_, _/_, _%_, _≤_}
 use native.Mathlib.Nat.{div-one}
 use native.Mathlib.Omega.{arith}
@@ -15,10 +15,11 @@ use Rattle.columns.specs.Columns.{columns, padTo, isDigit, blank, digits, numbe
 use Rattle.fields.specs.Fields.{hash, hashDigits, timeIn, rangeEnd, rangeEndIn, detail, detailIn}
 use Rattle.fields.specs.declared.RangeEnd.the-variants.{Outer, Stop}
 use Rattle.fields.specs.declared.Detail.the-variants.{Plain}
-use Rattle.byte_words.specs.Inner.Words.{bytesOf}
+use Rattle.byte_words.specs.Inner.Words.{bytesOf, isFigure}
 use Rattle.byte_words.proofs.Lines.{columns-word, blank-in}
 use Rattle.byte_words.proofs.Numbers.{are-digits}
 use Rattle.told.specs.Inner.Marked.{markColumn}
+use Rattle.told.proofs.Form.{figures}
 
 -- digits are not blank
 not-blank : (w : ℕ) → digits (bytesOf 7 w) ≡ true → blank (bytesOf 7 w) ≡ false
@@ -65,3 +66,21 @@ module _ (l : List ℕ) (a b w : ℕ) (h : 1 ≤ a) (i : a + 7 ≤ markColumn) (
       rw (z, n) refl
 
 pub ruleset ending = (tests, place-blank, place-stop, are-digits, detail-blank)
+
+-- ---- numbers by a word: t says whether its first bytes are digits, r is their number, for `search numbered`
+
+module _ (l : List ℕ) (w : ℕ) (t : Bool) (h : markColumn ≤ length l) (y : t ≡ true) where
+  pub field-said : (r : ℕ) → bytesOf 8 w ≡ take 8 (drop 22 l) → t ≡ digits (bytesOf 6 w) → r ≡ number (bytesOf 6 w) → r ≡ number (columns 23 28 l)
+  field-said r e d v = v ∙ ap number (sym (columns-word l 22 w e (omega (arith, h)) 0 6 23 28 refl refl (lit≤ tt) ∙ ap (bytesOf 6) (div-one w)))
+
+  pub number-said : (r : ℕ) → bytesOf 8 w ≡ take 8 (drop 3 l) → t ≡ digits (bytesOf 5 w) → r ≡ number (bytesOf 5 w) → r ≡ number (columns 4 8 l)
+  number-said r e d v = v ∙ ap number (sym (columns-word l 3 w e (omega (arith, h)) 0 5 4 8 refl refl (lit≤ tt) ∙ ap (bytesOf 5) (div-one w)))
+
+pub figures-known : (w : ℕ) (t : Bool) → t ≡ digits (bytesOf 5 w) → t ≡ true → every isFigure (bytesOf 5 w) ≡ true
+figures-known w t e y = figures (bytesOf 5 w) (rw (← e, y) (go (blank (bytesOf 5 w))))
+  where
+    go : (b : Bool) → (b || true) ≡ true
+    go true = refl
+    go false = refl
+
+pub ruleset numbered = (tests, are-digits, figures-known, field-said, number-said)
