@@ -1,7 +1,7 @@
 -- The needs of the functions of src: each value that code computed stands with its equation. Assumes nothing.
 use mathlib.Core.Path.{_≡_, refl, ap, _∙_, sym}
 use mathlib.Core.List.{List, [], _∷_, _++_, append-assoc, append-nil}
-use mathlib.Core.Bool.{Bool, true, false, cond}
+use mathlib.Core.Bool.{Bool, true, false, cond, not}
 use mathlib.Core.Logic.{⊎-elim}
 use Prim.Native.Nat.{ℕ, zero, suc, _+_, _-_, _*_, _/_, _^_, _≤_, _<_}
 use native.Mathlib.Nat.{mul-le-mul, eq-or-lt-of-le}
@@ -10,7 +10,7 @@ use native.Mathlib.Omega.{arith}
 use lib.ListN.{length, getD, take, drop, set, length-set, length-append, length-take, drop-of-length-le}
 use lib.Seq.{take-suc, take-set-le, drop-cons, getD-take, getD-set-same, getD-set-other, length-take-le}
 use lib.Dec.{eqb}
-use borrow.Author.Tests.{eq-eqb, eqb-true, lt-ltb, le-ltb}
+use borrow.Author.Tests.{eq-eqb, eqb-true, lt-ltb, le-ltb, not-false}
 use Rattle.base.specs.Lists.{gathered}
 use Rattle.base.proofs.Laws.{tests}
 use Rattle.base.proofs.Lists.{gathered-append, length-map-upto}
@@ -39,7 +39,7 @@ use Rattle.board_runs.specs.declared.Batch.{Batch}
 use Rattle.board_runs.proofs.Hidden.{none-long}
 use Rattle.stop_calls.specs.StopCalls.{entries#, entryWord, callsBy, Lent, leftAt, On}
 use Rattle.stop_calls.specs.declared.Cursor.{Cursor}
-use Rattle.boards.specs.ByWords.{entryDepartures, departuresBy, boardBy, Lends, Along, leftDepartures, Calm, Few, oneIf, Entry, KeptFrom, Kept, Told, Keeping, PuttingKept, Putting, most}
+use Rattle.boards.specs.ByWords.{entryDepartures, departuresBy, boardBy, Lends, Along, leftDepartures, Calm, Few, oneIf, Behind, Entry, KeptFrom, Kept, Told, Keeping, PuttingKept, Putting, most}
 use Rattle.boards.proofs.Bounds.{call-few, gathered-few}
 
 -- ---- one call
@@ -221,6 +221,30 @@ front-more l m e h =
     ap (λ (j : ℕ). take j (set l m e)) (add-one m) ∙ take-suc (set l m e) m 0 (simp length-set h)
     ∙ (λ j. take-set-le m l m e (omega arith) j ++ (getD-set-same l m e 0 h j ∷ []))
 
+-- the calls behind one that are told to give none are passed over
+module _ (w x y : List ℕ) (end n from stop t u : ℕ) (c r : Cursor) where
+  pub behind-next : leftAt w x y end n from stop c ≡ c .call ∷ leftAt w x y end n from stop r → On y n r → Behind w x y end n from stop t u c r
+  behind-next q o = record { on = o; rest = λ k. split w x y end n from stop k t u c r q; less = rw q (omega arith) }
+
+  module _ (g : Behind w x y end n from stop t u c r) where
+    pub behind-on : On y n r
+    behind-on = g .on
+
+    pub behind-within : r .call ≤ entries# n y
+    behind-within = g .on .call
+
+    pub behind-less : length (leftAt w x y end n from stop r) < length (leftAt w x y end n from stop c)
+    behind-less = g .less
+
+    pub behind-again : (r′ : Cursor) → leftAt w x y end n from stop r ≡ r .call ∷ leftAt w x y end n from stop r′ → On y n r′ → (b : Bool) → Calm w x n y t u (r .call) b → not b ≡ false → Behind w x y end n from stop t u c r′
+    behind-again r′ q o b f e = record {
+      on = o;
+      rest = λ k. g .rest k ∙ ap (λ (es : List Departure). entryDepartures (viewIn w x) n y stop k t u (c .call) ++ es) (split w x y end n from stop k t u r r′ q ∙ ap (λ (es : List Departure). es ++ leftDepartures w x y end n from stop k t u r′) (f .none (not-false b e) stop k));
+      less = omega (arith, g .less, ap length q);
+    }
+
+pub ruleset behinds = (tests, along-heads, along-lent, on-some, left-less, behind-next, behind-on, behind-within, behind-again)
+
 module _ (w x y : List ℕ) (end n from stop t u : ℕ) (c₀ : Cursor) (rows : ℕ) where
   pub keep-first : (kept : List ℕ) → On y n c₀ → Keeping w x y end n from stop t u c₀ rows kept c₀ rows 0
   unfolding gathered
@@ -243,9 +267,12 @@ module _ (w x y : List ℕ) (end n from stop t u : ℕ) (c₀ : Cursor) (rows : 
       each = λ h. g .each;
     }
 
-    module _ (c′ : Cursor) (q : leftAt w x y end n from stop c ≡ c .call ∷ leftAt w x y end n from stop c′) (most : ℕ) (f : Few w x n y t u (c .call) most) (a : most ≤ left) (h : m < length kept) (z : c .call ≡ 0 → ⊥) (o : On y n c′) where
+    module _ (c′ : Cursor) (q : Behind w x y end n from stop t u c c′) (most : ℕ) (f : Few w x n y t u (c .call) most) (a : most ≤ left) (h : m < length kept) (z : c .call ≡ 0 → ⊥) where
       rest : (k : ℕ) → leftDepartures w x y end n from stop k t u c ≡ entryDepartures (viewIn w x) n y stop k t u (c .call) ++ leftDepartures w x y end n from stop k t u c′
-      rest k = split w x y end n from stop k t u c c′ q
+      rest k = q .rest k
+
+      o : On y n c′
+      o = q .on
 
       lower : (k : ℕ) → length (leftDepartures w x y end n from stop k t u c₀) + (left - most) ≤ length (leftDepartures w x y end n from stop k t u c′) + rows
       lower k = omega (arith, g .room k, ap length (rest k), length-append (entryDepartures (viewIn w x) n y stop k t u (c .call)) (leftDepartures w x y end n from stop k t u c′), f .few stop k)
@@ -299,7 +326,7 @@ module _ (w x y : List ℕ) (end n from stop t u : ℕ) (c₀ : Cursor) (rows : 
           go true d e = rw e (keep-same (eqb-true most 0 d))
           go false d e = rw e keep-more
 
-pub ruleset keeps = (tests, along-heads, along-lent, on-some, left-less, keep-first, keep-many, keep-on, keep-within, keep-done, keep-turn)
+pub ruleset keeps = (tests, on-some, behind-less, along-heads, keep-first, keep-many, keep-on, keep-within, keep-done, keep-turn)
 
 -- ---- written by the calls kept
 

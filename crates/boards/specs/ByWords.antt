@@ -66,6 +66,12 @@ pub record Few (w x : List ℕ) (n : ℕ) (y : List ℕ) (t u e r : ℕ) : Type 
 abbrev pub oneIf : ℕ → ℕ
 oneIf m = cond (eqb m 0) 0 1
 
+-- what is left from cursor c on is what its call gives and what is left from r on, which stands behind it
+pub record Behind (w x y : List ℕ) (end n from stop t u : ℕ) (c r : Cursor) : Type 0 where
+  pub on : On y n r
+  pub rest : (k : ℕ) → leftDepartures w x y end n from stop k t u c ≡ entryDepartures (viewIn w x) n y stop k t u (c .call) ++ leftDepartures w x y end n from stop k t u r
+  pub less : length (leftAt w x y end n from stop r) < length (leftAt w x y end n from stop c)
+
 -- a number of a call
 abbrev pub Entry : ℕ → List ℕ → ℕ → Type 0
 Entry n y e = (0 < e) × (e ≤ entries# n y)

@@ -23,7 +23,7 @@ ghost use Rattle.sort.specs.Rows.{boardRowSize, boardRowWords};
 ghost use Rattle.board.specs.Question.{board, boardedBy, boardInto};
 ghost use Rattle.board_runs.specs.Batch.{Batched, Shelved};
 ghost use Rattle.stop_calls.specs.StopCalls.{entries#, On};
-ghost use Rattle.boards.specs.ByWords.{entryDepartures, departuresBy, boardBy, Lends, Along, leftDepartures, Calm, Few, oneIf, KeptFrom, Kept, Told, most};
+ghost use Rattle.boards.specs.ByWords.{entryDepartures, departuresBy, boardBy, Lends, Along, leftDepartures, Calm, Few, oneIf, Behind, KeptFrom, Kept, Told, most};
 
 // The board of stop number n on day k of the period, within two minutes of the day: 29 with the words needed, and the list then stays.
 // Where the list has room for as many rows as the opening lines and the calls alone allow, each course is looked at once; for a shorter list, or more calls than are kept, the
@@ -201,9 +201,53 @@ fn keep_from(
         kept[m] = c.call;
         m += one_if(most);
         left -= most;
-        c = stop_calls::next_call(w, x, y, end, s, from, n, c.call, c.stop, c.left);
+        c = next_loud(
+            w,
+            x,
+            y,
+            end,
+            s,
+            from,
+            places,
+            n,
+            first,
+            last,
+            c.call,
+            c.stop,
+            c.left,
+        );
     }
     m
+}
+
+// The next call after a cursor's that is not told to give none: so it is of most, and nothing more is done for them.
+fn next_loud(
+    w: &[u32],
+    x: &[u32],
+    y: &[u32],
+    end: usize,
+    s: u32,
+    from: usize,
+    places: usize,
+    n: u32,
+    first: u32,
+    last: u32,
+    call: u32,
+    stop: u32,
+    left: u32,
+) -> Cursor
+    requires { ⌜ Along (now w) (now x) (now y) end s from × Shelved (now w) (now x) places ⌝ }
+    requires { ⌜ On (now y) s (record { call = call; stop = stop; left = left }) × (call ≡ 0 → ⊥) ⌝ }
+    ensures { λ r. ⌜ Behind (now (w .entry)) (now (x .entry)) (now (y .entry)) end s from n first last (record { call = call; stop = stop; left = left }) r ⌝ }
+{
+    let mut c = stop_calls::next_call(w, x, y, end, s, from, n, call, stop, left);
+    while c.call != 0 {
+        if !gives_none(w, x, y, s, places, first, last, c.call) {
+            return c;
+        }
+        c = stop_calls::next_call(w, x, y, end, s, from, n, c.call, c.stop, c.left);
+    }
+    c
 }
 
 // One call more, where it may give rows.

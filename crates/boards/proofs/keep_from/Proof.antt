@@ -49,8 +49,8 @@ one-if-requires c κs = search keeps
 add-m : tie.Need-add-m Inv-loop μ-loop
 add-m c = search tests
 
-next-call-requires : tie.Need-next-call-requires Inv-loop μ-loop
-next-call-requires c κs = search keeps
+next-loud-requires : tie.Need-next-loud-requires Inv-loop μ-loop
+next-loud-requires c κs = search keeps
 
 loop-less : tie.Need-loop-less Inv-loop μ-loop
 loop-less c = search keeps
@@ -82,7 +82,7 @@ keep-from-spec =
     slice-write-kept
     one-if-requires
     add-m
-    next-call-requires
+    next-loud-requires
     loop-less
     loop-again
     same-length-3
