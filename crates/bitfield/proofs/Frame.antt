@@ -13,7 +13,8 @@ use borrow.Author.Tests.{lt-ltb, le-ltb, eq-eqb, ne-eqb, eqb-true}
 use Rattle.base.specs.Lists.{every, some-of, upto}
 use Rattle.base.proofs.Laws.{tests}
 use Rattle.base.proofs.Loops.{upto-next, every-start, every-again, every-out, every-done, every-at, and-true, counting}
-use Rattle.bitfield.specs.BitField.{bitWords, bitCount, mostFramed, bit, runsOn, frameBit, framed, clearFrom, zeroAt, noBit, someDay}
+use Rattle.bitfield.specs.BitField.{bitWords, bitCount, mostFramed, bit, runsOn, frameBit, framed, someDay}
+use Rattle.bitfield.specs.Inner.Bits.{clearFrom, zeroAt, noBit}
 use Rattle.bitfield.proofs.Sets.{digit, digit-two}
 
 -- ---- the low binary digits of a word are all 0 exactly if it is divisible

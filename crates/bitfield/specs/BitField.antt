@@ -55,17 +55,3 @@ framed n ws = every (λ (k : ℕ). frameBit n k (bit ws k)) (below bitCount)
 -- some day of n days is in the set (for the contract of `some_day` only)
 abbrev pub someDay : ℕ → List ℕ → Bool
 someDay n ws = some-of (runsOn ws) (below n)
-
--- ---- nobody has to believe what follows: it is for contracts of inner functions
-
--- no bit from bit k on is set
-unfoldable pub clearFrom : ℕ → List ℕ → Bool
-clearFrom k ws = every (λ (j : ℕ). not (bit ws j)) (upto (bitCount - k) k)
-
--- word i is 0
-abbrev pub zeroAt : List ℕ → ℕ → Bool
-zeroAt ws i = eqb (getD ws i 0) 0
-
--- no bit is set
-abbrev pub noBit : List ℕ → Bool
-noBit ws = every (zeroAt ws) (below bitWords)

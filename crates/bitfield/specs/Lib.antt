@@ -1,1 +1,2 @@
 pub mod BitField
+pub mod Inner

@@ -7,7 +7,9 @@ ghost use Prim.Native.Nat.{ℕ, _+_, _-_, _%_, _^_, _≤_, _<_};
 ghost use lib.ListN.{length, take, drop, getD};
 ghost use Rattle.base.specs.Lists.{every};
 ghost use Rattle.columns.specs.Columns.{padTo, columns, isHex};
-ghost use Rattle.bitfield.specs.BitField.{bitWords, bitCount, mostFramed, hexFrom, bitsIn, bit, runsOn, framed, someDay, clearFrom, noBit};
+ghost use Rattle.bitfield.specs.BitField.{bitWords, bitCount, mostFramed, hexFrom, bitsIn, bit, runsOn, framed};
+ghost use Rattle.bitfield.specs.BitField.{someDay};
+ghost use Rattle.bitfield.specs.Inner.Bits.{clearFrom, noBit};
 
 // The words of a bit field, and its bits (specs/BitField).
 pub const BIT_WORDS: usize = 12;

@@ -22,11 +22,11 @@ use Rattle.table.proofs.Says.{sizes-say, head-word, header-word, record-says, r
 use Rattle.cover.specs.Inner.Cover.{legsIn, inTurn}
 use Rattle.index.specs.declared.ServiceRecord.the-variants.{From, Refused as RecordRefused}
 use Rattle.index.specs.Index.{Ready, viewIn, recordPlaceIn, recordFrom, recordIn, serviceFrom}
-use Rattle.legs.specs.declared.DayLegs.{DayLegs}
-use Rattle.legs.specs.Inner.Run.{noted}
-use Rattle.legs.specs.Inner.Turn.{noLegs, rangesSay}
-use Rattle.legs.proofs.Legs.{head-words, legs-fit, days-room}
-use Rattle.rows.specs.Inner.Rows.{callsFrom}
+use Rattle.course.specs.declared.legs.DayLegs.{DayLegs}
+use Rattle.course.specs.Inner.Run.{noted}
+use Rattle.course.specs.Inner.Turn.{noLegs, rangesSay}
+use Rattle.course.proofs.legs.Legs.{head-words, legs-fit, days-room}
+use Rattle.course.specs.Inner.Rows.{callsFrom}
 use Rattle.course.specs.Inner.Course.{stretchesCourse}
 use Rattle.course.proofs.Laws.{stretch-calls}
 use Rattle.course.proofs.Turn.{turn-31, turn-order, turn-within, turn-day}

@@ -29,7 +29,7 @@ use Rattle.index.specs.Index.{recordIn, viewIn}
 use Rattle.index.specs.declared.ServiceRecord.{ServiceRecord}
 use Rattle.index.specs.declared.ServiceRecord.the-variants.{From, Refused as RecordRefused}
 use Rattle.index.proofs.Records.{record-refused, record-service, record-sound, record-within}
-use Rattle.rows.specs.Inner.Rows.{shownBy}
+use Rattle.course.specs.Inner.Rows.{shownBy}
 use Rattle.course.proofs.Laws.{on-shown}
 use Rattle.sort.specs.Rows.{boardRowWords}
 use Rattle.spans.specs.Spans.{runs#, spanOf}

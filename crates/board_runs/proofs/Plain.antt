@@ -23,9 +23,9 @@ use Rattle.timetable.specs.declared.Call.{Call}
 use Rattle.timetable.proofs.Rows.{one-row}
 use Rattle.table.proofs.Says.{sizes-say, service-parts, head-word}
 use Rattle.cover.specs.Inner.Cover.{legsIn, begins, inTurn}
-use Rattle.legs.specs.Inner.Run.{noted}
-use Rattle.rows.specs.Inner.Rows.{timeFine, timesStand, laterStand, callsFrom}
-use Rattle.rows.proofs.Times.{turn-fine}
+use Rattle.course.specs.Inner.Run.{noted}
+use Rattle.course.specs.Inner.Rows.{timeFine, timesStand, laterStand, callsFrom}
+use Rattle.course.proofs.rows.Times.{turn-fine}
 use Rattle.board_runs.specs.Inner.Plain.{isNone, unrefused, opensPlain, passesPlain, endsPlain, twoPlain, fourPlain, laterPlain, callsPlain, Opened, DaysInTurn, PlainSays}
 
 -- ---- ranges that follow each other up to the last call of c are sound

@@ -1,5 +1,7 @@
 // The departures from one call of a service: which runs they are, by arithmetic and one look at the day's course, and their rows.
 // `w` are words with a sound header, `x` an index of look-ups, or none.
+use course::legs;
+use course::rows;
 use sort::ROW_WORDS;
 use timetable::ALL_FLAGS;
 use timetable::CALL_WORDS;
@@ -24,14 +26,18 @@ ghost use lib.Dec.{eqb, leb, ltb};
 ghost use Rattle.base.specs.Lists.{gathered, upto};
 ghost use Rattle.timetable.specs.Layout.{mostPeriodDays, serviceHead, callSize, latestTime};
 ghost use Rattle.timetable.specs.Runs.{openingSound};
-ghost use Rattle.timetable.specs.Table.{stops#, calls#, callAt, openingAt, serviceAt, withStops, sizesSound, recordSound};
+ghost use Rattle.timetable.specs.Table.{stops#, calls#, callAt, openingAt, serviceAt, withStops, sizesSound};
+ghost use Rattle.timetable.specs.Table.{recordSound};
 ghost use Rattle.words.specs.Words.{write};
 ghost use Rattle.index.specs.Index.{Ready, viewIn};
 ghost use Rattle.sort.specs.Rows.{boardRowSize, boardRowWords};
 ghost use Rattle.spans.specs.Spans.{runs#};
 ghost use Rattle.board.specs.Board.{boardable, departureOf, runsFrom, callDepartures, leaves};
-ghost use Rattle.board_runs.specs.Batch.{departuresAt, batchRows, Batched, Shelved, outside, Quiet, AtMost, MostFrom};
-ghost use Rattle.board_runs.specs.Inner.Plain.{recordDepartures, goesFrom, goesAlong, unrefused, opensPlain, passesPlain, endsPlain, twoPlain, fourPlain, laterPlain, callsPlain, Opened, DaysInTurn, PlainSays};
+ghost use Rattle.board_runs.specs.Batch.{departuresAt, batchRows, Batched, Shelved, outside, Quiet, AtMost};
+ghost use Rattle.board_runs.specs.Batch.{MostFrom};
+ghost use Rattle.board_runs.specs.Inner.Plain.{recordDepartures, goesFrom, goesAlong, unrefused, opensPlain};
+ghost use Rattle.board_runs.specs.Inner.Plain.{passesPlain, endsPlain, twoPlain, fourPlain, laterPlain};
+ghost use Rattle.board_runs.specs.Inner.Plain.{callsPlain, Opened, DaysInTurn, PlainSays};
 
 // Departures from one place of a service's route: of the runs from `low` on and below `high`, where run 0 leaves at `departure`.
 pub struct Batch {
@@ -172,7 +178,8 @@ fn record_runs(
     p: u32,
 ) -> Batch
     requires { ⌜ Ready (now w) (now x) × (k < mostPeriodDays) ⌝ }
-    ensures { λ r. ⌜ Batched r (recordDepartures (viewIn (now (w .entry)) (now (x .entry))) (stops# (now (w .entry))) n k first last i (now (s .entry)) p) ⌝ }
+    ensures { λ r. ⌜ Batched r (recordDepartures (viewIn (now (w .entry)) (now (x .entry))) (stops# (now (w .entry))) n
+        k first last i (now (s .entry)) p) ⌝ }
 {
     if !table::sizes_sound(s) {
         return no_runs();
@@ -192,7 +199,8 @@ fn record_runs(
 fn goes_from(w: &[u32], x: &[u32], s: &[u32], k: u32, p: u32) -> bool
     requires { ⌜ Ready (now w) (now x) × (k < mostPeriodDays) ⌝ }
     requires { ⌜ Opened (now s) ⌝ }
-    ensures { λ r. ⌜ r ≡ goesFrom (viewIn (now (w .entry)) (now (x .entry))) (stops# (now (w .entry))) (now (s .entry)) k p ⌝ }
+    ensures { λ r. ⌜ r ≡
+        goesFrom (viewIn (now (w .entry)) (now (x .entry))) (stops# (now (w .entry))) (now (s .entry)) k p ⌝ }
 {
     let v = legs::day_words(s);
     let n = s[DAYS_AT];
@@ -209,7 +217,8 @@ fn goes_from(w: &[u32], x: &[u32], s: &[u32], k: u32, p: u32) -> bool
 // Whatever its ranges.
 fn goes_slowly(w: &[u32], x: &[u32], s: &[u32], k: u32, p: u32) -> bool
     requires { ⌜ Ready (now w) (now x) × (k < mostPeriodDays) ⌝ }
-    ensures { λ r. ⌜ r ≡ goesFrom (viewIn (now (w .entry)) (now (x .entry))) (stops# (now (w .entry))) (now (s .entry)) k p ⌝ }
+    ensures { λ r. ⌜ r ≡
+        goesFrom (viewIn (now (w .entry)) (now (x .entry))) (stops# (now (w .entry))) (now (s .entry)) k p ⌝ }
 {
     if !table::record_sound(s, w[STOPS_AT]) {
         return false;
@@ -438,7 +447,9 @@ fn call_runs(
 ) -> Batch
     requires { ⌜ Ready (now w) (now x) ⌝ }
     requires { ⌜ recordSound (stops# (now w)) (now s) ≡ true ⌝ }
-    ensures { λ r. ⌜ Batched r (callDepartures n first last i (openingAt (now (s .entry))) p (getElem? (withStops (viewIn (now (w .entry)) (now (x .entry)) .shown) (serviceAt (now (s .entry))) .calls) p)) ⌝ }
+    ensures { λ r. ⌜ Batched r (callDepartures n first last i (openingAt (now (s .entry))) p
+        (getElem? (withStops (viewIn (now (w .entry)) (now (x .entry)) .shown) (serviceAt (now (s .entry))) .calls)
+        p)) ⌝ }
 {
     if s[CALLS_AT] <= p {
         return no_runs();
@@ -461,7 +472,8 @@ fn call_of(s: &[u32], p: u32) -> Call
 // Whether the stop at a place has the number n, and boarding is allowed by a call's flags.
 fn boards_at(w: &[u32], x: &[u32], place: u32, flags: u32, n: u32) -> bool
     requires { ⌜ Ready (now w) (now x) × (place < stops# (now w)) ⌝ }
-    ensures { λ r. ⌜ r ≡ (eqb (viewIn (now (w .entry)) (now (x .entry)) .shown place) n && boardable (record { stop = place; arrival = 0; departure = 0; flags = flags; number = 0; high = 0; low = 0 })) ⌝ }
+    ensures { λ r. ⌜ r ≡ (eqb (viewIn (now (w .entry)) (now (x .entry)) .shown place) n && boardable
+        (record { stop = place; arrival = 0; departure = 0; flags = flags; number = 0; high = 0; low = 0 })) ⌝ }
 {
     if index::stop_number(w, x, place) != n {
         return false;
@@ -559,7 +571,8 @@ fn put_rows(
     requires { ⌜ (high ≤ runs# opening) × (departure ≤ latestTime) ⌝ }
     requires { ⌜ at + boardRowSize * (high - low) ≤ length (now list) ⌝ }
     ensures end { λ r. ⌜ r ≡ at + boardRowSize * (high - low) ⌝ }
-    ensures words { λ _. ⌜ now (list .exit) ≡ write (now (list .entry)) at (gathered boardRowWords (map (departureOf i opening p departure) (upto (high - low) low))) ⌝ }
+    ensures words { λ _. ⌜ now (list .exit) ≡ write (now (list .entry)) at
+        (gathered boardRowWords (map (departureOf i opening p departure) (upto (high - low) low))) ⌝ }
 {
     let mut to = at;
     let mut r = low;
@@ -576,7 +589,8 @@ fn put_row(list: &mut [u32], to: usize, i: u32, opening: Opening, p: u32, depart
     requires { ⌜ openingSound opening ≡ true ⌝ }
     requires { ⌜ (r < runs# opening) × (departure ≤ latestTime) ⌝ }
     requires { ⌜ to + boardRowSize ≤ length (now list) ⌝ }
-    ensures { λ _. ⌜ now (list .exit) ≡ write (now (list .entry)) to (boardRowWords (departureOf i opening p departure r)) ⌝ }
+    ensures { λ _. ⌜ now (list .exit) ≡
+        write (now (list .entry)) to (boardRowWords (departureOf i opening p departure r)) ⌝ }
 {
     let time = departure + runs::lateness(opening, r);
     words::put4(list, to, time, i, r, p);

@@ -23,7 +23,8 @@ ghost use Rattle.sort.specs.Rows.{boardRowSize, boardRowWords};
 ghost use Rattle.board.specs.Question.{board, boardedBy, boardInto};
 ghost use Rattle.board_runs.specs.Batch.{Batched, Shelved};
 ghost use Rattle.stop_calls.specs.StopCalls.{entries#, On};
-ghost use Rattle.boards.specs.ByWords.{entryDepartures, departuresBy, boardBy, Lends, Along, leftDepartures, Calm, Few, oneIf, Behind, KeptFrom, Kept, Told, most};
+ghost use Rattle.boards.specs.ByWords.{entryDepartures, departuresBy, boardBy, Lends, Along, leftDepartures};
+ghost use Rattle.boards.specs.ByWords.{Calm, Few, oneIf, Behind, KeptFrom, Kept, Told, most};
 
 // The board of stop number n on day k of the period, within two minutes of the day: 29 with the words needed, and the list then stays.
 // Where the list has room for as many rows as the opening lines and the calls alone allow, each course is looked at once; for a shorter list, or more calls than are kept, the
@@ -39,8 +40,11 @@ pub fn list_board(
     list: &mut [u32],
 ) -> BoardAnswer
     requires { ⌜ Lends (now w) (now x) (now y) × (k < mostPeriodDays) ⌝ }
-    ensures answer { λ r. ⌜ r ≡ boardedBy (board (boardBy (now (w .entry)) (now (x .entry)) (now (y .entry)) n k first last)) (length (now (list .entry))) ⌝ }
-    ensures rows { λ _. ⌜ now (list .exit) ≡ boardInto (board (boardBy (now (w .entry)) (now (x .entry)) (now (y .entry)) n k first last)) (now (list .entry)) ⌝ }
+    ensures answer { λ r. ⌜ r ≡ boardedBy
+        (board (boardBy (now (w .entry)) (now (x .entry)) (now (y .entry)) n k first last))
+        (length (now (list .entry))) ⌝ }
+    ensures rows { λ _. ⌜ now (list .exit) ≡ boardInto
+        (board (boardBy (now (w .entry)) (now (x .entry)) (now (y .entry)) n k first last)) (now (list .entry)) ⌝ }
 {
     let mut kept = [0u32; KEPT_CALLS];
     list_kept(w, x, y, n, k, first, last, list, &mut kept)
@@ -62,8 +66,11 @@ fn list_kept(
     kept: &mut [u32],
 ) -> BoardAnswer
     requires { ⌜ Lends (now w) (now x) (now y) × (k < mostPeriodDays) ⌝ }
-    ensures answer { λ r. ⌜ r ≡ boardedBy (board (boardBy (now (w .entry)) (now (x .entry)) (now (y .entry)) n k first last)) (length (now (list .entry))) ⌝ }
-    ensures rows { λ _. ⌜ now (list .exit) ≡ boardInto (board (boardBy (now (w .entry)) (now (x .entry)) (now (y .entry)) n k first last)) (now (list .entry)) ⌝ }
+    ensures answer { λ r. ⌜ r ≡ boardedBy
+        (board (boardBy (now (w .entry)) (now (x .entry)) (now (y .entry)) n k first last))
+        (length (now (list .entry))) ⌝ }
+    ensures rows { λ _. ⌜ now (list .exit) ≡ boardInto
+        (board (boardBy (now (w .entry)) (now (x .entry)) (now (y .entry)) n k first last)) (now (list .entry)) ⌝ }
 {
     let rows = list.len() / ROW_WORDS;
     let m = keep_calls(w, x, y, n, first, last, rows, kept);
@@ -89,8 +96,11 @@ fn list_calls(
     requires { ⌜ Lends (now w) (now x) (now y) × (k < mostPeriodDays) ⌝ }
     requires { ⌜ Told (now w) (now x) (now y) n k first last (now kept) m ⌝ }
     requires { ⌜ boardRowSize * length (departuresBy (now w) (now x) (now y) n k first last) ≤ length (now list) ⌝ }
-    ensures answer { λ r. ⌜ r ≡ boardedBy (board (boardBy (now (w .entry)) (now (x .entry)) (now (y .entry)) n k first last)) (length (now (list .entry))) ⌝ }
-    ensures rows { λ _. ⌜ now (list .exit) ≡ boardInto (board (boardBy (now (w .entry)) (now (x .entry)) (now (y .entry)) n k first last)) (now (list .entry)) ⌝ }
+    ensures answer { λ r. ⌜ r ≡ boardedBy
+        (board (boardBy (now (w .entry)) (now (x .entry)) (now (y .entry)) n k first last))
+        (length (now (list .entry))) ⌝ }
+    ensures rows { λ _. ⌜ now (list .exit) ≡ boardInto
+        (board (boardBy (now (w .entry)) (now (x .entry)) (now (y .entry)) n k first last)) (now (list .entry)) ⌝ }
 {
     let count = put_kept(w, x, y, n, k, first, last, list, kept, m);
     sort::sort_rows(list, count);
@@ -109,8 +119,11 @@ fn list_counted(
     list: &mut [u32],
 ) -> BoardAnswer
     requires { ⌜ Lends (now w) (now x) (now y) × (k < mostPeriodDays) ⌝ }
-    ensures answer { λ r. ⌜ r ≡ boardedBy (board (boardBy (now (w .entry)) (now (x .entry)) (now (y .entry)) n k first last)) (length (now (list .entry))) ⌝ }
-    ensures rows { λ _. ⌜ now (list .exit) ≡ boardInto (board (boardBy (now (w .entry)) (now (x .entry)) (now (y .entry)) n k first last)) (now (list .entry)) ⌝ }
+    ensures answer { λ r. ⌜ r ≡ boardedBy
+        (board (boardBy (now (w .entry)) (now (x .entry)) (now (y .entry)) n k first last))
+        (length (now (list .entry))) ⌝ }
+    ensures rows { λ _. ⌜ now (list .exit) ≡ boardInto
+        (board (boardBy (now (w .entry)) (now (x .entry)) (now (y .entry)) n k first last)) (now (list .entry)) ⌝ }
 {
     let count = count_board(w, x, y, n, k, first, last);
     if list.len() < ROW_WORDS * count {
@@ -135,8 +148,11 @@ fn list_all(
 ) -> BoardAnswer
     requires { ⌜ Lends (now w) (now x) (now y) × (k < mostPeriodDays) ⌝ }
     requires { ⌜ boardRowSize * length (departuresBy (now w) (now x) (now y) n k first last) ≤ length (now list) ⌝ }
-    ensures answer { λ r. ⌜ r ≡ boardedBy (board (boardBy (now (w .entry)) (now (x .entry)) (now (y .entry)) n k first last)) (length (now (list .entry))) ⌝ }
-    ensures rows { λ _. ⌜ now (list .exit) ≡ boardInto (board (boardBy (now (w .entry)) (now (x .entry)) (now (y .entry)) n k first last)) (now (list .entry)) ⌝ }
+    ensures answer { λ r. ⌜ r ≡ boardedBy
+        (board (boardBy (now (w .entry)) (now (x .entry)) (now (y .entry)) n k first last))
+        (length (now (list .entry))) ⌝ }
+    ensures rows { λ _. ⌜ now (list .exit) ≡ boardInto
+        (board (boardBy (now (w .entry)) (now (x .entry)) (now (y .entry)) n k first last)) (now (list .entry)) ⌝ }
 {
     let count = put_board(w, x, y, n, k, first, last, list);
     sort::sort_rows(list, count);
@@ -185,7 +201,8 @@ fn keep_from(
 ) -> usize
     requires { ⌜ Along (now w) (now x) (now y) end s from × Shelved (now w) (now x) places ⌝ }
     requires { ⌜ On (now y) s start ⌝ }
-    ensures { λ r. ⌜ KeptFrom (now (w .entry)) (now (x .entry)) (now (y .entry)) end s from n first last start rows (now (kept .exit)) r ⌝ }
+    ensures { λ r. ⌜ KeptFrom (now (w .entry)) (now (x .entry)) (now (y .entry)) end s from n first last start rows
+        (now (kept .exit)) r ⌝ }
 {
     let mut c = start;
     let mut left = rows;
@@ -238,7 +255,8 @@ fn next_loud(
 ) -> Cursor
     requires { ⌜ Along (now w) (now x) (now y) end s from × Shelved (now w) (now x) places ⌝ }
     requires { ⌜ On (now y) s (record { call = call; stop = stop; left = left }) × (call ≡ 0 → ⊥) ⌝ }
-    ensures { λ r. ⌜ Behind (now (w .entry)) (now (x .entry)) (now (y .entry)) end s from n first last (record { call = call; stop = stop; left = left }) r ⌝ }
+    ensures { λ r. ⌜ Behind (now (w .entry)) (now (x .entry)) (now (y .entry)) end s from n first last
+        (record { call = call; stop = stop; left = left }) r ⌝ }
 {
     let mut c = stop_calls::next_call(w, x, y, end, s, from, n, call, stop, left);
     while c.call != 0 {
@@ -335,7 +353,8 @@ fn count_from(
     requires { ⌜ Along (now w) (now x) (now y) end s from × Shelved (now w) (now x) places × (k < mostPeriodDays) ⌝ }
     requires { ⌜ On (now y) s start ⌝ }
     requires { ⌜ length (leftDepartures (now w) (now x) (now y) end s from n k first last start) ≤ most ⌝ }
-    ensures { λ r. ⌜ r ≡ length (leftDepartures (now (w .entry)) (now (x .entry)) (now (y .entry)) end s from n k first last start) ⌝ }
+    ensures { λ r. ⌜ r ≡
+        length (leftDepartures (now (w .entry)) (now (x .entry)) (now (y .entry)) end s from n k first last start) ⌝ }
 {
     let mut c = start;
     let mut total: usize = 0;
@@ -361,7 +380,8 @@ fn count_call(
 ) -> usize
     requires { ⌜ Shelved (now w) (now x) places × (k < mostPeriodDays) ⌝ }
     requires { ⌜ (s ≤ length (now y)) × (0 < e) × (e ≤ entries# s (now y)) ⌝ }
-    ensures { λ r. ⌜ r ≡ length (entryDepartures (viewIn (now (w .entry)) (now (x .entry))) s (now (y .entry)) n k first last e) ⌝ }
+    ensures { λ r. ⌜ r ≡
+        length (entryDepartures (viewIn (now (w .entry)) (now (x .entry))) s (now (y .entry)) n k first last e) ⌝ }
 {
     if gives_none(w, x, y, s, places, first, last, e) {
         return 0;
@@ -385,7 +405,8 @@ fn call_batch(
 ) -> Batch
     requires { ⌜ Shelved (now w) (now x) places × (k < mostPeriodDays) ⌝ }
     requires { ⌜ (s ≤ length (now y)) × (0 < e) × (e ≤ entries# s (now y)) ⌝ }
-    ensures { λ r. ⌜ Batched r (entryDepartures (viewIn (now (w .entry)) (now (x .entry))) s (now (y .entry)) n k first last e) ⌝ }
+    ensures { λ r. ⌜ Batched r (entryDepartures (viewIn (now (w .entry)) (now (x .entry))) s (now (y .entry)) n k first
+        last e) ⌝ }
 {
     let i = stop_calls::entry_word(y, s, 1, e);
     let p = stop_calls::entry_word(y, s, 3, e);
@@ -407,8 +428,10 @@ fn put_board(
 ) -> usize
     requires { ⌜ Lends (now w) (now x) (now y) × (k < mostPeriodDays) ⌝ }
     requires { ⌜ boardRowSize * length (departuresBy (now w) (now x) (now y) n k first last) ≤ length (now list) ⌝ }
-    ensures count { λ r. ⌜ r ≡ length (departuresBy (now (w .entry)) (now (x .entry)) (now (y .entry)) n k first last) ⌝ }
-    ensures words { λ _. ⌜ now (list .exit) ≡ write (now (list .entry)) 0 (gathered boardRowWords (departuresBy (now (w .entry)) (now (x .entry)) (now (y .entry)) n k first last)) ⌝ }
+    ensures count { λ r. ⌜ r ≡
+        length (departuresBy (now (w .entry)) (now (x .entry)) (now (y .entry)) n k first last) ⌝ }
+    ensures words { λ _. ⌜ now (list .exit) ≡ write (now (list .entry)) 0
+        (gathered boardRowWords (departuresBy (now (w .entry)) (now (x .entry)) (now (y .entry)) n k first last)) ⌝ }
 {
     let s = w[STOPS_AT];
     let end = stops_end(w);
@@ -436,9 +459,13 @@ fn put_from(
 ) -> usize
     requires { ⌜ Along (now w) (now x) (now y) end s from × Shelved (now w) (now x) places × (k < mostPeriodDays) ⌝ }
     requires { ⌜ On (now y) s start ⌝ }
-    requires { ⌜ boardRowSize * length (leftDepartures (now w) (now x) (now y) end s from n k first last start) ≤ length (now list) ⌝ }
-    ensures end { λ r. ⌜ r ≡ boardRowSize * length (leftDepartures (now (w .entry)) (now (x .entry)) (now (y .entry)) end s from n k first last start) ⌝ }
-    ensures words { λ _. ⌜ now (list .exit) ≡ write (now (list .entry)) 0 (gathered boardRowWords (leftDepartures (now (w .entry)) (now (x .entry)) (now (y .entry)) end s from n k first last start)) ⌝ }
+    requires { ⌜ boardRowSize * length (leftDepartures (now w) (now x) (now y) end s from n k first last start) ≤ length
+        (now list) ⌝ }
+    ensures end { λ r. ⌜ r ≡ boardRowSize * length
+        (leftDepartures (now (w .entry)) (now (x .entry)) (now (y .entry)) end s from n k first last start) ⌝ }
+    ensures words { λ _. ⌜ now (list .exit) ≡ write (now (list .entry)) 0
+        (gathered boardRowWords (leftDepartures (now (w .entry)) (now (x .entry)) (now (y .entry)) end s from n k first
+        last start)) ⌝ }
 {
     let mut c = start;
     let mut to: usize = 0;
@@ -466,9 +493,13 @@ fn put_call(
 ) -> usize
     requires { ⌜ Shelved (now w) (now x) places × (k < mostPeriodDays) ⌝ }
     requires { ⌜ (s ≤ length (now y)) × (0 < e) × (e ≤ entries# s (now y)) ⌝ }
-    requires { ⌜ to + boardRowSize * length (entryDepartures (viewIn (now w) (now x)) s (now y) n k first last e) ≤ length (now list) ⌝ }
-    ensures end { λ r. ⌜ r ≡ to + boardRowSize * length (entryDepartures (viewIn (now (w .entry)) (now (x .entry))) s (now (y .entry)) n k first last e) ⌝ }
-    ensures words { λ _. ⌜ now (list .exit) ≡ write (now (list .entry)) to (gathered boardRowWords (entryDepartures (viewIn (now (w .entry)) (now (x .entry))) s (now (y .entry)) n k first last e)) ⌝ }
+    requires { ⌜ to + boardRowSize * length (entryDepartures (viewIn (now w) (now x)) s (now y) n k first last e) ≤
+        length (now list) ⌝ }
+    ensures end { λ r. ⌜ r ≡ to + boardRowSize * length
+        (entryDepartures (viewIn (now (w .entry)) (now (x .entry))) s (now (y .entry)) n k first last e) ⌝ }
+    ensures words { λ _. ⌜ now (list .exit) ≡ write (now (list .entry)) to
+        (gathered boardRowWords (entryDepartures (viewIn (now (w .entry)) (now (x .entry))) s (now (y .entry)) n k first
+        last e)) ⌝ }
 {
     if gives_none(w, x, y, s, places, first, last, e) {
         return to;
@@ -493,9 +524,13 @@ fn put_rows(
 ) -> usize
     requires { ⌜ Shelved (now w) (now x) places × (k < mostPeriodDays) ⌝ }
     requires { ⌜ (s ≤ length (now y)) × (0 < e) × (e ≤ entries# s (now y)) ⌝ }
-    requires { ⌜ to + boardRowSize * length (entryDepartures (viewIn (now w) (now x)) s (now y) n k first last e) ≤ length (now list) ⌝ }
-    ensures end { λ r. ⌜ r ≡ to + boardRowSize * length (entryDepartures (viewIn (now (w .entry)) (now (x .entry))) s (now (y .entry)) n k first last e) ⌝ }
-    ensures words { λ _. ⌜ now (list .exit) ≡ write (now (list .entry)) to (gathered boardRowWords (entryDepartures (viewIn (now (w .entry)) (now (x .entry))) s (now (y .entry)) n k first last e)) ⌝ }
+    requires { ⌜ to + boardRowSize * length (entryDepartures (viewIn (now w) (now x)) s (now y) n k first last e) ≤
+        length (now list) ⌝ }
+    ensures end { λ r. ⌜ r ≡ to + boardRowSize * length
+        (entryDepartures (viewIn (now (w .entry)) (now (x .entry))) s (now (y .entry)) n k first last e) ⌝ }
+    ensures words { λ _. ⌜ now (list .exit) ≡ write (now (list .entry)) to
+        (gathered boardRowWords (entryDepartures (viewIn (now (w .entry)) (now (x .entry))) s (now (y .entry)) n k first
+        last e)) ⌝ }
 {
     let b = call_batch(w, x, y, s, places, n, k, first, last, e);
     board_runs::put_batch(list, to, b)
@@ -519,8 +554,10 @@ fn put_kept(
     requires { ⌜ Lends (now w) (now x) (now y) × (k < mostPeriodDays) ⌝ }
     requires { ⌜ Told (now w) (now x) (now y) n k first last (now kept) m ⌝ }
     requires { ⌜ boardRowSize * length (departuresBy (now w) (now x) (now y) n k first last) ≤ length (now list) ⌝ }
-    ensures count { λ r. ⌜ r ≡ length (departuresBy (now (w .entry)) (now (x .entry)) (now (y .entry)) n k first last) ⌝ }
-    ensures words { λ _. ⌜ now (list .exit) ≡ write (now (list .entry)) 0 (gathered boardRowWords (departuresBy (now (w .entry)) (now (x .entry)) (now (y .entry)) n k first last)) ⌝ }
+    ensures count { λ r. ⌜ r ≡
+        length (departuresBy (now (w .entry)) (now (x .entry)) (now (y .entry)) n k first last) ⌝ }
+    ensures words { λ _. ⌜ now (list .exit) ≡ write (now (list .entry)) 0
+        (gathered boardRowWords (departuresBy (now (w .entry)) (now (x .entry)) (now (y .entry)) n k first last)) ⌝ }
 {
     let s = w[STOPS_AT];
     let places = index::services_from(w);

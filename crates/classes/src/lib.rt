@@ -2,6 +2,7 @@
 // repeated code is found by passes over the file, one for each first byte that codes have, with a bit for each two bytes behind it; and the index for
 // look-ups takes what UMSTEIGB's check has left, for as many lines as it has room for.
 use columns::line_fields::class;
+use lines::reader;
 use sections::Numbered;
 use sections::Section;
 use timetable::Checked;
@@ -16,10 +17,13 @@ ghost use Rattle.timetable.specs.Layout.{mostFileBytes, helperHead};
 ghost use Rattle.timetable.specs.Files.{held-in, classOf, classesIn, hasClass};
 ghost use Rattle.timetable.specs.Plan.{threeBytes};
 ghost use Rattle.sections.specs.Inner.Sections.{isSound, asNumber};
-ghost use Rattle.classes.specs.Inner.Passes.{classesChecked, brokenColumn, sound, FormedAs, noCode, LineCode, firstByte, PassAs, RepeatAs};
-ghost use Rattle.classes.specs.Inner.Passes.{Rising, aboveOn, markWords, marked, withMark, repeatsOn, marksWith, lesser};
+ghost use Rattle.classes.specs.Inner.Passes.{classesChecked, brokenColumn, sound, FormedAs, noCode, LineCode};
+ghost use Rattle.classes.specs.Inner.Passes.{firstByte, PassAs, RepeatAs};
+ghost use Rattle.classes.specs.Inner.Passes.{Rising, aboveOn, markWords, marked, withMark, repeatsOn, marksWith};
+ghost use Rattle.classes.specs.Inner.Passes.{lesser};
 ghost use Rattle.classes.specs.Inner.Passes.{TariffAs, groupOn, otherGroup, groupWith};
-ghost use Rattle.classes.specs.Inner.Index.{holdsCode, firstSlot, endSlot, FreeSlot, FilledTo, IndexOf, IndexRoom};
+ghost use Rattle.classes.specs.Inner.Index.{holdsCode, firstSlot, endSlot, FreeSlot, FilledTo, IndexOf};
+ghost use Rattle.classes.specs.Inner.Index.{IndexRoom};
 ghost use Rattle.classes.specs.Inner.Index.{EnteredOn, PutOn, ClassesAfter, SlotSays};
 
 // ---- the check

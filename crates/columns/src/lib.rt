@@ -6,7 +6,8 @@ ghost use Prim.Native.Nat.{_-_, _≤_};
 ghost use lib.ListN.{getD, take, drop};
 ghost use lib.Dec.{leb};
 ghost use Rattle.base.specs.Lists.{every};
-ghost use Rattle.columns.specs.Columns.{padTo, columns, column, isDigit, isHex, digitValue, hexValue, isOf, count, number, countTo};
+ghost use Rattle.columns.specs.Columns.{padTo, columns, column, isDigit, isHex, digitValue, hexValue, isOf};
+ghost use Rattle.columns.specs.Columns.{count, number, countTo};
 
 pub mod line_fields;
 

@@ -23,9 +23,9 @@ use Rattle.timetable.specs.declared.Course.{Course}
 use Rattle.timetable.specs.declared.Course.the-variants.{Along, NotRunning, Refused as Barred}
 use Rattle.timetable.specs.declared.Opening.{Opening}
 use Rattle.table.proofs.Says.{record-says, record-sized, call-sound, call-says}
-use Rattle.rows.specs.Inner.Rows.{callShown, shownBy, serviceShown}
+use Rattle.course.specs.Inner.Rows.{callShown, shownBy, serviceShown}
 use Rattle.course.proofs.Laws.{legs-count, count-shown, course-shown}
-use Rattle.course.proofs.Rows.{along-within}
+use Rattle.course.proofs.Within.{along-within}
 use Rattle.connections.specs.declared.Part.{Part}
 use Rattle.connections.specs.declared.Stage.{Stage}
 use Rattle.connections.specs.declared.Staged.{Staged}

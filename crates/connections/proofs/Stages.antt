@@ -20,7 +20,7 @@ use Rattle.index.specs.declared.ServiceRecord.{ServiceRecord}
 use Rattle.index.specs.declared.ServiceRecord.the-variants.{From, Refused as NoRecord}
 use Rattle.index.proofs.Records.{record-refused, record-service, record-sound, record-within}
 use Rattle.index.proofs.Shows.{day-low}
-use Rattle.rows.specs.Inner.Rows.{shownBy}
+use Rattle.course.specs.Inner.Rows.{shownBy}
 use Rattle.connections.specs.declared.Part.{Part}
 use Rattle.connections.specs.declared.Stage.{Stage}
 use Rattle.connections.specs.declared.Staged.{Staged}

@@ -1,5 +1,6 @@
 // Whether a proposed connection holds (document 02, No. 12): of its parts, one after another, the stage along the day's run, and the change from the stage before.
 // `w` are words with a sound header, `x` their index or none (crate index).
+use course::rows;
 use index::ServiceRecord;
 use lookups::PeriodDay;
 use timetable::Call;

@@ -17,11 +17,11 @@ use Rattle.timetable.specs.declared.Course.the-variants.{Refused}
 use Rattle.table.proofs.Says.{head-word}
 use Rattle.cover.specs.Inner.Cover.{legsIn, inTurn}
 use Rattle.cover.proofs.Turn.{legs-rows}
-use Rattle.legs.specs.declared.DayLegs.{DayLegs}
-use Rattle.legs.specs.Inner.Turn.{noLegs, rangesSay}
-use Rattle.legs.proofs.Legs.{head-words, legs-fit, days-room}
-use Rattle.legs.proofs.Gaps.{Told}
-use Rattle.legs.proofs.Days.{ofDay, fieldsKnown, days-known, days-unknown, days-told, say-known}
+use Rattle.course.specs.declared.legs.DayLegs.{DayLegs}
+use Rattle.course.specs.Inner.Turn.{noLegs, rangesSay}
+use Rattle.course.proofs.legs.Legs.{head-words, legs-fit, days-room}
+use Rattle.course.proofs.legs.Gaps.{Told}
+use Rattle.course.proofs.legs.Days.{ofDay, fieldsKnown, days-known, days-unknown, days-told, say-known}
 use Rattle.course.specs.Inner.Course.{stretchesCourse}
 use Rattle.course.proofs.Laws.{legs-count, day-order, day-within, day-by}
 

@@ -23,8 +23,12 @@ ghost use lib.ListN.{length, drop};
 ghost use Rattle.timetable.specs.Plan.{asCall, asRange, partNumber};
 ghost use Rattle.timetable.specs.Service.{opened, callBy};
 ghost use Rattle.words.specs.Words.{write};
-ghost use Rattle.draft.specs.Inner.Draft.{draftCall, draftRange, draftEnd, mostRanges, callsLent, rangesLent, callDraft, placeTag, placeValue, detailTag, detailValue, endDraft, rangeDraft};
-ghost use Rattle.draft.specs.Inner.Draft.{callBack, placeBack, detailBack, partBack, endBack, lineBack, rangeBack, callsOn, rangesOn, onLine, lastOf, callsAfter, noCounts, countCalls, countPart, countRanges, counted, ranges#, Within};
+ghost use Rattle.draft.specs.Inner.Draft.{draftCall, draftRange, draftEnd, mostRanges, callsLent, rangesLent};
+ghost use Rattle.draft.specs.Inner.Draft.{callDraft, placeTag, placeValue, detailTag, detailValue, endDraft};
+ghost use Rattle.draft.specs.Inner.Draft.{rangeDraft};
+ghost use Rattle.draft.specs.Inner.Draft.{callBack, placeBack, detailBack, partBack, endBack, lineBack};
+ghost use Rattle.draft.specs.Inner.Draft.{rangeBack, callsOn, rangesOn, onLine, lastOf, callsAfter, noCounts};
+ghost use Rattle.draft.specs.Inner.Draft.{countCalls, countPart, countRanges, counted, ranges#, Within};
 
 // The words of a call in the draft: those of the table (stop, arrival, departure, flags, and the number and administration that hold there), and its
 // line's number.
@@ -101,8 +105,10 @@ pub fn draft_line(
     requires { ⌜ Within (counted counts said) ⌝ }
     requires { ⌜ (callsLent ≤ length (now calls)) × (rangesLent ≤ length (now ranges)) ⌝ }
     ensures { λ r. ⌜ r ≡ counted counts said ⌝ }
-    ensures { λ r. ⌜ callsOn (r .calls) (now (calls .exit)) ≡ callsAfter opening (callsOn (counts .calls) (now (calls .entry))) line (asCall said) ⌝ }
-    ensures { λ r. ⌜ rangesOn (ranges# r) (now (ranges .exit)) ≡ rangesOn (ranges# counts) (now (ranges .entry)) ++ onLine line (asRange said) ⌝ }
+    ensures { λ r. ⌜ callsOn (r .calls) (now (calls .exit)) ≡
+        callsAfter opening (callsOn (counts .calls) (now (calls .entry))) line (asCall said) ⌝ }
+    ensures { λ r. ⌜ rangesOn (ranges# r) (now (ranges .exit)) ≡
+        rangesOn (ranges# counts) (now (ranges .entry)) ++ onLine line (asRange said) ⌝ }
 {
     // "Only schedule lines are taken as calls; every other kind is passed over when the route is gathered."
     if let Told::Calls(call) = said {
@@ -125,7 +131,8 @@ pub fn draft_call(
     requires { ⌜ Within (countCalls counts (call ∷ [])) ⌝ }
     requires { ⌜ callsLent ≤ length (now calls) ⌝ }
     ensures { λ r. ⌜ r ≡ countCalls counts (call ∷ []) ⌝ }
-    ensures { λ r. ⌜ callsOn (r .calls) (now (calls .exit)) ≡ callsAfter opening (callsOn (counts .calls) (now (calls .entry))) line (call ∷ []) ⌝ }
+    ensures { λ r. ⌜ callsOn (r .calls) (now (calls .exit)) ≡
+        callsAfter opening (callsOn (counts .calls) (now (calls .entry))) line (call ∷ []) ⌝ }
 {
     let before = announced_last(opening, counts.calls, calls);
     put_call(
@@ -189,7 +196,8 @@ pub fn draft_range(range: RangeLine, line: u32, counts: Counts, ranges: &mut [u3
     requires { ⌜ Within (countRanges counts (range ∷ [])) ⌝ }
     requires { ⌜ rangesLent ≤ length (now ranges) ⌝ }
     ensures { λ r. ⌜ r ≡ countRanges counts (range ∷ []) ⌝ }
-    ensures { λ r. ⌜ rangesOn (ranges# r) (now (ranges .exit)) ≡ rangesOn (ranges# counts) (now (ranges .entry)) ++ onLine line (range ∷ []) ⌝ }
+    ensures { λ r. ⌜ rangesOn (ranges# r) (now (ranges .exit)) ≡
+        rangesOn (ranges# counts) (now (ranges .entry)) ++ onLine line (range ∷ []) ⌝ }
 {
     put_range(
         ranges,

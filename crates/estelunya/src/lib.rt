@@ -7,6 +7,7 @@ use day_sets::Operation;
 use day_sets::SetAnswer;
 use index_check::IndexCheck;
 use plan_writing::WriteAnswer;
+use questions::stop_names;
 use timetable::DayAnswer;
 use timetable::InterchangeAnswer;
 use timetable::Loaded;

@@ -10,7 +10,8 @@ use Rattle.forms.specs.Kinds.{kindOf}
 use Rattle.lines.specs.Lines.{startWith, pieces, noCR, numbered, linesFrom, skipped, toLF, cutAt}
 use Rattle.timetable.specs.Checks.{timesFirst, endsFirst, serviceChecks, serviceFirst, servicesFirst, planFirst}
 use Rattle.timetable.specs.Legs.{fieldRuns, stretches}
-use Rattle.timetable.specs.Files.{held-in, periodFirst, bitFieldsFirst, nameLength, stopsFirst, interchangesFirst}
+use Rattle.timetable.specs.Files.{held-in, periodFirst, bitFieldsFirst, stopsFirst, interchangesFirst}
+use Rattle.names.specs.NameField.{nameLength}
 use Rattle.timetable.specs.Load.{delivered, lengthOffence, contentOffence, offence, onto, helperNeeded, loaded, written}
 use Rattle.timetable.specs.Runs.{hasRun, lateness, openingSound}
 use Rattle.timetable.specs.Table.{serviceWords, tableWords}

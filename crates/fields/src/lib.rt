@@ -3,7 +3,8 @@ ghost use mathlib.Core.Path.{_≡_};
 ghost use Prim.Native.Nat.{_≤_};
 ghost use lib.ListN.{drop};
 ghost use Rattle.columns.specs.Columns.{padTo, columns};
-ghost use Rattle.fields.specs.Fields.{hashDigits, afterHash, hash, clock, time, indexBy, rangeEnd, timedBy, nthBy, detail};
+ghost use Rattle.fields.specs.Fields.{hashDigits, afterHash, hash, clock, time, indexBy, rangeEnd, timedBy};
+ghost use Rattle.fields.specs.Fields.{nthBy, detail};
 use columns::ByteClass;
 
 // Three counters that never stand for each other: the place of a call in its route from 0, which appearance of a stop in the route

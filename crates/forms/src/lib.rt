@@ -23,11 +23,13 @@ ghost use lib.Dec.{eqb};
 ghost use Rattle.base.specs.Lists.{every};
 ghost use Rattle.columns.specs.Columns as C;
 ghost use Rattle.columns.specs.Columns.{isOf, isBlank, blank};
-ghost use Rattle.forms.specs.Form.{aDate, isTime, isEnd, isStop, isDetail, detailOf, offsetOf, fromOne, orBlank, letterTo, transportFlag, unnamed, rowForm, formOf};
+ghost use Rattle.forms.specs.Form.{aDate, isTime, isEnd, isStop, isDetail, detailOf, offsetOf, fromOne, orBlank};
+ghost use Rattle.forms.specs.Form.{letterTo, transportFlag, unnamed, rowForm, formOf};
 ghost use Rattle.forms.specs.Inner.Rows.{ruleOf, toOf, rowOf, rowsOf};
 ghost use Rattle.forms.specs.Columns.{bitFieldColumns, stopColumns, interchangeColumns, classColumns, columnsOf};
 ghost use Rattle.forms.specs.declared.Form.the-variants.{Fits};
-ghost use Rattle.forms.specs.Inner.Usual.{bitFieldFits, stopFits, interchangeFits, classFits, tariffFits, supplementFits};
+ghost use Rattle.forms.specs.Inner.Usual.{bitFieldFits, stopFits, interchangeFits, classFits, tariffFits};
+ghost use Rattle.forms.specs.Inner.Usual.{supplementFits};
 ghost use Rattle.forms.specs.Kinds.{starred, kindOf};
 
 // Which kind a line of FPLAN is.
@@ -572,7 +574,8 @@ fn fits_rule(line: &[u8], a: usize, b: usize, k: u64, m: u32) -> bool
 
 // Whether columns a to b are blank, or every one is of the class.
 fn blank_or(line: &[u8], a: usize, b: usize, class: ByteClass) -> bool
-    ensures { λ r. ⌜ r ≡ (blank (C.columns a b (now (line .entry))) || every (isOf class) (C.columns a b (now (line .entry)))) ⌝ }
+    ensures { λ r. ⌜ r ≡
+        (blank (C.columns a b (now (line .entry))) || every (isOf class) (C.columns a b (now (line .entry)))) ⌝ }
 {
     if columns::every_in(line, a, b, ByteClass::Byte(b' ')) {
         return true;

@@ -7,6 +7,8 @@ ghost use lib.Dec.{eqb, leb};
 ghost use Rattle.lines.specs.Lines.{linesOf, noCR, toLF, pastLF, cutAt, skipped};
 use columns::ByteClass;
 
+pub mod reader;
+
 // The line that starts at a known place: where its text stops, where the next line starts, and the next line's number.
 pub struct Cut {
     pub stop: usize,
@@ -90,7 +92,8 @@ fn piece_end(file: &[u8], at: usize) -> usize
 // The place past the blocks from `at` on that hold no LF: what is sought is the same from there.
 fn past_blocks(file: &[u8], at: usize) -> usize
     requires { ⌜ at ≤ length (now file) ⌝ }
-    ensures { λ r. ⌜ (r ≤ length (now (file .entry))) × (r + toLF (drop r (now (file .entry))) ≡ at + toLF (drop at (now (file .entry)))) ⌝ }
+    ensures { λ r. ⌜ (r ≤ length (now (file .entry)))
+        × (r + toLF (drop r (now (file .entry))) ≡ at + toLF (drop at (now (file .entry)))) ⌝ }
 {
     let mut i = at;
     while BLOCK <= file.len() - i {
@@ -106,7 +109,8 @@ fn past_blocks(file: &[u8], at: usize) -> usize
 // The same of half a block.
 fn past_half(file: &[u8], at: usize) -> usize
     requires { ⌜ at ≤ length (now file) ⌝ }
-    ensures { λ r. ⌜ (r ≤ length (now (file .entry))) × (r + toLF (drop r (now (file .entry))) ≡ at + toLF (drop at (now (file .entry)))) ⌝ }
+    ensures { λ r. ⌜ (r ≤ length (now (file .entry)))
+        × (r + toLF (drop r (now (file .entry))) ≡ at + toLF (drop at (now (file .entry)))) ⌝ }
 {
     if HALF_BLOCK <= file.len() - at {
         if no_lf(file, at, HALF_BLOCK) {
@@ -163,7 +167,8 @@ pub const COUNTED: usize = 128;
 // How many lines end within the bytes from `at` on that are counted at once. The file goes on behind them.
 pub fn lines_ended(file: &[u8], at: usize) -> u32
     requires { ⌜ at + 128 < length (now file) ⌝ }
-    ensures { λ r. ⌜ r + length (linesOf (drop (at + 128) (now (file .entry)))) ≡ length (linesOf (drop at (now (file .entry)))) ⌝ }
+    ensures { λ r. ⌜ r + length (linesOf (drop (at + 128) (now (file .entry)))) ≡
+        length (linesOf (drop at (now (file .entry)))) ⌝ }
     ensures { λ r. ⌜ r ≤ 128 ⌝ }
 {
     let mut ended: u8 = 0;

@@ -12,8 +12,8 @@ use Rattle.timetable.specs.Service.{blocks, serviceOf}
 use Rattle.timetable.specs.Table.{sections, tableWords}
 use Rattle.timetable.specs.Load.{delivered}
 use Rattle.sections.specs.declared.Section.the-variants.{BitFields, Stops, Interchanges, Classes}
-use Rattle.section_words.specs.Inner.Words.{sectionWords}
-use Rattle.section_words.proofs.Words.{words-fields, words-stops, words-interchanges, words-classes, length-fields, length-stops, length-interchanges, length-classes}
+use Rattle.table_words.specs.Inner.SectionWords.{sectionWords}
+use Rattle.table_words.proofs.section_words.Words.{words-fields, words-stops, words-interchanges, words-classes, length-fields, length-stops, length-interchanges, length-classes}
 use Rattle.plan.specs.Inner.Services.{blockWords, placedWords}
 use Rattle.plan.proofs.Putting.{placed-size}
 use Rattle.table_words.specs.Inner.Words.{headerWords, sectionsWords, bodyWords}

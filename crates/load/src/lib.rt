@@ -1,5 +1,6 @@
 // A delivery of six files to the table, or its first offence. Nothing is written into the table before everything is checked; meanwhile the helper
 // words hold the maps of BITFELD, BAHNHOF and UMSTEIGB and, where UMSTEIGB's was, the index of ZUGART, until all is written.
+use lines::reader;
 use table_words::Header;
 use timetable::BIT_FIELD_WORDS;
 use timetable::CLASS_WORDS;
@@ -20,7 +21,8 @@ ghost use Rattle.lines.specs.Lines.{linesOf};
 ghost use Rattle.timetable.specs.Layout.{helperHead, mostFileBytes, mostPeriodDays};
 ghost use Rattle.timetable.specs.Delivery.{filesOf};
 ghost use Rattle.timetable.specs.Offences.{checkedBy};
-ghost use Rattle.timetable.specs.Files.{bitFieldsIn, bitFieldsFirst, stopsIn, stopsFirst, interchangesIn, interchangesFirst, classesIn, classesFirst};
+ghost use Rattle.timetable.specs.Files.{bitFieldsIn, bitFieldsFirst, stopsIn, stopsFirst, interchangesIn};
+ghost use Rattle.timetable.specs.Files.{interchangesFirst, classesIn, classesFirst};
 ghost use Rattle.timetable.specs.Service.{blocks};
 ghost use Rattle.timetable.specs.Checks.{planFirst};
 ghost use Rattle.timetable.specs.Load.{delivered, contentOffence, loaded, written, helped};
@@ -28,7 +30,8 @@ ghost use Rattle.draft.specs.Inner.Draft.{callsLent, rangesLent};
 ghost use Rattle.reading.specs.Inner.Maps.{FieldMap, StopMap, ClassIndex};
 ghost use Rattle.plan.specs.Inner.Services.{blockWords, mostPlanWords};
 ghost use Rattle.load.specs.Inner.Delivered.{longIn, headerBy, headerOf, refusedIn, deliveredBy, answered, left};
-ghost use Rattle.load.specs.Inner.Helper.{Short, roomOf, Emptied, LentAt, IndexLent, FieldsAfter, StopsAfter, IndexAfter, StopsStand};
+ghost use Rattle.load.specs.Inner.Helper.{Short, roomOf, Emptied, LentAt, IndexLent, FieldsAfter, StopsAfter};
+ghost use Rattle.load.specs.Inner.Helper.{IndexAfter, StopsStand};
 
 // What the checks of the files say: the header of the table, or the first offence and its file.
 pub enum Delivered {
@@ -106,7 +109,8 @@ struct Room {
 }
 
 fn room_for(bitfeld: &[u8], bahnhof: &[u8], umsteigb: &[u8]) -> Room
-    requires { ⌜ (length (now bitfeld) ≤ mostFileBytes) × (length (now bahnhof) ≤ mostFileBytes) × (length (now umsteigb) ≤ mostFileBytes) ⌝ }
+    requires { ⌜ (length (now bitfeld) ≤ mostFileBytes) × (length (now bahnhof) ≤ mostFileBytes)
+        × (length (now umsteigb) ≤ mostFileBytes) ⌝ }
     ensures { λ r. ⌜ r ≡ roomOf (now (bitfeld .entry)) (now (bahnhof .entry)) (now (umsteigb .entry)) ⌝ }
 {
     let fields = reader::lines_in(bitfeld) as usize;
@@ -410,7 +414,8 @@ fn plan_by(
     calls: &mut [u32],
     ranges: &mut [u32],
 ) -> Checked
-    requires { ⌜ (length (now fplan) ≤ mostFileBytes) × (days ≤ mostPeriodDays) × (room .fields + room .stops + helperHead ≤ length (now m)) ⌝ }
+    requires { ⌜ (length (now fplan) ≤ mostFileBytes) × (days ≤ mostPeriodDays)
+        × (room .fields + room .stops + helperHead ≤ length (now m)) ⌝ }
     requires { ⌜ FieldMap (now bitfeld) (take (room .fields) (now m)) × StopMap (now bahnhof) (take (room .stops) (drop (room .fields) (now m))) ×
         ClassIndex (now zugart) (drop (room .fields + room .stops) (now m)) ⌝ }
     requires { ⌜ (callsLent ≤ length (now calls)) × (rangesLent ≤ length (now ranges)) ⌝ }
@@ -494,7 +499,8 @@ fn header_of(
     services: u32,
     words: u32,
 ) -> Header
-    requires { ⌜ (fields ≤ mostFileBytes) × (stops ≤ mostFileBytes) × (interchanges ≤ mostFileBytes) × (classes ≤ mostFileBytes) × (words ≤ mostPlanWords) ⌝ }
+    requires { ⌜ (fields ≤ mostFileBytes) × (stops ≤ mostFileBytes) × (interchanges ≤ mostFileBytes)
+        × (classes ≤ mostFileBytes) × (words ≤ mostPlanWords) ⌝ }
     ensures { λ r. ⌜ r ≡ headerBy start days fields stops interchanges classes services words ⌝ }
 {
     let first = HEADER_WORDS as u32

@@ -5,7 +5,8 @@ ghost use mathlib.Core.Path.{_≡_};
 ghost use mathlib.Core.List.{_++_};
 ghost use Prim.Native.Nat.{_+_, _*_, _≤_, _<_};
 ghost use lib.ListN.{length, drop, replicate, getD};
-ghost use Rattle.map.specs.Inner.Map.{mapRecordSize, wordValues, mostRecords, bucketOf, Chained, Mapped, Finds, Added};
+ghost use Rattle.map.specs.Inner.Map.{mapRecordSize, wordValues, mostRecords, bucketOf, Chained, Mapped, Finds};
+ghost use Rattle.map.specs.Inner.Map.{Added};
 
 // Which record, counted from 0.
 pub enum Found {

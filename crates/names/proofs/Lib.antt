@@ -6,3 +6,4 @@ pub mod Turns
 pub mod Fields
 pub mod Inside
 pub mod Examples
+pub mod NameField

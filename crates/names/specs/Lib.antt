@@ -1,3 +1,4 @@
 pub mod Grammar
 pub mod Names
 pub mod Inner
+pub mod NameField

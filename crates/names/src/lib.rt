@@ -5,8 +5,12 @@ ghost use mathlib.Core.Path.{_≡_};
 ghost use Prim.Native.Nat.{_+_, _≤_, _<_};
 ghost use lib.ListN.{length, drop};
 ghost use Rattle.names.specs.Grammar.{isPlain, among, isLanguage, isType};
-ghost use Rattle.names.specs.Names.{span, namesOf, patternsOf, isNameList, languageKnown, typeDigit, allows, fits, nameFor};
-ghost use Rattle.names.specs.Inner.Answers.{isOf, askedBy, foundIn, foundBehind, firstOf, patternAnswer, behindAnswer, nextName, chosenBy};
+ghost use Rattle.names.specs.Names.{span, namesOf, patternsOf, isNameList, languageKnown, typeDigit, allows};
+ghost use Rattle.names.specs.Names.{fits, nameFor};
+ghost use Rattle.names.specs.Inner.Answers.{isOf, askedBy, foundIn, foundBehind, firstOf, patternAnswer};
+ghost use Rattle.names.specs.Inner.Answers.{behindAnswer, nextName, chosenBy};
+
+pub mod name_field;
 
 // A name inside its field: where it begins, from 0, and how many bytes it has.
 pub struct Name {

@@ -3,6 +3,7 @@ use calendar::Date;
 use calendar::PeriodLength;
 use forms::Form;
 use forms::LineKind;
+use lines::reader;
 use timetable::Checked;
 use timetable::Offence;
 ghost use mathlib.Core.Path.{_≡_};
@@ -17,7 +18,8 @@ ghost use Rattle.period.specs.Inner.Dates.{dateAt};
 // The first day and the number of days. Line 3 says nothing, and is the last.
 pub fn check_period(f: &[u8]) -> Checked
     requires { ⌜ length (now f) ≤ mostFileBytes ⌝ }
-    ensures { λ r. ⌜ r ≡ checkedBy (periodFirst (linesOf (now (f .entry)))) (periodIn (linesOf (now (f .entry))) .start) (periodIn (linesOf (now (f .entry))) .n) ⌝ }
+    ensures { λ r. ⌜ r ≡ checkedBy (periodFirst (linesOf (now (f .entry)))) (periodIn (linesOf (now (f .entry))) .start)
+        (periodIn (linesOf (now (f .entry))) .n) ⌝ }
 {
     let first = date_line(f, 0, 1);
     let Checked::Holds(start, second_at) = first else {

@@ -37,7 +37,8 @@ pub fn check_plan(
     ranges: &mut [u32],
 ) -> Checked
     requires { ⌜ (length (now fplan) ≤ mostFileBytes) × (days ≤ mostPeriodDays) ⌝ }
-    requires { ⌜ FieldMap (now bitfeld) (now fields) × StopMap (now bahnhof) (now stops) × ClassIndex (now zugart) (now index) ⌝ }
+    requires { ⌜ FieldMap (now bitfeld) (now fields) × StopMap (now bahnhof) (now stops) × ClassIndex (now zugart)
+        (now index) ⌝ }
     requires { ⌜ (callsLent ≤ length (now calls)) × (rangesLent ≤ length (now ranges)) ⌝ }
     ensures { λ r. ⌜ r ≡ checkedBy
         (planFirst (bitFieldsIn (now (bitfeld .entry))) (stopsIn (now (bahnhof .entry))) (classesIn (now (zugart .entry))) days
@@ -79,7 +80,8 @@ fn check_services(
     ranges: &mut [u32],
 ) -> Checked
     requires { ⌜ Boundary (now fplan) start first × (days ≤ mostPeriodDays) ⌝ }
-    requires { ⌜ FieldMap (now bitfeld) (now fields) × StopMap (now bahnhof) (now stops) × ClassIndex (now zugart) (now index) ⌝ }
+    requires { ⌜ FieldMap (now bitfeld) (now fields) × StopMap (now bahnhof) (now stops) × ClassIndex (now zugart)
+        (now index) ⌝ }
     requires { ⌜ (callsLent ≤ length (now calls)) × (rangesLent ≤ length (now ranges)) ⌝ }
     ensures { λ r. ⌜ r ≡ checkedBy
         (servicesFirst (bitFieldsIn (now (bitfeld .entry))) (stopsIn (now (bahnhof .entry))) (classesIn (now (zugart .entry))) days
@@ -145,7 +147,8 @@ pub fn put_plan(
     requires { ⌜ headFirst (linesOf (now fplan)) ≡ none ⌝ }
     requires { ⌜ allSound (blocks (linesOf (now fplan))) ≡ true ⌝ }
     requires { ⌜ (callsLent ≤ length (now calls)) × (rangesLent ≤ length (now ranges)) ⌝ }
-    requires { ⌜ at + length (placedWords (stopsIn (now bahnhof)) (blocks (linesOf (now fplan)))) ≤ length (now table) ⌝ }
+    requires { ⌜ at + length (placedWords (stopsIn (now bahnhof)) (blocks (linesOf (now fplan)))) ≤ length
+        (now table) ⌝ }
     ensures { λ _. ⌜ now (table .exit) ≡ write (now (table .entry)) at
         (placedWords (stopsIn (now (bahnhof .entry))) (blocks (linesOf (now (fplan .entry))))) ⌝ }
 {
@@ -239,7 +242,8 @@ fn put_drafted(
     requires { ⌜ to + length (serviceWords (serviceOf (serviceLinesAt (now fplan) at no))) ≤ length (now table) ⌝ }
     ensures { λ r. ⌜ ServiceTaken (now (fplan .entry)) at no (r .words) (r .end) (r .no) ⌝ }
     ensures { λ r. ⌜ r .calls ≡ length (serviceOf (serviceLinesAt (now (fplan .entry)) at no) .calls) ⌝ }
-    ensures { λ r. ⌜ now (table .exit) ≡ write (now (table .entry)) to (serviceWords (serviceOf (serviceLinesAt (now (fplan .entry)) at no))) ⌝ }
+    ensures { λ r. ⌜ now (table .exit) ≡
+        write (now (table .entry)) to (serviceWords (serviceOf (serviceLinesAt (now (fplan .entry)) at no))) ⌝ }
 {
     let read = reading::read_again(fplan, at, no, calls, ranges);
     let opening = read.opening;

@@ -13,6 +13,7 @@ use forms::Form;
 use forms::Kind;
 use forms::LineKind;
 use lines::Cut;
+use lines::reader;
 ghost use mathlib.Core.Path.{_≡_};
 ghost use mathlib.Core.Bool.{cond, not, true, false, _&&_, _||_};
 ghost use Prim.Native.Nat.{ℕ, _-_, _<_};

@@ -14,6 +14,8 @@ ghost use Rattle.timetable.specs.Questions.{dated, dayBy, dayIn, dayAsked, firs
 ghost use Rattle.timetable.specs.Questions.{interchangeAsked, betweenIn, betweenAsked};
 ghost use Rattle.index.specs.Index.{Ready, viewIn};
 
+pub mod stop_names;
+
 // Two services of classes up to this one take the first time.
 const FIRST_TIME_CLASS: u32 = 2;
 

@@ -5,7 +5,8 @@ use draft::Counts;
 use draft::Drafted;
 use forms::Kind;
 use lines::Cut;
-use reader::Reader;
+use lines::reader;
+use lines::reader::Reader;
 use timetable::Offence;
 use timetable::Opening;
 use timetable::Part;
@@ -26,10 +27,13 @@ ghost use Rattle.timetable.specs.Plan.{toldIn, asCall, asRange, asOpening, isOp
 ghost use Rattle.timetable.specs.Service.{firstOpening};
 ghost use Rattle.timetable.specs.Legs.{fieldKnown};
 ghost use Rattle.timetable.specs.Checks.{most, categoryListed};
-ghost use Rattle.draft.specs.Inner.Draft.{callsLent, rangesLent, callsOn, rangesOn, onLine, callsAfter, counted, ranges#, Within};
+ghost use Rattle.draft.specs.Inner.Draft.{callsLent, rangesLent, callsOn, rangesOn, onLine, callsAfter, counted};
+ghost use Rattle.draft.specs.Inner.Draft.{ranges#, Within};
 ghost use Rattle.reading.specs.Inner.Maps.{FieldMap, StopMap, ClassIndex};
-ghost use Rattle.reading.specs.Inner.Reading.{serviceLinesAt, Boundary, Sound, Reaching, isFormed, ServiceRead, ReadAs, HeadAs, endsHead, headBy, NextAs};
-ghost use Rattle.reading.specs.Inner.Reading.{countOf, categoryAfter, rangeAfter, callAfter, formAfter, offenceAfter};
+ghost use Rattle.reading.specs.Inner.Reading.{serviceLinesAt, Boundary, Sound, Reaching, isFormed, ServiceRead};
+ghost use Rattle.reading.specs.Inner.Reading.{ReadAs, HeadAs, endsHead, headBy, NextAs};
+ghost use Rattle.reading.specs.Inner.Reading.{countOf, categoryAfter, rangeAfter, callAfter, formAfter};
+ghost use Rattle.reading.specs.Inner.Reading.{offenceAfter};
 
 // A service as it was read and drafted, or the first own offence of its lines.
 pub enum Read {
@@ -116,7 +120,8 @@ pub fn read_checked(
     ranges: &mut [u32],
 ) -> Read
     requires { ⌜ Boundary (now fplan) at no × (at < length (now fplan)) ⌝ }
-    requires { ⌜ FieldMap (now bitfeld) (now fields) × StopMap (now bahnhof) (now stops) × ClassIndex (now zugart) (now index) ⌝ }
+    requires { ⌜ FieldMap (now bitfeld) (now fields) × StopMap (now bahnhof) (now stops) × ClassIndex (now zugart)
+        (now index) ⌝ }
     requires { ⌜ (callsLent ≤ length (now calls)) × (rangesLent ≤ length (now ranges)) ⌝ }
     ensures { λ r. ⌜ ReadAs (bitFieldsIn (now (bitfeld .entry))) (stopsIn (now (bahnhof .entry))) (classesIn (now (zugart .entry))) (now (fplan .entry)) at
         no r (now (calls .exit)) (now (ranges .exit)) ⌝ }
@@ -318,7 +323,8 @@ fn offence_after(
     zugart: &[u8],
     index: &[u32],
 ) -> Verdict
-    requires { ⌜ FieldMap (now bitfeld) (now fields) × StopMap (now bahnhof) (now stops) × ClassIndex (now zugart) (now index) ⌝ }
+    requires { ⌜ FieldMap (now bitfeld) (now fields) × StopMap (now bahnhof) (now stops) × ClassIndex (now zugart)
+        (now index) ⌝ }
     ensures { λ r. ⌜ r ≡ verdictBy
         (offenceAfter (bitFieldsIn (now (bitfeld .entry))) (stopsIn (now (bahnhof .entry))) (classesIn (now (zugart .entry))) counts line said) ⌝ }
 {
@@ -362,7 +368,8 @@ fn range_offence(
     index: &[u32],
 ) -> Verdict
     requires { ⌜ FieldMap (now bitfeld) (now fields) × ClassIndex (now zugart) (now index) ⌝ }
-    ensures { λ r. ⌜ r ≡ verdictBy (rangeAfter (bitFieldsIn (now (bitfeld .entry))) (classesIn (now (zugart .entry))) counts line part field name) ⌝ }
+    ensures { λ r. ⌜ r ≡ verdictBy (rangeAfter (bitFieldsIn (now (bitfeld .entry))) (classesIn (now (zugart .entry)))
+        counts line part field name) ⌝ }
 {
     if full(counts, part) {
         return timetable::offends(13, line);

@@ -16,7 +16,8 @@ ghost use mathlib.Core.Option.{none, some};
 ghost use mathlib.Core.Bool.{cond, _&&_};
 ghost use lib.Dec.{eqb, ltb};
 ghost use lib.ListN.{length, drop, getElem?};
-ghost use Rattle.timetable.specs.Ranges.{places, callsAt, firstPlace, lastPlace, fromStop, toStop, fromPlace, toPlace, legsOf};
+ghost use Rattle.timetable.specs.Ranges.{places, callsAt, firstPlace, lastPlace, fromStop, toStop, fromPlace, toPlace};
+ghost use Rattle.timetable.specs.Ranges.{legsOf};
 ghost use Rattle.timetable.specs.Service.{loose as isLoose, legsOn};
 ghost use Rattle.draft.specs.Inner.Draft.{draftCall, callBack, callsIn};
 ghost use Rattle.route.specs.Inner.Route.{meets, routePlace, foundOf};
@@ -161,7 +162,8 @@ fn to_stop(w: &[u32], c: u32, n: StopNumber, d: Detail) -> Place
 // Of the calls that are sought the last, or the first.
 fn place_sought(w: &[u32], c: u32, s: Sought, last: bool) -> Place
     requires { ⌜ draftCall * c ≤ length (now w) ⌝ }
-    ensures { λ r. ⌜ r ≡ routePlace (cond last lastPlace firstPlace (places (meets s) 0 (callsIn c (now (w .entry))))) ⌝ }
+    ensures { λ r. ⌜ r ≡
+        routePlace (cond last lastPlace firstPlace (places (meets s) 0 (callsIn c (now (w .entry))))) ⌝ }
 {
     if last {
         return last_place(w, c, s);

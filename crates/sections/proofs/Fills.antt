@@ -15,9 +15,9 @@ use Rattle.base.proofs.Lists.{gathered-append}
 use Rattle.lines.specs.Lines.{Line, linesOf, cutAt}
 use Rattle.lines.specs.declared.Cut.{Cut}
 use Rattle.lines.proofs.Laws.{lines-nil}
-use Rattle.reader.specs.Inner.Skips.{pastSkipped}
+use Rattle.lines.specs.Inner.Skips.{pastSkipped}
 use Rattle.lines.proofs.Pieces.{cut-empty}
-use Rattle.reader.proofs.Skipping.{passed-text, passed-next}
+use Rattle.lines.proofs.reader.Skipping.{passed-text, passed-next}
 use Rattle.map.specs.Inner.Map.{mapRecordSize, wordValues, column, Chained, Added, Distinct}
 use Rattle.map.proofs.Puts.{empty-zeros}
 use Rattle.map.proofs.Meaning.{distinct-none, distinct-more}

@@ -21,7 +21,8 @@ use Rattle.bitfield.specs.BitField.{bitsIn, framed}
 use Rattle.names.specs.Names.{isNameList}
 use Rattle.timetable.specs.Delivery.{StopRecord, Interchange}
 use Rattle.timetable.specs.Offences.{offenceAt, given, _<|>_, verdictBy}
-use Rattle.timetable.specs.Files.{held-in, bitFieldOf, bitFieldOffence, hasInterchange, hasStop, nameField, stopOf, stopOffence, namedStopOffence, interchangeOf, interchangeOffence}
+use Rattle.timetable.specs.Files.{held-in, bitFieldOf, bitFieldOffence, hasInterchange, hasStop, stopOf, stopOffence, namedStopOffence, interchangeOf, interchangeOffence}
+use Rattle.names.specs.NameField.{nameField}
 use Rattle.timetable.specs.declared.Verdict.{Verdict}
 use Rattle.timetable.specs.declared.Verdict.the-variants.{Fine, Offends}
 use Rattle.timetable.proofs.Offences.{then-none, given-none}

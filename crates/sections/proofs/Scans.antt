@@ -14,9 +14,9 @@ use Rattle.base.proofs.Lists.{gathered-append}
 use Rattle.lines.specs.Lines.{Line, linesFrom, linesOf, cutAt}
 use Rattle.lines.specs.declared.Cut.{Cut}
 use Rattle.lines.proofs.Laws.{cutting, lines-none, lines-nil, cut-low, cut-high, cut-less}
-use Rattle.reader.specs.Inner.Skips.{pastSkipped}
+use Rattle.lines.specs.Inner.Skips.{pastSkipped}
 use Rattle.lines.proofs.Pieces.{cut-empty}
-use Rattle.reader.proofs.Skipping.{passed-text, passed-next}
+use Rattle.lines.proofs.reader.Skipping.{passed-text, passed-next}
 use Rattle.timetable.specs.Layout.{mostFileBytes}
 use Rattle.timetable.specs.Delivery.{StopRecord}
 use Rattle.timetable.specs.Offences.{_<|>_, first, verdictBy, checkedBy}

@@ -9,11 +9,11 @@ use Rattle.base.specs.Lists.{every}
 use Rattle.base.proofs.Laws.{apart}
 use Rattle.base.proofs.Loops.{and-true}
 use Rattle.lines.specs.Lines.{Line, linesAt, linesOf, cutAt, skipped}
-use Rattle.reader.specs.Inner.Skips.{pastSkipped}
+use Rattle.lines.specs.Inner.Skips.{pastSkipped}
 use Rattle.lines.specs.declared.Cut.{Cut}
 use Rattle.lines.proofs.Laws.{cutting}
 use Rattle.lines.proofs.Pieces.{cut-empty}
-use Rattle.reader.proofs.Skipping.{passed-next}
+use Rattle.lines.proofs.reader.Skipping.{passed-next}
 use Rattle.forms.specs.Form.{formOf}
 use Rattle.forms.specs.Columns.{columnsOf}
 use Rattle.forms.specs.declared.Form.{Form}

@@ -6,7 +6,9 @@ use columns::line_fields::class;
 use columns::line_fields::stop;
 use forms::Form;
 use forms::LineKind;
+use lines::reader;
 use map::Found;
+use names::name_field;
 use timetable::BIT_WORDS;
 use timetable::Checked;
 use timetable::Offence;
@@ -28,10 +30,13 @@ ghost use Rattle.timetable.specs.Files.{bitFieldsIn, hasField, bitFieldOffence}
 ghost use Rattle.timetable.specs.Files.{stopsIn, defaultStop, hasStop, stopOffence, namedStopOffence};
 ghost use Rattle.timetable.specs.Plan.{threeBytes};
 ghost use Rattle.timetable.specs.Table.{stopPlace};
-ghost use Rattle.sections.specs.Inner.Sections.{lineKind, keyOn, numberedBy, numberOn, asNumber, numbers, hasNumber};
-ghost use Rattle.sections.specs.Inner.Sections.{numberedField, numberedStop, lineVerdict, interchangeVerdict, wordsOf};
+ghost use Rattle.sections.specs.Inner.Sections.{lineKind, keyOn, numberedBy, numberOn, asNumber, numbers};
+ghost use Rattle.sections.specs.Inner.Sections.{hasNumber};
+ghost use Rattle.sections.specs.Inner.Sections.{numberedField, numberedStop, lineVerdict, interchangeVerdict};
+ghost use Rattle.sections.specs.Inner.Sections.{wordsOf};
 ghost use Rattle.sections.specs.Inner.Sections.{sectionChecked, fieldsChecked, stopsChecked, interchangesChecked};
-ghost use Rattle.sections.specs.Inner.SectionMap.{textAt, Seen, MapOf, Lent, MapAfter, Ready, Reached, PutReady, Put};
+ghost use Rattle.sections.specs.Inner.SectionMap.{textAt, Seen, MapOf, Lent, MapAfter, Ready, Reached, PutReady};
+ghost use Rattle.sections.specs.Inner.SectionMap.{Put};
 ghost use Rattle.sections.specs.declared.Section.the-variants.{BitFields, Stops, Interchanges};
 
 // The sections of the table that files 2 to 4 and 6 give.
@@ -172,7 +177,8 @@ pub fn number_on(section: Section, text: &[u8]) -> Numbered
 
 // The same of a line that is not skipped.
 fn formed_number(section: Section, text: &[u8]) -> Numbered
-    ensures { λ r. ⌜ r ≡ numberedBy (formOf (columnsOf (lineKind section)) (now (text .entry))) (keyOn section (now (text .entry))) ⌝ }
+    ensures { λ r. ⌜ r ≡
+        numberedBy (formOf (columnsOf (lineKind section)) (now (text .entry))) (keyOn section (now (text .entry))) ⌝ }
 {
     let form = forms::line_form(line_kind(section), text);
     match form {
@@ -333,7 +339,8 @@ fn line_verdict(
     requires { ⌜ n ≡ numberOn section (now text) ⌝ }
     requires { ⌜ count ≡ length (numbers section (linesOf (now before))) ⌝ }
     requires { ⌜ Reached section (now before) (now bahnhof) split (now m) ⌝ }
-    ensures { λ r. ⌜ r ≡ lineVerdict section days (now (bahnhof .entry)) (now (before .entry)) no (now (text .entry)) n ⌝ }
+    ensures { λ r. ⌜ r ≡
+        lineVerdict section days (now (bahnhof .entry)) (now (before .entry)) no (now (text .entry)) n ⌝ }
 {
     match n {
         Numbered::Skipped => Verdict::Fine,
@@ -371,7 +378,8 @@ fn field_verdict(
     requires { ⌜ days ≤ mostPeriodDays ⌝ }
     requires { ⌜ every isHex (columns 8 103 (now text)) ≡ true ⌝ }
     requires { ⌜ Seen BitFields (linesOf (now before)) (now seen) ⌝ }
-    ensures { λ r. ⌜ r ≡ verdictBy (bitFieldOffence days (bitFieldsIn (now (before .entry))) no (numberedField number (now (text .entry)))) ⌝ }
+    ensures { λ r. ⌜ r ≡ verdictBy (bitFieldOffence days (bitFieldsIn (now (before .entry))) no
+        (numberedField number (now (text .entry)))) ⌝ }
 {
     if number == 0 {
         return timetable::offends(7, no);
@@ -388,7 +396,8 @@ fn field_verdict(
 // 39, then the others: the name field is no name list.
 fn named_stop_verdict(number: u32, before: &[u8], seen: &[u32], text: &[u8], no: u32) -> Verdict
     requires { ⌜ Seen Stops (linesOf (now before)) (now seen) ⌝ }
-    ensures { λ r. ⌜ r ≡ verdictBy (namedStopOffence (stopsIn (now (before .entry))) no (now (text .entry)) (numberedStop number)) ⌝ }
+    ensures { λ r. ⌜ r ≡
+        verdictBy (namedStopOffence (stopsIn (now (before .entry))) no (now (text .entry)) (numberedStop number)) ⌝ }
 {
     if name_field::is_named(text) {
         return stop_verdict(number, before, seen, no);

@@ -32,7 +32,10 @@ ghost use Rattle.timetable.specs.Table.{rowsIn, dayAt};
 ghost use Rattle.draft.specs.Inner.Draft.{callsLent, rangesLent, Within};
 ghost use Rattle.reading.specs.Inner.Maps.{FieldMap, StopMap, ClassIndex};
 ghost use Rattle.reading.specs.Inner.Reading.{Boundary};
-ghost use Rattle.service.specs.Inner.Answers.{CheckedAs, Counted, EndsFound, serviceIn, draftFirst, checkBy, rowsBroken, rowsTorn, daysFirst};
+ghost use Rattle.service.specs.Inner.Answers.{CheckedAs, Counted, EndsFound, serviceIn, draftFirst, checkBy};
+ghost use Rattle.service.specs.Inner.Answers.{rowsBroken, rowsTorn, daysFirst};
+
+pub mod schedule;
 
 // What checking a service answers: the words that it takes and where the next service begins (the place and the number of its opening line, or of
 // the file's end); or its first offence.
@@ -57,9 +60,11 @@ pub fn check_service(
     calls: &mut [u32],
     ranges: &mut [u32],
 ) -> ServiceCheck
-    requires { ⌜ (at < length (now fplan)) × (days ≤ mostPeriodDays) × (callsLent ≤ length (now calls)) × (rangesLent ≤ length (now ranges)) ⌝ }
+    requires { ⌜ (at < length (now fplan)) × (days ≤ mostPeriodDays) × (callsLent ≤ length (now calls))
+        × (rangesLent ≤ length (now ranges)) ⌝ }
     requires { ⌜ Boundary (now fplan) at no ⌝ }
-    requires { ⌜ FieldMap (now bitfeld) (now fields) × StopMap (now bahnhof) (now stops) × ClassIndex (now zugart) (now index) ⌝ }
+    requires { ⌜ FieldMap (now bitfeld) (now fields) × StopMap (now bahnhof) (now stops) × ClassIndex (now zugart)
+        (now index) ⌝ }
     ensures { λ r. ⌜ CheckedAs (bitFieldsIn (now (bitfeld .entry))) (stopsIn (now (bahnhof .entry))) (classesIn (now (zugart .entry))) days
         (now (fplan .entry)) at no r ⌝ }
 {
@@ -165,7 +170,8 @@ fn legs_wrong(
     requires { ⌜ EndsFound d (now calls) (now ranges) ⌝ }
     requires { ⌜ (2 ≤ d .counts .calls) × (days ≤ mostPeriodDays) ⌝ }
     requires { ⌜ FieldMap (now bitfeld) (now fields) ⌝ }
-    ensures { λ r. ⌜ r ≡ verdictBy (legsFirst (bitFieldsIn (now (bitfeld .entry))) days (d .line) (serviceIn d (now (calls .entry)) (now (ranges .entry)))) ⌝ }
+    ensures { λ r. ⌜ r ≡ verdictBy (legsFirst (bitFieldsIn (now (bitfeld .entry))) days (d .line)
+        (serviceIn d (now (calls .entry)) (now (ranges .entry)))) ⌝ }
 {
     let counts = d.counts;
     let c = counts.calls;
@@ -215,7 +221,8 @@ fn days_wrong(
 ) -> Verdict
     requires { ⌜ (v * daySize ≤ length (now ranges)) × (days ≤ mostPeriodDays) ⌝ }
     requires { ⌜ FieldMap (now bitfeld) (now fields) ⌝ }
-    ensures { λ r. ⌜ r ≡ verdictBy (daysFirst (bitFieldsIn (now (bitfeld .entry))) days line legs (rowsIn dayAt daySize v (now (ranges .entry)))) ⌝ }
+    ensures { λ r. ⌜ r ≡ verdictBy (daysFirst (bitFieldsIn (now (bitfeld .entry))) days line legs
+        (rowsIn dayAt daySize v (now (ranges .entry)))) ⌝ }
 {
     if each_once(ranges, v, DAYS_WORDS, legs) {
         if two_stretches(ranges, v, legs, bitfeld, fields, days) {
@@ -252,7 +259,8 @@ fn two_stretches(
     requires { ⌜ (v * daySize ≤ length (now ranges)) × (days ≤ mostPeriodDays) ⌝ }
     requires { ⌜ eachOnce (λ (r : DayRange). r .legs) legs (rowsIn dayAt daySize v (now ranges)) ≡ true ⌝ }
     requires { ⌜ FieldMap (now bitfeld) (now fields) ⌝ }
-    ensures { λ r. ⌜ r ≡ rowsTorn (bitFieldsIn (now (bitfeld .entry))) days legs (rowsIn dayAt daySize v (now (ranges .entry))) ⌝ }
+    ensures { λ r. ⌜ r ≡
+        rowsTorn (bitFieldsIn (now (bitfeld .entry))) days legs (rowsIn dayAt daySize v (now (ranges .entry))) ⌝ }
 {
     // the legs of one range run on the same days
     if v == 1 {
@@ -294,7 +302,8 @@ fn torn_days(ranges: &[u32], v: u32, legs: u32, bitfeld: &[u8], fields: &[u32]) 
 // The days of a bit field by its number: 0 is every day.
 fn field_days(bitfeld: &[u8], fields: &[u32], number: u32) -> [u32; BIT_WORDS]
     requires { ⌜ FieldMap (now bitfeld) (now fields) ⌝ }
-    ensures { λ r. ⌜ ((d : ℕ) → d < mostPeriodDays → runsOn r d ≡ fieldRuns (bitFieldsIn (now (bitfeld .entry))) number d) ⌝ }
+    ensures { λ r. ⌜ ((d : ℕ) → d < mostPeriodDays → runsOn r d ≡ fieldRuns (bitFieldsIn (now (bitfeld .entry))) number
+        d) ⌝ }
 {
     if number == 0 {
         return bitfield::all_bits();

@@ -16,7 +16,8 @@ ghost use Rattle.timetable.specs.Layout.{serviceHead, callSize, categorySize, d
 ghost use Rattle.timetable.specs.Plan.{partNumber, isPart};
 ghost use Rattle.timetable.specs.Table.{callWords, serviceWords};
 ghost use Rattle.draft.specs.Inner.Draft.{draftCall, draftRange, partBack, lineBack, callsIn, rangesIn};
-ghost use Rattle.service_words.specs.Inner.Parts.{rangeRowWords, rangeGives, partWords, rangeWords, rangeEnds, bodyOf, sizesBy, givenWords};
+ghost use Rattle.service_words.specs.Inner.Parts.{rangeRowWords, rangeGives, partWords, rangeWords, rangeEnds};
+ghost use Rattle.service_words.specs.Inner.Parts.{bodyOf, sizesBy, givenWords};
 ghost use Rattle.service_words.specs.Inner.Parts.{headBy, sizesOf, serviceIn};
 
 // What a range gives to a part of the service's words: nothing, or three or four words.
@@ -54,7 +55,8 @@ pub fn service_into(
     at: usize,
 ) -> Sizes
     requires { ⌜ (draftCall * c ≤ length (now calls)) × (draftRange * n ≤ length (now ranges)) ⌝ }
-    requires { ⌜ at + length (serviceWords (serviceIn opening line c (now calls) n (now ranges))) ≤ length (now table) ⌝ }
+    requires { ⌜ at + length (serviceWords (serviceIn opening line c (now calls) n (now ranges))) ≤ length
+        (now table) ⌝ }
     requires { ⌜ length (serviceWords (serviceIn opening line c (now calls) n (now ranges))) ≤ 4294967295 ⌝ }
     ensures { λ r. ⌜ (r ≡ sizesOf (serviceIn opening line c (now (calls .entry)) n (now (ranges .entry)))) ×
         (now (table .exit) ≡ write (now (table .entry)) at (serviceWords (serviceIn opening line c (now (calls .entry)) n (now (ranges .entry))))) ⌝ }
@@ -226,7 +228,8 @@ pub fn part_into(
 // What the range at a place gives to a part. Its part is looked at first: most ranges are of another, and are not taken apart.
 fn given_at(part: Part, ranges: &[u32], at: usize, calls: &[u32], c: u32) -> Given
     requires { ⌜ (draftCall * c ≤ length (now calls)) × (at + draftRange ≤ length (now ranges)) ⌝ }
-    ensures { λ r. ⌜ givenWords r ≡ rangeGives part (callsIn c (now (calls .entry))) (lineBack (drop at (now (ranges .entry)))) ⌝ }
+    ensures { λ r. ⌜ givenWords r ≡
+        rangeGives part (callsIn c (now (calls .entry))) (lineBack (drop at (now (ranges .entry)))) ⌝ }
 {
     if part_drafted(ranges[at + 1]) != draft::part_number(part) {
         return Given::Nothing;
@@ -271,7 +274,8 @@ fn row_of(part: Part, range: RangeLine, from: u32, to: u32) -> Given
 // Writes what is given; the place after it.
 fn put_given(given: Given, table: &mut [u32], at: usize) -> usize
     requires { ⌜ at + length (givenWords given) ≤ length (now table) ⌝ }
-    ensures { λ r. ⌜ (r ≡ at + length (givenWords given)) × (now (table .exit) ≡ write (now (table .entry)) at (givenWords given)) ⌝ }
+    ensures { λ r. ⌜ (r ≡ at + length (givenWords given))
+        × (now (table .exit) ≡ write (now (table .entry)) at (givenWords given)) ⌝ }
 {
     match given {
         Given::Nothing => at,

@@ -9,7 +9,8 @@ ghost use lib.ListN.{length, take};
 ghost use Rattle.base.specs.Lists.{gathered};
 ghost use Rattle.timetable.specs.Layout.{stopSize};
 ghost use Rattle.chains.specs.Chains.{nextBy};
-ghost use Rattle.stop_calls.specs.StopCalls.{chained, entries#, entryWord, callsOn, callsBy, Lent, leftAt, On, lastOn, beforeOn};
+ghost use Rattle.stop_calls.specs.StopCalls.{chained, entries#, entryWord, callsOn, callsBy, Lent, leftAt, On};
+ghost use Rattle.stop_calls.specs.StopCalls.{lastOn, beforeOn};
 
 // A call by its number (0 for none), its stop, counted from the end of the stop section, and how many calls may still come, with it.
 pub struct Cursor {
@@ -31,7 +32,8 @@ pub fn first_call(
 ) -> Cursor
     requires { ⌜ Lent (now w) (now x) (now y) end n from ⌝ }
     requires { ⌜ 0 < most ⌝ }
-    ensures left { λ r. ⌜ leftAt (now (w .entry)) (now (x .entry)) (now (y .entry)) end n from key r ≡ take most (callsBy (now (w .entry)) (now (x .entry)) (now (y .entry)) end n from key) ⌝ }
+    ensures left { λ r. ⌜ leftAt (now (w .entry)) (now (x .entry)) (now (y .entry)) end n from key r ≡
+        take most (callsBy (now (w .entry)) (now (x .entry)) (now (y .entry)) end n from key) ⌝ }
     ensures on { λ r. ⌜ On (now (y .entry)) n r ⌝ }
 {
     let first = chains::find(w, x, end, STOP_WORDS, n, from, key);
@@ -54,7 +56,9 @@ pub fn next_call(
     requires { ⌜ Lent (now w) (now x) (now y) end n from ⌝ }
     requires { ⌜ On (now y) n (record { call = call; stop = stop; left = left }) ⌝ }
     requires { ⌜ (call ≡ 0 → ⊥) ⌝ }
-    ensures left { λ r. ⌜ leftAt (now (w .entry)) (now (x .entry)) (now (y .entry)) end n from key (record { call = call; stop = stop; left = left }) ≡ call ∷ leftAt (now (w .entry)) (now (x .entry)) (now (y .entry)) end n from key r ⌝ }
+    ensures left { λ r. ⌜ leftAt (now (w .entry)) (now (x .entry)) (now (y .entry)) end n from key
+        (record { call = call; stop = stop; left = left }) ≡
+        call ∷ leftAt (now (w .entry)) (now (x .entry)) (now (y .entry)) end n from key r ⌝ }
     ensures on { λ r. ⌜ On (now (y .entry)) n r ⌝ }
 {
     if left <= 1 {
@@ -90,7 +94,9 @@ fn from_stop(
 ) -> Cursor
     requires { ⌜ Lent (now w) (now x) (now y) end n from ⌝ }
     requires { ⌜ (first ≤ n) × (0 < left) ⌝ }
-    ensures left { λ r. ⌜ leftAt (now (w .entry)) (now (x .entry)) (now (y .entry)) end n from key r ≡ take left (gathered (callsOn n (now (y .entry))) (chained (nextBy (now (w .entry)) (now (x .entry)) end stopSize from key) n first)) ⌝ }
+    ensures left { λ r. ⌜ leftAt (now (w .entry)) (now (x .entry)) (now (y .entry)) end n from key r ≡ take left
+        (gathered (callsOn n (now (y .entry)))
+        (chained (nextBy (now (w .entry)) (now (x .entry)) end stopSize from key) n first)) ⌝ }
     ensures on { λ r. ⌜ On (now (y .entry)) n r ⌝ }
 {
     let mut s = first;

@@ -14,7 +14,8 @@ ghost use Rattle.stop_places.specs.Inner.Pointed.{pointedCalls};
 pub fn point_calls(bahnhof: &[u8], stops: &[u32], table: &mut [u32], at: usize, c: u32)
     requires { ⌜ StopMap (now bahnhof) (now stops) ⌝ }
     requires { ⌜ at + callSize * c ≤ length (now table) ⌝ }
-    ensures { λ _. ⌜ now (table .exit) ≡ write (now (table .entry)) at (pointedCalls (stopsIn (now (bahnhof .entry))) c (drop at (now (table .entry)))) ⌝ }
+    ensures { λ _. ⌜ now (table .exit) ≡ write (now (table .entry)) at
+        (pointedCalls (stopsIn (now (bahnhof .entry))) c (drop at (now (table .entry)))) ⌝ }
 {
     let mut k: u32 = 0;
     let mut to = at;

@@ -13,7 +13,7 @@ use Rattle.words.proofs.Laws.{write-write}
 use Rattle.timetable.specs.Layout.{headerSize}
 use Rattle.sections.specs.Inner.Sections.{soundSection}
 use Rattle.sections.specs.declared.Section.the-variants.{BitFields, Stops, Interchanges, Classes}
-use Rattle.section_words.specs.Inner.Words.{sectionWords}
+use Rattle.table_words.specs.Inner.SectionWords.{sectionWords}
 use Rattle.table_words.specs.declared.Header.{Header}
 use Rattle.table_words.specs.Inner.Words.{headerWords, sectionsWords, SectionsSound}
 

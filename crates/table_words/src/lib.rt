@@ -17,6 +17,8 @@ ghost use Rattle.reading.specs.Inner.Maps.{StopMap};
 ghost use Rattle.plan.specs.Inner.Services.{allSound};
 ghost use Rattle.table_words.specs.Inner.Words.{headerWords, sectionsWords, bodyWords, SectionsSound};
 
+pub mod section_words;
+
 // The table's header: the words used, the period, how many records each section has, and the place of the first service. "The last being the count of
 // categories".
 pub struct Header {
@@ -49,7 +51,8 @@ pub fn put_table(
     requires { ⌜ StopMap (now bahnhof) (now stops) ⌝ }
     requires { ⌜ (callsLent ≤ length (now calls)) × (rangesLent ≤ length (now ranges)) ⌝ }
     requires { ⌜ (headFirst (linesOf (now fplan)) ≡ none) × (allSound (blocks (linesOf (now fplan))) ≡ true) ⌝ }
-    requires { ⌜ headerSize + length (bodyWords (now bitfeld) (now bahnhof) (now umsteigb) (now zugart) (now fplan)) ≤ length (now t) ⌝ }
+    requires { ⌜ headerSize + length (bodyWords (now bitfeld) (now bahnhof) (now umsteigb) (now zugart) (now fplan)) ≤
+        length (now t) ⌝ }
     requires { ⌜ SectionsSound (now bitfeld) (now bahnhof) (now umsteigb) (now zugart) ⌝ }
     ensures { λ r. ⌜ now (t .exit) ≡ write (now (t .entry)) 0
         (headerWords h ++ bodyWords (now (bitfeld .entry)) (now (bahnhof .entry)) (now (umsteigb .entry)) (now (zugart .entry)) (now (fplan .entry))) ⌝ }

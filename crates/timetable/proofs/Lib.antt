@@ -3,6 +3,5 @@ pub mod Calls
 pub mod Offences
 pub mod Records
 pub mod Rows
-pub mod NameField
 pub mod Order
 pub mod Stages

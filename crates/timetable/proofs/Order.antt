@@ -7,7 +7,8 @@ use Prim.Native.Nat.{ℕ}
 use Rattle.lines.specs.Lines.{linesOf}
 use Rattle.names.specs.Names.{isNameList}
 use Rattle.timetable.specs.Delivery.{StopRecord, Files}
-use Rattle.timetable.specs.Files.{nameField, namedStopOffence, periodFirst, bitFieldsFirst, stopsFirst, interchangesFirst, classesFirst}
+use Rattle.timetable.specs.Files.{namedStopOffence, periodFirst, bitFieldsFirst, stopsFirst, interchangesFirst, classesFirst}
+use Rattle.names.specs.NameField.{nameField}
 use Rattle.timetable.specs.Offences.{offenceAt, _<|>_}
 use Rattle.timetable.specs.Load.{Where, delivered, lengthOffence, contentOffence, loaded}
 use Rattle.timetable.specs.declared.Offence.{Offence}

@@ -1,13 +1,13 @@
 -- Files 1 to 4 and 6, line by line: what a line holds, and its own offences "by the order 12, 11, 4, 13, 5, 7, 6, 8, 9, 10" (document 02, No. 3: 39
 -- directly after 4; No. 1: 37 after 6). Assumes nothing.
-use Prim.Native.Nat.{ℕ, zero, suc, _+_, _-_, _*_, _/_, _%_}
+use Prim.Native.Nat.{ℕ, zero, _+_, _-_, _*_, _/_, _%_}
 use mathlib.Core.List.{List, [], _∷_, _++_}
 use mathlib.Core.Bool.{Bool, true, false, cond, not, _&&_, _||_}
 use mathlib.Core.Option.{Option, none, some}
-use lib.ListN.{length, take}
+use lib.ListN.{length}
 use lib.Dec.{ltb, leb, eqb}
 use Rattle.base.specs.Lists.{some-of}
-use Rattle.columns.specs.Columns.{column, isBlank, blank, number}
+use Rattle.columns.specs.Columns.{column, isBlank, number}
 use Rattle.columns.specs.LineFields.{fieldIn, bitFieldNumber, stopNumber, stopNames, interchangeStop, interchangeFirst, interchangeSecond, classCode, classNumber, classTariff}
 use Rattle.lines.specs.Lines.{Line, linesOf, skipped}
 use Rattle.calendar.specs.Calendar.{dateIn, periodOf}
@@ -21,6 +21,7 @@ use Rattle.forms.specs.declared.Form.{Form}
 use Rattle.forms.specs.declared.Form.the-variants.{Fits, Broken}
 use Rattle.forms.specs.Columns.{dateColumns, bitFieldColumns, stopColumns, interchangeColumns, classColumns}
 use Rattle.names.specs.Names.{isNameList}
+use Rattle.names.specs.NameField.{nameLength, nameField}
 use Rattle.timetable.specs.Delivery.{Period, BitField, StopRecord, Interchange, CategoryClass}
 use Rattle.timetable.specs.Offences.{offenceAt, given, formOffence, _<|>_, first}
 use Rattle.timetable.specs.Plan.{threeBytes}
@@ -130,15 +131,6 @@ unfoldable pub bitFieldsFirst : ℕ → List Line → Option Offence
 bitFieldsFirst n ls = first (bitFieldLineOffence n) [] ls
 
 -- ---- 3 BAHNHOF
-
--- "name length without trailing blanks"
-unfoldable pub nameLength : List ℕ → ℕ
-nameLength [] = 0
-nameLength (b ∷ p) = cond (blank (b ∷ p)) 0 (suc (nameLength p))
-
--- the name field: columns 13-62 without trailing blanks
-abbrev pub nameField : List ℕ → List ℕ
-nameField text = take (nameLength (fieldIn stopNames text)) (fieldIn stopNames text)
 
 -- "number, byte offset of column 13 in BAHNHOF from 0, name length"
 abbrev pub stopOf : Line → Held StopRecord

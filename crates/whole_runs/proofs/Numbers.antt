@@ -30,7 +30,8 @@ use Rattle.timetable.specs.Delivery.{Files, BitField as BitFieldRecord, StopRec
 use Rattle.timetable.specs.declared.Offence.{Offence}
 use Rattle.timetable.specs.Offences.{offenceAt, given, formOffence, _<|>_, first}
 use Rattle.timetable.specs.Files.{skip, held-in, heldBy, heldOffence, noDate, noPeriod, dayNumber, dateLineOffence, periodLineOffence, periodFirst}
-use Rattle.timetable.specs.Files.{hasField, bitFieldOf, bitFieldOffence, bitFieldLineOffence, bitFieldsFirst, hasStop, nameField, stopOf, namedStopOffence, stopLineOffence, stopsFirst}
+use Rattle.timetable.specs.Files.{hasField, bitFieldOf, bitFieldOffence, bitFieldLineOffence, bitFieldsFirst, hasStop, stopOf, namedStopOffence, stopLineOffence, stopsFirst}
+use Rattle.names.specs.NameField.{nameField}
 use Rattle.timetable.specs.Files.{hasInterchange, interchangeOf, interchangeOffence, interchangeLineOffence, interchangesFirst}
 use Rattle.timetable.specs.Files.{hasClass, classOf, hasTariff, tariffOf, tariffOffence, classOffence, classLineOffence, classesFirst}
 use Rattle.timetable.specs.Table.{tableWords, tableOf, isTable}

@@ -24,12 +24,13 @@ use Rattle.names.specs.declared.Wanted.{Wanted}
 use Rattle.names.proofs.Inside.{answer-is-part}
 use Rattle.timetable.specs.Delivery.{StopRecord}
 use Rattle.timetable.specs.Offences.{first}
-use Rattle.timetable.specs.Files.{Held, skip, broken, held, listed, held-in, heldBy, heldOffence, stopOf, nameLength, nameField, namedStopOffence, stopLineOffence}
+use Rattle.timetable.specs.Files.{Held, skip, broken, held, listed, held-in, heldBy, heldOffence, stopOf, namedStopOffence, stopLineOffence}
+use Rattle.names.specs.NameField.{nameLength, nameField}
 use Rattle.timetable.specs.StopNames.{nameWithin}
 use Rattle.timetable.specs.declared.NameAnswer.the-variants.{Part}
 use Rattle.timetable.specs.declared.Offence.{Offence}
 use Rattle.timetable.proofs.Offences.{then-none, given-none, first-none}
-use Rattle.timetable.proofs.NameField.{name-inside, name-bytes}
+use Rattle.names.proofs.NameField.{name-inside, name-bytes}
 
 -- ---- a part of a part
 

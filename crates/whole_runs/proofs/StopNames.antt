@@ -20,7 +20,8 @@ use Rattle.names.specs.declared.Name.{Name}
 use Rattle.names.specs.declared.Wanted.{Wanted}
 use Rattle.names.proofs.Inside.{list-answers, answer-is-part}
 use Rattle.timetable.specs.Delivery.{Files, StopRecord}
-use Rattle.timetable.specs.Files.{held, hasStop, stopOf, nameLength, nameField, stopLineOffence, stopsFirst}
+use Rattle.timetable.specs.Files.{held, hasStop, stopOf, stopLineOffence, stopsFirst}
+use Rattle.names.specs.NameField.{nameLength, nameField}
 use Rattle.timetable.specs.Load.{delivered, loaded, written}
 use Rattle.timetable.specs.Table.{tableOf, isTable}
 use Rattle.timetable.specs.View.{stopNumbered}

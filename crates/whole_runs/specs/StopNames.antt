@@ -13,7 +13,8 @@ use Rattle.names.specs.Grammar.{IsName}
 use Rattle.names.specs.Names.{askable, wantedBy, nameFor}
 use Rattle.names.specs.declared.Name.{Name}
 use Rattle.timetable.specs.Delivery.{StopRecord}
-use Rattle.timetable.specs.Files.{held, hasStop, stopOf, nameLength, nameField}
+use Rattle.timetable.specs.Files.{held, hasStop, stopOf}
+use Rattle.names.specs.NameField.{nameLength, nameField}
 use Rattle.timetable.specs.declared.NameAnswer.{NameAnswer}
 use Rattle.timetable.specs.declared.NameAnswer.the-variants.{Part, Refused}
 

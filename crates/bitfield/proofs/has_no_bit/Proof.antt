@@ -1,7 +1,8 @@
 use mathlib.Core.Path.{_≡_}
 use Prim.Native.Nat.{_-_}
 use Rattle.base.specs.Lists.{every, upto}
-use Rattle.bitfield.specs.BitField.{bitWords, zeroAt, noBit}
+use Rattle.bitfield.specs.BitField.{bitWords}
+use Rattle.bitfield.specs.Inner.Bits.{zeroAt, noBit}
 use Rattle.bitfield.proofs.Frame.{frames}
 use Rattle.bitfield.proofs.has_no_bit.Statement.{statement}
 use Rattle.bitfield.proofs.has_no_bit.Tie as tie

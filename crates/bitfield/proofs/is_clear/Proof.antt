@@ -1,6 +1,7 @@
 use mathlib.Core.Path.{_≡_}
 use Prim.Native.Nat.{_-_}
-use Rattle.bitfield.specs.BitField.{bitCount, clearFrom}
+use Rattle.bitfield.specs.BitField.{bitCount}
+use Rattle.bitfield.specs.Inner.Bits.{clearFrom}
 use Rattle.bitfield.proofs.Frame.{clears}
 use Rattle.bitfield.proofs.is_clear.Statement.{statement}
 use Rattle.bitfield.proofs.is_clear.Tie as tie

@@ -14,7 +14,7 @@ use Rattle.timetable.specs.View.{View}
 use Rattle.timetable.specs.Run.{callsRefusal, courseOn}
 use Rattle.timetable.specs.declared.Call.{Call}
 use Rattle.cover.specs.Inner.Cover.{legsIn, inTurn}
-use Rattle.rows.specs.Inner.Rows.{callsFrom}
+use Rattle.course.specs.Inner.Rows.{callsFrom}
 use Rattle.course.specs.Inner.Course.{stretchesCourse}
 use Rattle.board.specs.Board.{Departure, leaves, placeDepartures}
 

@@ -10,7 +10,7 @@ use Rattle.timetable.specs.View.{View, aService}
 use Rattle.timetable.specs.Run.{Run, runBy}
 use Rattle.timetable.specs.Runs.{lateness}
 use Rattle.timetable.specs.declared.Call.{Call}
-use Rattle.rows.specs.Inner.Rows.{callShown, serviceShown}
+use Rattle.course.specs.Inner.Rows.{callShown, serviceShown}
 use Rattle.connections.specs.declared.Part.{Part}
 use Rattle.connections.specs.declared.Stage.{Stage}
 use Rattle.connections.specs.declared.Staged.{Staged}

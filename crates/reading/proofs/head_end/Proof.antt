@@ -51,17 +51,17 @@ use denote.Triple.Walked.{says, needs, Stays, stay-none-slice, walkOf, goes-none
 use denote.Exit.{yes as stays-so}
 use denote.Triple.Clauses.{ensured, lasts}
 use Rattle.lines.specs.declared.Cut.{Cut}
-use Rattle.reader.proofs.Lent.{Own, Cell, found, NextLine, lent, to, Left, lends, told, back}
-use Rattle.reader.specs.Inner.Past.{past}
-use Rattle.reader.specs.declared.Reader.{Reader}
-use Rattle.reader.proofs.Reader as T
-use Rattle.reader.proofs.Reader.Laws as T′
+use Rattle.lines.proofs.reader.Lent.{Own, Cell, found, NextLine, lent, to, Left, lends, told, back}
+use Rattle.lines.specs.Inner.Past.{past}
+use Rattle.lines.specs.declared.reader.Reader.{Reader}
+use Rattle.lines.proofs.reader.Reader as T
+use Rattle.lines.proofs.reader.Reader.Laws as T′
 use Rattle.lines.proofs.Cut as S
 use Rattle.lines.proofs.Cut.Laws as S′
-use Rattle.reader.proofs.Reader.next_line as next
-use Rattle.reader.proofs.Reader.next_line.Symbol as next-def
-use Rattle.reader.proofs.Reader.next_line.Symbol.{name as #reader·next-line}
-use Rattle.reader.proofs.Reader.next_line.Met as next-thm
+use Rattle.lines.proofs.reader.Reader.next_line as next
+use Rattle.lines.proofs.reader.Reader.next_line.Symbol as next-def
+use Rattle.lines.proofs.reader.Reader.next_line.Symbol.{name as #reader·next-line}
+use Rattle.lines.proofs.reader.Reader.next_line.Met as next-thm
 use denote.Enum.Laws as LE
 use Rattle.lines.proofs.Laws.{cutting, cut-less}
 use Rattle.forms.specs.Kinds.{kindOf}
@@ -361,7 +361,7 @@ head-end-spec 𝓤 H 𝓜 𝓖 𝓡 =
     entered 𝓤 H (tripleOf 𝓤 H (𝓖 .A) heads.signature (heads.spec 𝓤 H (𝓖 .A) (𝓜 .mem) (𝓡 .run)))
     (tables 𝓤 H 𝓜 𝓡 code.env .C) (tables 𝓤 H 𝓜 𝓡 code.env .Λ) #reading·head-end code.function (code.unfolded 𝓤 H 𝓜 𝓡)
     (meets 𝓤 H (𝓖 .A) (givenOf 𝓤 H 𝓜 𝓖) (𝓜 .mem) (𝓡 .run) (tablesOf 𝓤 H 𝓜 (tables 𝓤 H 𝓜 𝓡 code.env))
-    (cited 𝓤 H (NextLine 𝓤 H (𝓖 .A) (𝓜 .mem) (𝓡 .run)) 𝓜 𝓡 code.env #reader·next-line next-def.routine code.calls-reader·Reader·next-line (next-thm.met 𝓤 H 𝓜 𝓖 𝓡))
+    (cited 𝓤 H (NextLine 𝓤 H (𝓖 .A) (𝓜 .mem) (𝓡 .run)) 𝓜 𝓡 code.env #reader·next-line next-def.routine code.calls-lines·reader·Reader·next-line (next-thm.met 𝓤 H 𝓜 𝓖 𝓡))
     (cited 𝓤 H (EndsHead 𝓤 H (𝓖 .A) (𝓜 .mem) (𝓡 .run)) 𝓜 𝓡 code.env #reading·ends-head ends-def.routine code.calls-reading·ends-head (ends-thm.met 𝓤 H 𝓜 𝓖 𝓡))
     (cited 𝓤 H (HeadAt 𝓤 H (𝓖 .A) (𝓜 .mem) (𝓡 .run)) 𝓜 𝓡 code.env #reading·head-at here-def.routine code.calls-reading·head-at (here-thm.met 𝓤 H 𝓜 𝓖 𝓡))
     (cited 𝓤 H (ClearAt 𝓤 H (𝓖 .A) (𝓜 .mem) (𝓡 .run)) 𝓜 𝓡 code.env #reading·clear-at clear-def.routine code.calls-reading·clear-at (clear-thm.met 𝓤 H 𝓜 𝓖 𝓡)))

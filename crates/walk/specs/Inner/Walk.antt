@@ -8,7 +8,7 @@ use Rattle.timetable.specs.View.{View, aService}
 use Rattle.timetable.specs.Run.{runAlong, runBy, runOf}
 use Rattle.timetable.specs.Questions.{Journey, rowsAlong}
 use Rattle.timetable.specs.declared.Course.the-variants.{Along}
-use Rattle.rows.specs.Inner.Rows.{shownBy}
+use Rattle.course.specs.Inner.Rows.{shownBy}
 
 -- of the i-th service, on day k of the period
 unfoldable pub indexWalk : View → ℕ → ℕ → ℕ → Journey
