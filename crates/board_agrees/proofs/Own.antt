@@ -26,7 +26,7 @@ use Rattle.chains.specs.Chains.{greatest, hasKey, keyOf, nextBy}
 use Rattle.chains.proofs.Agrees.{first-agrees, next-agrees}
 use Rattle.index.specs.Index.{stopsFrom, fieldSection, stopSection, interchangeSection, classSection, sectionEnd, chainsOf, placesOf, indexOf, viewIn}
 use Rattle.index.proofs.Agrees.{view-agrees, length-of}
-use Rattle.calls.specs.Calls.{Stand, standAt, standsFrom, callsOf, allCalls, callOf, stopOf, atStop, lastAt, entryBy, entryOf, callIndexOf}
+use Rattle.calls.specs.Calls.{Stand, standAt, standsFrom, standsIn, allCalls, callOf, stopPlaceOf, atStop, lastAt, entryBy, entryOf, callIndexOf}
 use Rattle.calls.proofs.Calls.{call-number, each-inside, all-few}
 use Rattle.calls.proofs.Words.{index-long}
 use Rattle.calls_at.specs.Inner.Listed.{listedTo, listedAt}
@@ -92,44 +92,44 @@ module _ (w x y : List ℕ) (h : JustTable w) (ex : x ≡ indexOf w) (ey : y ≡
 
   -- ---- what all calls give, where a call gives nothing unless its stop has the number
 
-  module _ {Y : Type 0} (n : ℕ) (g : Stand → List Y) (off : (c : Stand) → Proper w c → stopOf w c < stops# w → hasKey w (sectionEnd (stopSection w)) stopSize n (stops# w - stopOf w c) ≡ false → g c ≡ []) where
-    met : (c : Stand) → Proper w c → stopOf w c < stops# w → gathered (λ (s : ℕ). cond (eqb (stopOf w c) (stops# w - s)) (g c) []) (passing (numbered n) (stops# w)) ≡ g c
+  module _ {Y : Type 0} (n : ℕ) (g : Stand → List Y) (off : (c : Stand) → Proper w c → stopPlaceOf w c < stops# w → hasKey w (sectionEnd (stopSection w)) stopSize n (stops# w - stopPlaceOf w c) ≡ false → g c ≡ []) where
+    met : (c : Stand) → Proper w c → stopPlaceOf w c < stops# w → gathered (λ (s : ℕ). cond (eqb (stopPlaceOf w c) (stops# w - s)) (g c) []) (passing (numbered n) (stops# w)) ≡ g c
     met c p l =
-        gathered-same (λ (e : ℕ). (0 < e) × (e ≤ stops# w) × (numbered n e ≡ true)) (λ (s : ℕ). cond (eqb (stopOf w c) (stops# w - s)) (g c) []) (λ (s : ℕ). cond (eqb (stops# w - stopOf w c) s) (g c) [])
+        gathered-same (λ (e : ℕ). (0 < e) × (e ≤ stops# w) × (numbered n e ≡ true)) (λ (s : ℕ). cond (eqb (stopPlaceOf w c) (stops# w - s)) (g c) []) (λ (s : ℕ). cond (eqb (stops# w - stopPlaceOf w c) s) (g c) [])
         (λ s q. ap (λ (u : Bool). cond u (g c) []) (turned s (q .0) (q .1))) (passing-each (numbered n) (stops# w) (stops# w) (omega arith))
-        ∙ pick (numbered n) (stops# w - stopOf w c) (g c) (stops# w) (omega arith)
-        ∙ rw (le-leb (stops# w - stopOf w c) (stops# w) (omega arith)) (told (numbered n (stops# w - stopOf w c)) refl)
+        ∙ pick (numbered n) (stops# w - stopPlaceOf w c) (g c) (stops# w) (omega arith)
+        ∙ rw (le-leb (stops# w - stopPlaceOf w c) (stops# w) (omega arith)) (told (numbered n (stops# w - stopPlaceOf w c)) refl)
       where
-        turned : (s : ℕ) → 0 < s → s ≤ stops# w → eqb (stopOf w c) (stops# w - s) ≡ eqb (stops# w - stopOf w c) s
+        turned : (s : ℕ) → 0 < s → s ≤ stops# w → eqb (stopPlaceOf w c) (stops# w - s) ≡ eqb (stops# w - stopPlaceOf w c) s
         turned s z q =
-            by-eqb (λ u. eqb (stopOf w c) (stops# w - s) ≡ u) (stops# w - stopOf w c) s
-            (λ e. eq-eqb (stopOf w c) (stops# w - s) (omega arith)) (λ e. ne-eqb (stopOf w c) (stops# w - s) (λ d. e (omega arith)))
+            by-eqb (λ u. eqb (stopPlaceOf w c) (stops# w - s) ≡ u) (stops# w - stopPlaceOf w c) s
+            (λ e. eq-eqb (stopPlaceOf w c) (stops# w - s) (omega arith)) (λ e. ne-eqb (stopPlaceOf w c) (stops# w - s) (λ d. e (omega arith)))
 
-        told : (b : Bool) → numbered n (stops# w - stopOf w c) ≡ b → cond b (g c) [] ≡ g c
+        told : (b : Bool) → numbered n (stops# w - stopPlaceOf w c) ≡ b → cond b (g c) [] ≡ g c
         told true e = refl
         told false e = sym (off c p l e)
 
-    each : All (λ (c : Stand). Proper w c × (stopOf w c < stops# w)) (callsOf w)
-    each = all-at (λ (c : Stand). Proper w c × (stopOf w c < stops# w)) (standAt 0 0 0) (callsOf w) (λ j l. (rw (call-number w j) at (call-proper w j l), each-inside w h j l .stop))
+    each : All (λ (c : Stand). Proper w c × (stopPlaceOf w c < stops# w)) (standsIn w)
+    each = all-at (λ (c : Stand). Proper w c × (stopPlaceOf w c < stops# w)) (standAt 0 0 0) (standsIn w) (λ j l. (rw (call-number w j) at (call-proper w j l), each-inside w h j l .stop))
 
-    pub all-calls : List·Permᴰ (gathered (λ (s : ℕ). gathered g (listedAt w (stops# w - s))) (passing (numbered n) (stops# w))) (gathered g (callsOf w))
+    pub all-calls : List·Permᴰ (gathered (λ (s : ℕ). gathered g (listedAt w (stops# w - s))) (passing (numbered n) (stops# w))) (gathered g (standsIn w))
     all-calls =
-        let a : List·Permᴰ (gathered (λ (s : ℕ). gathered g (listedAt w (stops# w - s))) (passing (numbered n) (stops# w))) (gathered (λ (s : ℕ). gathered (λ (c : Stand). cond (eqb (stopOf w c) (stops# w - s)) (g c) []) (callsOf w)) (passing (numbered n) (stops# w)))
-        = gathered-perm (λ (s : ℕ). gathered g (listedAt w (stops# w - s))) (λ (s : ℕ). gathered (λ (c : Stand). cond (eqb (stopOf w c) (stops# w - s)) (g c) []) (callsOf w)) (λ s. listed-all w (stops# w - s) g) (passing (numbered n) (stops# w)) in
-        let b : List·Permᴰ (gathered (λ (s : ℕ). gathered (λ (c : Stand). cond (eqb (stopOf w c) (stops# w - s)) (g c) []) (callsOf w)) (passing (numbered n) (stops# w))) (gathered (λ (c : Stand). gathered (λ (s : ℕ). cond (eqb (stopOf w c) (stops# w - s)) (g c) []) (passing (numbered n) (stops# w))) (callsOf w))
-        = gathered-swap (λ (s : ℕ) (c : Stand). cond (eqb (stopOf w c) (stops# w - s)) (g c) []) (callsOf w) (passing (numbered n) (stops# w)) in
-        let e : gathered (λ (c : Stand). gathered (λ (s : ℕ). cond (eqb (stopOf w c) (stops# w - s)) (g c) []) (passing (numbered n) (stops# w))) (callsOf w) ≡ gathered g (callsOf w)
-        = gathered-same (λ (c : Stand). Proper w c × (stopOf w c < stops# w)) (λ (c : Stand). gathered (λ (s : ℕ). cond (eqb (stopOf w c) (stops# w - s)) (g c) []) (passing (numbered n) (stops# w))) g (λ c p. met c (p .0) (p .1)) each in
+        let a : List·Permᴰ (gathered (λ (s : ℕ). gathered g (listedAt w (stops# w - s))) (passing (numbered n) (stops# w))) (gathered (λ (s : ℕ). gathered (λ (c : Stand). cond (eqb (stopPlaceOf w c) (stops# w - s)) (g c) []) (standsIn w)) (passing (numbered n) (stops# w)))
+        = gathered-perm (λ (s : ℕ). gathered g (listedAt w (stops# w - s))) (λ (s : ℕ). gathered (λ (c : Stand). cond (eqb (stopPlaceOf w c) (stops# w - s)) (g c) []) (standsIn w)) (λ s. listed-all w (stops# w - s) g) (passing (numbered n) (stops# w)) in
+        let b : List·Permᴰ (gathered (λ (s : ℕ). gathered (λ (c : Stand). cond (eqb (stopPlaceOf w c) (stops# w - s)) (g c) []) (standsIn w)) (passing (numbered n) (stops# w))) (gathered (λ (c : Stand). gathered (λ (s : ℕ). cond (eqb (stopPlaceOf w c) (stops# w - s)) (g c) []) (passing (numbered n) (stops# w))) (standsIn w))
+        = gathered-swap (λ (s : ℕ) (c : Stand). cond (eqb (stopPlaceOf w c) (stops# w - s)) (g c) []) (standsIn w) (passing (numbered n) (stops# w)) in
+        let e : gathered (λ (c : Stand). gathered (λ (s : ℕ). cond (eqb (stopPlaceOf w c) (stops# w - s)) (g c) []) (passing (numbered n) (stops# w))) (standsIn w) ≡ gathered g (standsIn w)
+        = gathered-same (λ (c : Stand). Proper w c × (stopPlaceOf w c < stops# w)) (λ (c : Stand). gathered (λ (s : ℕ). cond (eqb (stopPlaceOf w c) (stops# w - s)) (g c) []) (passing (numbered n) (stops# w))) g (λ c p. met c (p .0) (p .1)) each in
         List·Permᴰ·trans a (rw e at b)
 
   -- ---- no more calls than the table has words
 
   module _ (n : ℕ) where
     abbrev counted : Stand → List Stand
-    counted c = cond (hasKey w (sectionEnd (stopSection w)) stopSize n (stops# w - stopOf w c)) (c ∷ []) []
+    counted c = cond (hasKey w (sectionEnd (stopSection w)) stopSize n (stops# w - stopPlaceOf w c)) (c ∷ []) []
 
     counted-one : (c : Stand) → length (counted c) ≤ 1
-    counted-one c = go (hasKey w (sectionEnd (stopSection w)) stopSize n (stops# w - stopOf w c))
+    counted-one c = go (hasKey w (sectionEnd (stopSection w)) stopSize n (stops# w - stopPlaceOf w c))
       where
         go : (b : Bool) → length (cond b (c ∷ []) []) ≤ 1
         go true = omega arith
@@ -143,7 +143,7 @@ module _ (w x y : List ℕ) (h : JustTable w) (ex : x ≡ indexOf w) (ey : y ≡
         go : (t : Bool) → atStop w b (suc k) ≡ t → length (passing (atStop w b) k) ≡ length (gathered counted (listedTo w b k))
             → length (cond t (suc k ∷ passing (atStop w b) k) (passing (atStop w b) k)) ≡ length (gathered counted (cond t (callOf w (suc k) ∷ listedTo w b k) (listedTo w b k)))
         go true e i =
-            let z : hasKey w (sectionEnd (stopSection w)) stopSize n (stops# w - stopOf w (callOf w (suc k))) ≡ true = ap (λ (s : ℕ). hasKey w (sectionEnd (stopSection w)) stopSize n (stops# w - s)) (at-is w b (suc k) e) ∙ q in
+            let z : hasKey w (sectionEnd (stopSection w)) stopSize n (stops# w - stopPlaceOf w (callOf w (suc k))) ≡ true = ap (λ (s : ℕ). hasKey w (sectionEnd (stopSection w)) stopSize n (stops# w - s)) (at-is w b (suc k) e) ∙ q in
             rw z (ap suc i)
         go false e i = i
 
@@ -163,8 +163,8 @@ module _ (w x y : List ℕ) (h : JustTable w) (ex : x ≡ indexOf w) (ey : y ≡
         let a : length (callsBy w x y (sectionEnd (stopSection w)) (stops# w) (stopsFrom w) n) ≡ length (gathered (λ (s : ℕ). gathered counted (listedAt w (stops# w - s))) (passing (numbered n) (stops# w)))
         = ap length calls-same ∙ lengths (λ (e : ℕ). (0 < e) × (e ≤ stops# w) × (numbered n e ≡ true)) (λ (s : ℕ). passing (atStop w (stops# w - s)) (allCalls w)) (λ (s : ℕ). gathered counted (listedAt w (stops# w - s)))
         (λ s q. as-many (stops# w - s) (allCalls w) (let z : stops# w - (stops# w - s) ≡ s = omega (arith, q .1) in ap (numbered n) z ∙ q .2)) (passing-each (numbered n) (stops# w) (stops# w) (omega arith)) in
-        let b : length (gathered (λ (s : ℕ). gathered counted (listedAt w (stops# w - s))) (passing (numbered n) (stops# w))) ≡ length (gathered counted (callsOf w)) = perm-length (all-calls n counted (λ c p l e. rw e)) in
-        omega (arith, a, b, gathered-few counted 1 counted-one (callsOf w), all-few w h, h .ends)
+        let b : length (gathered (λ (s : ℕ). gathered counted (listedAt w (stops# w - s))) (passing (numbered n) (stops# w))) ≡ length (gathered counted (standsIn w)) = perm-length (all-calls n counted (λ c p l e. rw e)) in
+        omega (arith, a, b, gathered-few counted 1 counted-one (standsIn w), all-few w h, h .ends)
 
   -- ---- a service, and a call of it
 
@@ -193,16 +193,16 @@ module _ (w x y : List ℕ) (h : JustTable w) (ex : x ≡ indexOf w) (ey : y ≡
         let p : stopsPlace w + stopSize * b ≡ sectionEnd (stopSection w) - stopSize * (stops# w - b) = omega arith in
         sym (ap (λ (z : View). z .shown b) (view-agrees w x h ex)) ∙ rw (lt-ltb b (stops# w) l) (ap (λ (j : ℕ). getD w j 0) p)
 
-    off-given : (c : Stand) → Proper w c → stopOf w c < stops# w → hasKey w (sectionEnd (stopSection w)) stopSize n (stops# w - stopOf w c) ≡ false → departuresAt (viewOf (tableOf w)) n k t u (c .service) (c .place) ≡ []
+    off-given : (c : Stand) → Proper w c → stopPlaceOf w c < stops# w → hasKey w (sectionEnd (stopSection w)) stopSize n (stops# w - stopPlaceOf w c) ≡ false → departuresAt (viewOf (tableOf w)) n k t u (c .service) (c .place) ≡ []
     unfolding departuresAt hasKey
     off-given c p l e =
         let inside : c .place < calls# (drop (servicePlace w (c .service)) w) = omega (arith, p .place, p .at, ap (λ (a : ℕ). getD w (a + 6) 0) (p .at), getD-drop (servicePlace w (c .service)) w 6 0) in
         let call = call-there (stopNumberAt (tableOf w .stops)) (drop (servicePlace w (c .service)) w) (c .place) inside in
-        let raw : getD (drop (serviceHead + callSize * c .place) (drop (servicePlace w (c .service)) w)) 0 0 ≡ stopOf w c
+        let raw : getD (drop (serviceHead + callSize * c .place) (drop (servicePlace w (c .service)) w)) 0 0 ≡ stopPlaceOf w c
         = ap (λ (r : List ℕ). getD r 0 0) (drop-drop (serviceHead + callSize * c .place) (servicePlace w (c .service)) w) ∙ first-word w (servicePlace w (c .service) + (serviceHead + callSize * c .place))
         ∙ (let q : servicePlace w (c .service) + (serviceHead + callSize * c .place) ≡ c .at + serviceHead + callSize * c .place = omega (arith, p .at) in ap (λ (j : ℕ). getD w j 0) q) in
         let wrong : eqb (stopNumberAt (tableOf w .stops) (getD (drop (serviceHead + callSize * c .place) (drop (servicePlace w (c .service)) w)) 0 0)) n ≡ false
-        = ap (λ (b : ℕ). eqb (stopNumberAt (tableOf w .stops) b) n) raw ∙ ap (λ (m : ℕ). eqb m n) (number-is (stopOf w c) l) ∙ e in
+        = ap (λ (b : ℕ). eqb (stopNumberAt (tableOf w .stops) b) n) raw ∙ ap (λ (m : ℕ). eqb m n) (number-is (stopPlaceOf w c) l) ∙ e in
         ap (foundAt (viewOf (tableOf w)) n k t u (c .service) (c .place)) (service-own (c .service) (p .service))
         ∙ ap (λ (o : Option Call). cond (leaves (courseOn (viewOf (tableOf w)) (own (c .service) (p .service)) k) (c .place)) (callDepartures n t u (c .service) (own (c .service) (p .service) .opening) (c .place) o) []) call
         ∙ rw wrong (either (leaves (courseOn (viewOf (tableOf w)) (own (c .service) (p .service)) k) (c .place)))
@@ -231,7 +231,7 @@ module _ (w x y : List ℕ) (h : JustTable w) (ex : x ≡ indexOf w) (ey : y ≡
     service-given j l = rw (service-own j l, calls-own j l)
 
     -- service by service
-    services-given : gathered given (callsOf w) ≡ gathered (serviceDepartures (viewOf (tableOf w)) n k t u) (below (services# w))
+    services-given : gathered given (standsIn w) ≡ gathered (serviceDepartures (viewOf (tableOf w)) n k t u) (below (services# w))
     unfolding standsFrom
     services-given =
         ap (gathered given) (calls-by-service w)

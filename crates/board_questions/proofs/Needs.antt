@@ -24,7 +24,8 @@ use Rattle.lookups.specs.Lookups.{periodDay}
 use Rattle.lookups.specs.declared.PeriodDay.{PeriodDay}
 use Rattle.lookups.specs.declared.PeriodDay.the-variants.{On, Refused as DayRefused}
 use Rattle.lookups.proofs.Dates.{is-undated, is-dated}
-use Rattle.index.specs.Index.{indexSize, indexOf, headed, Ready, viewIn}
+use Rattle.index.specs.Index.{indexSize, indexOf, headed, viewIn}
+use Rattle.index.specs.Inner.Ready.{Ready}
 use Rattle.index.specs.Quick.{indexLong, lookupsOf, quickRefusal}
 use Rattle.index.proofs.Agrees.{view-plain}
 use Rattle.index.proofs.Shows.{day-low}

@@ -21,7 +21,8 @@ use Rattle.timetable.specs.declared.Course.the-variants.{Along, NotRunning, Ref
 use Rattle.table.proofs.Says.{sizes-say, head-word, header-word, record-says, record-sized}
 use Rattle.cover.specs.Inner.Cover.{legsIn, inTurn}
 use Rattle.index.specs.declared.ServiceRecord.the-variants.{From, Refused as RecordRefused}
-use Rattle.index.specs.Index.{Ready, viewIn, recordPlaceIn, recordFrom, recordIn, serviceFrom}
+use Rattle.index.specs.Index.{viewIn, recordPlaceIn, recordFrom, recordIn, serviceFrom}
+use Rattle.index.specs.Inner.Ready.{Ready}
 use Rattle.course.specs.declared.legs.DayLegs.{DayLegs}
 use Rattle.course.specs.Inner.Run.{noted}
 use Rattle.course.specs.Inner.Turn.{noLegs, rangesSay}

@@ -10,7 +10,8 @@ use Rattle.timetable.specs.Layout.{serviceHead, callSize, latestTime}
 use Rattle.timetable.specs.Runs.{openingSound}
 use Rattle.timetable.specs.Table.{callAt, openingAt}
 use Rattle.timetable.specs.View.{View, ServiceFound, noService, aService}
-use Rattle.index.specs.Index.{servicesFrom, indexSize, Ready, viewIn}
+use Rattle.index.specs.Index.{servicesFrom, indexSize, viewIn}
+use Rattle.index.specs.Inner.Ready.{Ready}
 use Rattle.spans.specs.Spans.{runs#}
 use Rattle.board.specs.Board.{Departure, departureOf, runsFrom, placeDepartures}
 use Rattle.board_runs.specs.declared.Batch.{Batch}

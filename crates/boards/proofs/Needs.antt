@@ -24,7 +24,8 @@ use Rattle.table.specs.JustTable.{headerSound}
 use Rattle.table.proofs.Says.{header-says, header-word}
 use Rattle.words.specs.Words.{write}
 use Rattle.words.proofs.Laws.{write-none, write-turn, write-front, length-write}
-use Rattle.index.specs.Index.{servicesFrom, stopsFrom, stopSection, sectionEnd, Ready, viewIn}
+use Rattle.index.specs.Index.{servicesFrom, stopsFrom, stopSection, sectionEnd, viewIn}
+use Rattle.index.specs.Inner.Ready.{Ready}
 use Rattle.index.proofs.Sections.{sections-fit}
 use Rattle.sort.specs.Rows.{boardRowWords, sortedRows, inOrder}
 use Rattle.sort.proofs.Sorted.{length-sorted}

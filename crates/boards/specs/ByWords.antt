@@ -9,7 +9,8 @@ use lib.Dec.{eqb}
 use Rattle.base.specs.Lists.{gathered}
 use Rattle.timetable.specs.Table.{usedWords, stops#}
 use Rattle.timetable.specs.View.{View}
-use Rattle.index.specs.Index.{stopsFrom, stopSection, sectionEnd, indexSize, Ready, viewIn}
+use Rattle.index.specs.Index.{stopsFrom, stopSection, sectionEnd, indexSize, viewIn}
+use Rattle.index.specs.Inner.Ready.{Ready}
 use Rattle.words.specs.Words.{write}
 use Rattle.sort.specs.Rows.{boardRowSize, boardRowWords, sortedRows}
 use Rattle.board.specs.Board.{Departure}

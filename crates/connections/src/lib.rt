@@ -14,7 +14,8 @@ ghost use Rattle.timetable.specs.Layout.{mostPeriodDays, latestTime, mostDelay}
 ghost use Rattle.timetable.specs.Table.{stops#, calls#, openingAt, serviceAt, sizesSound, recordSound};
 ghost use Rattle.timetable.specs.Run.{categoryOn, aRun, runOf};
 ghost use Rattle.timetable.specs.Runs.{hasRun};
-ghost use Rattle.index.specs.Index.{Ready, viewIn};
+ghost use Rattle.index.specs.Index.{viewIn};
+ghost use Rattle.index.specs.Inner.Ready.{Ready};
 ghost use Rattle.connections.specs.Inner.Stages.{runIn, callIn, stageIn, stageRidden, stageCalls, changeNumber};
 ghost use Rattle.connections.specs.Connection.{partSize, partAt, partsOf, wholeParts, moment, stageBy, stageOf};
 ghost use Rattle.connections.specs.Connection.{changeTo, changedTo, partsAfter, partsHold, connectionIn};

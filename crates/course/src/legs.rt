@@ -13,7 +13,8 @@ ghost use Rattle.timetable.specs.Layout.{daySize, mostPeriodDays};
 ghost use Rattle.timetable.specs.Table.{rowsIn, dayAt, dayPlace, serviceAt, sizesSound};
 ghost use Rattle.timetable.specs.Legs.{operatedBy};
 ghost use Rattle.timetable.specs.Run.{legRefusal, firstRefusal};
-ghost use Rattle.index.specs.Index.{Ready, viewIn};
+ghost use Rattle.index.specs.Index.{viewIn};
+ghost use Rattle.index.specs.Inner.Ready.{Ready};
 ghost use Rattle.course.specs.Inner.Run.{noted, rangeKnown, rangeRuns, gap};
 ghost use Rattle.course.specs.Inner.Turn.{noLegs, unknownLegs, withOperated, withIdle, withRange, rangesSay};
 

@@ -21,7 +21,8 @@ ghost use Rattle.timetable.specs.Table.{stops#, calls#, callAt, categoryPlace, 
 ghost use Rattle.timetable.specs.Run.{neededLast, callRefusal, callsRefusal, categoryOn};
 ghost use Rattle.timetable.specs.Questions.{rowFlags, rowsOf};
 ghost use Rattle.words.specs.Words.{write};
-ghost use Rattle.index.specs.Index.{Ready, viewIn};
+ghost use Rattle.index.specs.Index.{viewIn};
+ghost use Rattle.index.specs.Inner.Ready.{Ready};
 ghost use Rattle.course.specs.Inner.Run.{noted};
 ghost use Rattle.course.specs.Inner.Rows.{timesFine, timeFine, timesStand, laterStand, rowFor, walkRowWords};
 ghost use Rattle.course.specs.Inner.Rows.{callsFrom, callShown, callsShown, serviceShown};

@@ -19,7 +19,8 @@ use Rattle.timetable.specs.Questions.{asked}
 use Rattle.table.specs.JustTable.{JustTable, headerSound}
 use Rattle.table.proofs.Says.{header-says, header-word, table-parts, table-says}
 use Rattle.table.proofs.JustTable.{head-alone, used-just, used-same, just-header}
-use Rattle.index.specs.Index.{servicesFrom, indexSize, fieldSection, stopSection, interchangeSection, classSection, placesFrom, placesOf, chainsOf, indexOf, headed, Ready, viewIn}
+use Rattle.index.specs.Index.{servicesFrom, indexSize, fieldSection, stopSection, interchangeSection, classSection, placesFrom, placesOf, chainsOf, indexOf, headed, viewIn}
+use Rattle.index.specs.Inner.Ready.{Ready}
 use Rattle.index.specs.Quick.{indexLong, lookupsOf, quickly, quickRefusal}
 use Rattle.index.proofs.Sections.{sections-fit}
 use Rattle.index.proofs.Agrees.{length-of, view-agrees, view-plain}

@@ -15,7 +15,8 @@ use Rattle.timetable.specs.View.{noService, aService}
 use Rattle.table.proofs.Says.{record-says, header-word}
 use Rattle.table.proofs.Records.{rest-from}
 use Rattle.lookups.specs.Lookups.{recordPlace, servicePlace}
-use Rattle.index.specs.Index.{servicesFrom, Ready, recordPlaceIn, recordFrom, recordIn, serviceFrom, viewIn}
+use Rattle.index.specs.Index.{servicesFrom, recordPlaceIn, recordFrom, recordIn, serviceFrom, viewIn}
+use Rattle.index.specs.Inner.Ready.{Ready}
 use Rattle.index.specs.declared.ServiceRecord.{ServiceRecord}
 use Rattle.index.specs.declared.ServiceRecord.the-variants.{From, Refused}
 use Rattle.index.proofs.Sections.{sections-fit}

@@ -9,7 +9,8 @@ use borrow.Author.Tests.{not-true, not-false}
 use Rattle.base.proofs.Laws.{tests}
 use Rattle.chains.specs.Chains.{chainWords}
 use Rattle.chain_check.specs.Tally.{same}
-use Rattle.index.specs.Index.{indexSize, fieldSection, stopSection, interchangeSection, classSection, chainsOf, Fits}
+use Rattle.index.specs.Index.{indexSize, fieldSection, stopSection, interchangeSection, classSection, chainsOf}
+use Rattle.index.specs.Inner.Ready.{Fits}
 use Rattle.index.specs.declared.Section.{Section}
 use Rattle.index.proofs.Places.{end-scaled, end-fits, records-fit}
 use Rattle.index_check.specs.Inner.Parts.{chainsRight}

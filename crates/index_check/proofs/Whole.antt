@@ -20,7 +20,8 @@ use Rattle.index.proofs.Agrees.{length-of}
 use Rattle.indexing.proofs.Chains.{just-fields, just-stops, just-interchanges, just-classes}
 use Rattle.calls.specs.Calls.{callIndexOf}
 use Rattle.whole_index.specs.Whole.{wholeIndexOf}
-use Rattle.whole_index.proofs.Whole.{lookups-long, whole-long}
+use Rattle.index.proofs.Long.{lookups-long}
+use Rattle.whole_index.proofs.Whole.{whole-long}
 use Rattle.whole_index.proofs.Answers.{is-table, is-just}
 use Rattle.index_check.specs.Check.{checkedOf}
 use Rattle.index_check.specs.Inner.Parts.{chainsRight}

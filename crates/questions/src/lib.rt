@@ -12,7 +12,8 @@ ghost use lib.Dec.{leb};
 ghost use Rattle.timetable.specs.Layout.{mostClass, mostPeriodDays};
 ghost use Rattle.timetable.specs.Questions.{dated, dayBy, dayIn, dayAsked, firstTimeClass, minutesFor, interchangeIn};
 ghost use Rattle.timetable.specs.Questions.{interchangeAsked, betweenIn, betweenAsked};
-ghost use Rattle.index.specs.Index.{Ready, viewIn};
+ghost use Rattle.index.specs.Index.{viewIn};
+ghost use Rattle.index.specs.Inner.Ready.{Ready};
 
 pub mod stop_names;
 

@@ -7,7 +7,8 @@ use names::Wanted;
 use timetable::NameAnswer;
 ghost use mathlib.Core.Path.{_≡_};
 ghost use Rattle.timetable.specs.StopNames.{nameWithin, stopName, stopNameIn, stopNameAsked};
-ghost use Rattle.index.specs.Index.{Ready, viewIn};
+ghost use Rattle.index.specs.Index.{viewIn};
+ghost use Rattle.index.specs.Inner.Ready.{Ready};
 
 // The part of BAHNHOF that holds the name: 21, 40 language or type outside the standard's list, 27 stop unknown, 41, 39.
 pub fn name(w: &[u32], bahnhof: &[u8], stop: u32, language: u32, kind: u32) -> NameAnswer

@@ -10,7 +10,6 @@ ghost use mathlib.Core.Bool.{_&&_, _||_};
 ghost use Prim.Native.Nat.{_*_, _≤_, _<_};
 ghost use lib.ListN.{length};
 ghost use Rattle.timetable.specs.Offences.{verdictBy};
-ghost use Rattle.timetable.specs.Ranges.{hasArrival, hasDeparture};
 ghost use Rattle.timetable.specs.Service.{legsOn};
 ghost use Rattle.timetable.specs.Checks.{timesStated, notBelow, later as laterOf, timesRise, lastStated, timesFirst};
 ghost use Rattle.timetable.specs.Checks.{isNone, endsFirst};
@@ -52,8 +51,8 @@ fn times_stated(c: u32, i: u32, call: Call) -> bool
     requires { ⌜ i < c ⌝ }
     ensures { λ r. ⌜ r ≡ timesStated c i call ⌝ }
 {
-    let arrival = stated_or(i == 0, arrives(call));
-    let departure = stated_or(i + 1 == c, departs(call));
+    let arrival = stated_or(i == 0, timetable::has_arrival(call));
+    let departure = stated_or(i + 1 == c, timetable::has_departure(call));
     arrival && departure
 }
 
@@ -70,10 +69,10 @@ fn stated_or(free: bool, stated: bool) -> bool
 fn times_rise(before: u32, call: Call) -> bool
     ensures { λ r. ⌜ r ≡ timesRise before call ⌝ }
 {
-    let arrival = arrives(call);
+    let arrival = timetable::has_arrival(call);
     let first = not_below(arrival, call.arrival, before);
     let then = not_below(
-        departs(call),
+        timetable::has_departure(call),
         call.departure,
         later(arrival, call.arrival, before),
     );
@@ -84,23 +83,10 @@ fn last_stated(before: u32, call: Call) -> u32
     ensures { λ r. ⌜ r ≡ lastStated before call ⌝ }
 {
     later(
-        departs(call),
+        timetable::has_departure(call),
         call.departure,
-        later(arrives(call), call.arrival, before),
+        later(timetable::has_arrival(call), call.arrival, before),
     )
-}
-
-// Whether the arrival is stated.
-fn arrives(call: Call) -> bool
-    ensures { λ r. ⌜ r ≡ hasArrival call ⌝ }
-{
-    call.flags % 2 == 1
-}
-
-fn departs(call: Call) -> bool
-    ensures { λ r. ⌜ r ≡ hasDeparture call ⌝ }
-{
-    call.flags / 2 % 2 == 1
 }
 
 fn not_below(stated: bool, time: u32, before: u32) -> bool

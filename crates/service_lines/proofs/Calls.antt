@@ -16,7 +16,8 @@ use Rattle.timetable.proofs.Rows.{rows-left, rows-again, rows-out, rows-done}
 use Rattle.table.specs.JustTable.{JustTable}
 use Rattle.timetable.specs.View.{View}
 use Rattle.table.proofs.JustTable.{just-header}
-use Rattle.index.specs.Index.{Ready, viewIn}
+use Rattle.index.specs.Index.{viewIn}
+use Rattle.index.specs.Inner.Ready.{Ready}
 use Rattle.index.proofs.Agrees.{view-plain}
 use Rattle.table.proofs.Says.{head-word, record-says, record-sized, call-says}
 use Rattle.writable.specs.Writable.{callWritable}

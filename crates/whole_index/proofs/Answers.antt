@@ -21,7 +21,8 @@ use Rattle.calls.proofs.Words.{index-long}
 use Rattle.whole_index.specs.Whole.{wholeIndexSize, wholeIndexOf, madeOf, indexInto}
 use Rattle.whole_index.specs.declared.Made.{Made}
 use Rattle.whole_index.specs.declared.Made.the-variants.{Index, Refused}
-use Rattle.whole_index.proofs.Whole.{lookups-long, whole-long, whole-within}
+use Rattle.index.proofs.Long.{lookups-long}
+use Rattle.whole_index.proofs.Whole.{whole-long, whole-within}
 
 after-is : (w u m : List ℕ) (a b : ℕ) → b - a ≡ callIndexSize w → m ≡ callIndexOf w → take a u ++ (m ++ drop (b - a) (drop a u)) ≡ write u a (callIndexOf w)
 unfolding write

@@ -1,4 +1,3 @@
 pub mod Whole
 pub mod Answers
-pub mod Stale
 pub mod Examples

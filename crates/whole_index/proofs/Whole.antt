@@ -1,46 +1,18 @@
 -- The index as a whole: its length, that it is not longer than its table, and its two parts. Assumes nothing.
-use mathlib.Core.Path.{_≡_, refl, ap, _∙_}
-use mathlib.Core.List.{List, _++_}
-use Prim.Native.Nat.{ℕ, zero, suc, _+_, _≤_}
+use mathlib.Core.Path.{_≡_, ap, _∙_}
+use mathlib.Core.List.{List}
+use Prim.Native.Nat.{ℕ, _≤_}
 use native.Mathlib.Omega.{arith}
 use lib.ListN.{length, take, drop, length-append}
 use lib.Seq.{take-at, drop-at}
-use Rattle.timetable.specs.Table.{word, services#, servicesPlace}
 use Rattle.table.specs.JustTable.{JustTable}
 use Rattle.table.proofs.JustTable.{just-says}
-use Rattle.index.specs.Index.{fieldSection, stopSection, interchangeSection, classSection, placesFrom, placesOf, chainsOf, indexSize, indexOf}
-use Rattle.index.proofs.Agrees.{length-of}
+use Rattle.index.specs.Index.{indexSize, indexOf}
+use Rattle.index.proofs.Long.{lookups-long}
 use Rattle.calls.specs.Calls.{callIndexSize, callIndexOf}
 use Rattle.calls.proofs.Calls.{all-few}
 use Rattle.calls.proofs.Words.{index-long}
 use Rattle.whole_index.specs.Whole.{wholeIndexSize, wholeIndexOf}
-
--- belongs in index
-places-long : (w : List ℕ) (n p : ℕ) → length (placesFrom w p n) ≡ n
-unfolding placesFrom
-places-long w zero p = refl
-places-long w (suc n) p = ap suc (places-long w n (p + word w p))
-
--- belongs in index
-pub lookups-long : (w : List ℕ) → length (indexOf w) ≡ indexSize w
-unfolding indexOf
-lookups-long w =
-    let a : List ℕ = chainsOf w (fieldSection w) in
-    let b : List ℕ = chainsOf w (stopSection w) in
-    let c : List ℕ = chainsOf w (interchangeSection w) in
-    let d : List ℕ = chainsOf w (classSection w) in
-    omega (
-      arith,
-      length-append a (b ++ (c ++ (d ++ placesOf w))),
-      length-append b (c ++ (d ++ placesOf w)),
-      length-append c (d ++ placesOf w),
-      length-append d (placesOf w),
-      length-of w (fieldSection w),
-      length-of w (stopSection w),
-      length-of w (interchangeSection w),
-      length-of w (classSection w),
-      places-long w (services# w) (servicesPlace w),
-    )
 
 pub whole-long : (w : List ℕ) → length (wholeIndexOf w) ≡ wholeIndexSize w
 unfolding wholeIndexOf

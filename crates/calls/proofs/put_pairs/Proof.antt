@@ -1,4 +1,4 @@
-use Rattle.calls.specs.Calls.{Held}
+use Rattle.calls.specs.Inner.Passed.{Held}
 use lib.ListN.{length}
 use Prim.Native.Nat.{_+_, _-_, _%_, _≤_}
 use mathlib.Core.Path.{_≡_}

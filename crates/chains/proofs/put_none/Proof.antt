@@ -1,7 +1,7 @@
 use mathlib.Core.Path.{_≡_}
 use Prim.Native.Nat.{_-_}
 use lib.ListN.{length}
-use Rattle.chains.specs.Chains.{Headless}
+use Rattle.chains.specs.Inner.Filling.{Headless}
 use Rattle.chains.proofs.Fills.{heads}
 use Rattle.chains.proofs.put_none.Statement.{statement}
 use Rattle.chains.proofs.put_none.Tie as tie

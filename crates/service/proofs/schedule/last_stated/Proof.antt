@@ -2,11 +2,11 @@ use Rattle.base.proofs.Laws.{tests}
 use Rattle.service.proofs.schedule.last_stated.Statement.{statement}
 use Rattle.service.proofs.schedule.last_stated.Tie as tie
 
-departs-requires : tie.Need-departs-requires
-departs-requires c κs = search tests
+has-departure-requires : tie.Need-has-departure-requires
+has-departure-requires c κs = search tests
 
-arrives-requires : tie.Need-arrives-requires
-arrives-requires c κs = search tests
+has-arrival-requires : tie.Need-has-arrival-requires
+has-arrival-requires c κs = search tests
 
 later-requires : tie.Need-later-requires
 later-requires c κs = search tests
@@ -19,4 +19,4 @@ returns c = cc
 
 pub last-stated-spec : {M : Type 1} → statement M
 last-stated-spec =
-    tie.close (tie.spec departs-requires arrives-requires later-requires later-requires-2 returns)
+    tie.close (tie.spec has-departure-requires has-arrival-requires later-requires later-requires-2 returns)

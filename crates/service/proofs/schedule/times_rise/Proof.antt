@@ -2,14 +2,14 @@ use Rattle.service.proofs.schedule.Times.{fitting}
 use Rattle.service.proofs.schedule.times_rise.Statement.{statement}
 use Rattle.service.proofs.schedule.times_rise.Tie as tie
 
-arrives-requires : tie.Need-arrives-requires
-arrives-requires c κs = search fitting
+has-arrival-requires : tie.Need-has-arrival-requires
+has-arrival-requires c κs = search fitting
 
 not-below-requires : tie.Need-not-below-requires
 not-below-requires c κs = search fitting
 
-departs-requires : tie.Need-departs-requires
-departs-requires c κs = search fitting
+has-departure-requires : tie.Need-has-departure-requires
+has-departure-requires c κs = search fitting
 
 later-requires : tie.Need-later-requires
 later-requires c κs = search fitting
@@ -27,9 +27,9 @@ pub times-rise-spec : {M : Type 1} → statement M
 times-rise-spec =
     tie.close
     (tie.spec
-    arrives-requires
+    has-arrival-requires
     not-below-requires
-    departs-requires
+    has-departure-requires
     later-requires
     not-below-requires-2
     returns

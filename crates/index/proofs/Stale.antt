@@ -18,9 +18,9 @@ use Rattle.lookups.specs.declared.RecordFound.{RecordFound}
 use Rattle.lookups.specs.declared.RecordFound.the-variants.{At, Nothing}
 use Rattle.chains.specs.Chains.{keyOf, firstBy}
 use Rattle.chains.proofs.Follow.{first-le, first-key}
 use Rattle.index.specs.Index.{sectionEnd, placeBy, placeIn}
 use Rattle.index.specs.declared.Section.{Section}
-use Rattle.whole_index.specs.Stale.{Numbered, Once}
+use Rattle.index.specs.Stale.{Numbered, Once}
 
 abbrev part : ℕ → ℕ → ℕ → ℕ → Section
 part at n size from = record { at = at; n = n; size = size; from = from }
