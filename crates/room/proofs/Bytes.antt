@@ -1,12 +1,12 @@
 -- The bytes of a file's lines, and how many a line has at least whose form fits. Assumes nothing.
-use mathlib.Core.Path.{_≡_, refl, sym, ap, _∙_, subst}
+use mathlib.Core.Path.{_≡_, refl, sym, ap, _∙_}
 use mathlib.Core.List.{List, [], _∷_, _++_}
-use mathlib.Core.Bool.{Bool, true, false, cond, not, _&&_, _||_}
-use Prim.Native.Nat.{ℕ, zero, suc, _+_, _-_, _*_, _≤_, _<_}
+use mathlib.Core.Bool.{Bool, true, false, cond, not}
+use Prim.Native.Nat.{ℕ, zero, suc, _+_, _-_, _*_, _≤_}
 use native.Mathlib.Nat.{mul-add, mul-zero, mul-one}
 use native.Mathlib.Omega.{arith}
 use lib.ListN.{length, drop, length-append, length-drop}
-use lib.Dec.{eqb, leb}
+use lib.Dec.{eqb}
 use Rattle.base.specs.Lists.{every}
 use Rattle.base.proofs.Laws.{clash}
 use Rattle.base.proofs.Loops.{and-true}
@@ -14,9 +14,10 @@ use Rattle.columns.specs.Columns.{padTo, columns, isBlank, isDigit, blank, digi
 use Rattle.forms.specs.Form.{FieldRule, formOf}
 use Rattle.forms.specs.declared.Form.{Form}
 use Rattle.forms.specs.declared.Form.the-variants.{Fits, Broken}
-use Rattle.lines.specs.Lines.{startWith, pieces, noCR, Line, numbered, linesFrom, linesOf, skipped}
+use Rattle.lines.specs.Lines.{startWith, pieces, Line, numbered, linesFrom, linesOf, skipped}
 use Rattle.lines.proofs.Pieces.{noCR-take}
-use Rattle.timetable.specs.Files.{Held, skip, broken, held, listed, held-in, heldBy, heldLine}
+use Rattle.lines.proofs.Laws.{length-lines}
+use Rattle.timetable.specs.Files.{skip, listed, held-in, heldBy, heldLine}
 
 -- ---- the lines of a file have no more bytes than the file
 
@@ -28,28 +29,38 @@ unfoldable total : List (List ℕ) → ℕ
 total [] = 0
 total (p ∷ ps) = length p + total ps
 
-start-total : (b : ℕ) (ps : List (List ℕ)) → total (startWith b ps) ≡ suc (total ps)
+start-total : (b n : ℕ) (ps : List (List ℕ)) → total ps + length ps ≤ n + 1 → total (startWith b ps) + length (startWith b ps) ≤ n + 2
 unfolding startWith total
-start-total b [] = refl
-start-total b (p ∷ ps) = omega arith
+start-total b n [] h = omega arith
+start-total b n (p ∷ ps) h = omega arith
 
-pieces-total : (s : List ℕ) → total (pieces s) ≤ length s
+pieces-total : (s : List ℕ) → total (pieces s) + length (pieces s) ≤ length s + 1
 unfolding pieces total
 pieces-total [] = omega arith
 pieces-total (b ∷ s) = go (eqb b 10) (pieces-total s)
   where
-    go : (t : Bool) → total (pieces s) ≤ length s → total (cond t ([] ∷ pieces s) (startWith b (pieces s))) ≤ suc (length s)
+    go : (t : Bool) → total (pieces s) + length (pieces s) ≤ length s + 1
+        → total (cond t ([] ∷ pieces s) (startWith b (pieces s))) + length (cond t ([] ∷ pieces s) (startWith b (pieces s))) ≤ suc (length s) + 1
     go true h = omega (arith, h)
-    go false h = let e = start-total b (pieces s) in omega (arith, h, e)
+    go false h = let e = start-total b (length s) (pieces s) h in omega (arith, e)
 
 numbered-bytes : (n at : ℕ) (ps : List (List ℕ)) → bytesOf (numbered n at ps) ≤ total ps
 unfolding numbered bytesOf total
 numbered-bytes n at [] = omega arith
 numbered-bytes n at (p ∷ ps) = let h = noCR-take p .1 in let t = numbered-bytes (n + 1) (at + length p + 1) ps in omega (arith, h, t)
 
-pub lines-bytes : (f : List ℕ) → bytesOf (linesOf f) ≤ length f
+-- each line but the last with its LF
+pub lines-size : (f : List ℕ) → bytesOf (linesOf f) + length (linesOf f) ≤ length f + 1
 unfolding linesFrom
-lines-bytes f = let a = numbered-bytes 1 0 (pieces f) in let b = pieces-total f in omega (arith, a, b)
+lines-size f = omega (arith, numbered-bytes 1 0 (pieces f), pieces-total f, length-lines 1 0 f)
+
+pub lines-bytes : (f : List ℕ) → bytesOf (linesOf f) ≤ length f
+unfolding bytesOf
+lines-bytes f = go (linesOf f) (lines-size f)
+  where
+    go : (ls : List Line) → bytesOf ls + length ls ≤ length f + 1 → bytesOf ls ≤ length f
+    go [] h = omega arith
+    go (l ∷ ls) h = omega arith
 
 pub bytes-append : (a b : List Line) → bytesOf (a ++ b) ≡ bytesOf a + bytesOf b
 unfolding bytesOf

@@ -1,14 +1,14 @@
 -- A service takes at most eight words for each line of its calls and ranges, and each such line has 59 bytes at least. Assumes nothing.
-use mathlib.Core.Path.{_≡_, refl, sym, ap, _∙_, subst}
-use mathlib.Core.List.{List, [], _∷_, _++_, map}
+use mathlib.Core.Path.{_≡_, refl, ap, _∙_}
+use mathlib.Core.List.{List, [], _∷_, map}
 use mathlib.Core.Bool.{Bool, true, false, cond}
-use Prim.Native.Nat.{ℕ, zero, suc, _+_, _-_, _*_, _≤_, _<_}
+use Prim.Native.Nat.{ℕ, _+_, _*_, _≤_}
 use native.Mathlib.Omega.{arith}
 use lib.ListN.{length, length-append}
 use lib.Dec.{eqb}
-use borrow.Author.Tests.{ltb-false}
-use Rattle.base.specs.Lists.{All, nil, cons, countIf, gathered}
+use Rattle.base.specs.Lists.{All, nil, cons, every, countIf, gathered}
 use Rattle.base.proofs.Laws.{apart}
+use Rattle.columns.specs.Columns.{columns}
 use Rattle.forms.specs.Form.{FieldRule, formOf}
 use Rattle.forms.specs.Columns.{serviceColumns, frequencyColumns, categoryColumns, attributeColumns, callColumns}
 use Rattle.forms.specs.Kinds.{kindOf}
@@ -17,62 +17,73 @@ use Rattle.forms.specs.declared.Form.the-variants.{Fits, Broken as BrokenForm}
 use Rattle.forms.specs.declared.Kind.{Kind}
 use Rattle.forms.specs.declared.Kind.the-variants.{Opening as OpeningKind, Frequency, Category as CategoryKind, Attribute, Schedule, Other as OtherKind}
 use Rattle.forms.proofs.Laws.{row-holds}
-use Rattle.lines.specs.Lines.{Line, linesOf, skipped}
-use Rattle.timetable.specs.Delivery.{Legs, CategoryRange, DayRange, Service, Delivery}
-use Rattle.timetable.specs.Plan.{formed, toldBy, toldIn, tolds, openingIn, frequencyIn, categoryIn, attributeIn, callIn, asCall, asRange, rangesOf, partNumber, ofPart, partLines}
+use Rattle.lines.specs.Lines.{Line, skipped}
+use Rattle.timetable.specs.Delivery.{Legs, CategoryRange, DayRange, Delivery}
+use Rattle.timetable.specs.Plan.{formed, toldBy, toldIn, tolds, openingIn, frequencyIn, categoryIn, attributeIn, callIn, asOpening, asCall, asRange, rangesOf, partNumber, ofPart}
 use Rattle.timetable.specs.Service.{headLines, blocks, callsOf, serviceOf}
-use Rattle.timetable.specs.Legs.{covers, covering, legCount}
-use Rattle.timetable.specs.Table.{serviceSize, serviceWords}
+use Rattle.timetable.specs.Legs.{covering}
+use Rattle.timetable.specs.Table.{serviceWords}
 use Rattle.timetable.specs.declared.Part.{Part}
 use Rattle.timetable.specs.declared.Part.the-variants.{Category, Days, Extra}
 use Rattle.timetable.specs.declared.RangeLine.{RangeLine}
 use Rattle.timetable.specs.declared.Told.{Told}
-use Rattle.timetable.specs.declared.Told.the-variants.{Skip, Other, Broken, Opens, Ranges, Calls}
+use Rattle.timetable.specs.declared.Told.the-variants.{Skip, Opens, Ranges, Calls}
 use Rattle.timetable.proofs.Calls.{calls-count}
 use Rattle.timetable.proofs.Records.{service-length}
 use Rattle.whole_runs.proofs.Clear.{Fair}
-use Rattle.whole_runs.proofs.Lines.{NoneDropped, nothing-dropped}
-use Rattle.whole_runs.proofs.Right.{Right, right}
+use Rattle.whole_runs.proofs.Lines.{nothing-dropped}
+use Rattle.whole_runs.proofs.Right.{right}
 use Rattle.whole_runs.proofs.Text.{blocks-whole}
 use Rattle.room.specs.Room.{planLeast, planLineSize}
 use Rattle.room.proofs.Bytes.{bytesOf, bytes-append, every-long}
 
 -- ---- a line
 
--- how many calls and ranges it says
+-- how many openings, calls and ranges it says: at most one, and then it has 59 columns
 abbrev said : Told → ℕ
-said t = length (asCall t) + length (asRange t)
+said t = length (asOpening t) + (length (asCall t) + length (asRange t))
 
-marked : (rows : List FieldRule) (text : List ℕ) → (formOf rows text ≡ Fits → planLeast ≤ length text) → (t : Told) → said t ≤ 1 → planLeast * said (formed (formOf rows text) t) ≤ length text
-marked rows text long t one = go (formOf rows text) refl
+pub record SaidIn (n : ℕ) (ls : List Line) : Type 0 where
+  pub columns : planLeast * n ≤ bytesOf ls
+  pub lines : n ≤ length ls
+
+marked : (rows : List FieldRule) (text : List ℕ) → (formOf rows text ≡ Fits → every (λ (b : ℕ). eqb b 37) (columns 59 59 text) ≡ true) → (t : Told) → said t ≤ 1
+    → (planLeast * said (formed (formOf rows text) t) ≤ length text) × (said (formed (formOf rows text) t) ≤ 1)
+marked rows text mark t one = go (formOf rows text) refl
   where
-    go : (f : Form) → formOf rows text ≡ f → planLeast * said (formed f t) ≤ length text
-    go Fits e = let h = long e in omega (arith, h, one)
-    go (BrokenForm c) e = omega arith
+    go : (f : Form) → formOf rows text ≡ f → (planLeast * said (formed f t) ≤ length text) × (said (formed f t) ≤ 1)
+    go Fits e = let h = every-long (λ (b : ℕ). eqb b 37) refl 59 59 text (omega arith) (omega arith) (mark e) in (omega (arith, h, one), one)
+    go (BrokenForm c) e = (omega arith, omega arith)
 
-told-bytes : (text : List ℕ) → planLeast * said (toldIn text) ≤ length text
+told-bytes : (text : List ℕ) → (planLeast * said (toldIn text) ≤ length text) × (said (toldIn text) ≤ 1)
 unfolding toldIn
 told-bytes text = go (skipped text) (kindOf text)
   where
-    go : (t : Bool) (k : Kind) → planLeast * said (cond t Skip (toldBy k text)) ≤ length text
-    go true k = omega arith
-    go false OpeningKind = marked serviceColumns text (λ e. every-long (λ (b : ℕ). eqb b 37) refl 59 59 text (omega arith) (omega arith) (row-holds serviceColumns text 5 e)) (Opens (openingIn text)) (omega arith)
-    go false Frequency = marked frequencyColumns text (λ e. every-long (λ (b : ℕ). eqb b 37) refl 59 59 text (omega arith) (omega arith) (row-holds frequencyColumns text 5 e)) (Opens (frequencyIn text)) (omega arith)
-    go false CategoryKind = marked categoryColumns text (λ e. every-long (λ (b : ℕ). eqb b 37) refl 59 59 text (omega arith) (omega arith) (row-holds categoryColumns text 6 e)) (Ranges (categoryIn text)) (omega arith)
-    go false Attribute = marked attributeColumns text (λ e. every-long (λ (b : ℕ). eqb b 37) refl 59 59 text (omega arith) (omega arith) (row-holds attributeColumns text 7 e)) (Ranges (attributeIn text)) (omega arith)
-    go false Schedule = marked callColumns text (λ e. every-long (λ (b : ℕ). eqb b 37) refl 59 59 text (omega arith) (omega arith) (row-holds callColumns text 7 e)) (Calls (callIn text)) (omega arith)
-    go false OtherKind = omega arith
+    go : (t : Bool) (k : Kind) → (planLeast * said (cond t Skip (toldBy k text)) ≤ length text) × (said (cond t Skip (toldBy k text)) ≤ 1)
+    go true k = (omega arith, omega arith)
+    go false OpeningKind = marked serviceColumns text (row-holds serviceColumns text 5) (Opens (openingIn text)) (omega arith)
+    go false Frequency = marked frequencyColumns text (row-holds frequencyColumns text 5) (Opens (frequencyIn text)) (omega arith)
+    go false CategoryKind = marked categoryColumns text (row-holds categoryColumns text 6) (Ranges (categoryIn text)) (omega arith)
+    go false Attribute = marked attributeColumns text (row-holds attributeColumns text 7) (Ranges (attributeIn text)) (omega arith)
+    go false Schedule = marked callColumns text (row-holds callColumns text 7) (Calls (callIn text)) (omega arith)
+    go false OtherKind = (omega arith, omega arith)
 
 -- ---- the lines of a service
 
-lines-said : (ls : List Line) → planLeast * (length (gathered asCall (tolds ls)) + length (rangesOf ls)) ≤ bytesOf ls
+pub lines-said : (ls : List Line) → SaidIn (length (gathered asOpening (tolds ls)) + (length (gathered asCall (tolds ls)) + length (rangesOf ls))) ls
 unfolding tolds gathered bytesOf
-lines-said [] = omega arith
+lines-said [] = record { columns = omega arith; lines = omega arith }
 lines-said (l ∷ ls) =
     let t = toldIn (l .text) in
-    let a = told-bytes (l .text) in let b = lines-said ls in
-    let c = length-append (asCall t) (gathered asCall (tolds ls)) in let r = length-append (asRange t) (rangesOf ls) in
-    omega (arith, a, b, c, r)
+    let a = told-bytes (l .text) in
+    let b = lines-said ls in
+    let o = length-append (asOpening t) (gathered asOpening (tolds ls)) in
+    let c = length-append (asCall t) (gathered asCall (tolds ls)) in
+    let r = length-append (asRange t) (rangesOf ls) in
+    record {
+      columns = omega (arith, a .0, b .columns, o, c, r);
+      lines = omega (arith, a .1, b .lines, o, c, r);
+    }
 
 -- a range is of one part
 one-part : (r : RangeLine) → length (ofPart Category r) + length (ofPart Days r) + length (ofPart Extra r) ≡ 1
@@ -83,7 +94,7 @@ one-part r = go (r .part)
     go Days = refl
     go Extra = refl
 
-parts-sum : (rs : List RangeLine) → length (gathered (ofPart Category) rs) + length (gathered (ofPart Days) rs) + length (gathered (ofPart Extra) rs) ≡ length rs
+pub parts-sum : (rs : List RangeLine) → length (gathered (ofPart Category) rs) + length (gathered (ofPart Days) rs) + length (gathered (ofPart Extra) rs) ≡ length rs
 unfolding gathered
 parts-sum [] = refl
 parts-sum (r ∷ rs) =
@@ -99,7 +110,7 @@ unfolding countIf
 one-there legs [] e = apart e
 one-there legs (r ∷ rs) e = omega arith
 
-calls-same : (ls : List Line) → length (serviceOf ls .calls) ≡ length (callsOf ls)
+pub calls-same : (ls : List Line) → length (serviceOf ls .calls) ≡ length (callsOf ls)
 unfolding serviceOf
 calls-same ls = refl
 
@@ -114,16 +125,15 @@ service-words d ls h =
     let v = one-there (λ (x : DayRange). x .legs) (serviceOf ls .days) (r .days 0 (omega (arith, two))) in
     let c = calls-same ls ∙ calls-count ls in
     let p = parts-sum (rangesOf ls) in
-    let b = lines-said ls in
+    let b = lines-said ls .columns in
     omega (arith, z, two, g, v, c, p, b, n .categories, n .days, n .extras)
 
 -- ---- all services
 
-blocks-bytes : (ls : List Line) → bytesOf (gathered (λ (b : List Line). b) (blocks ls)) ≤ bytesOf ls
+pub blocks-bytes : (ls : List Line) → (bytesOf (gathered (λ (b : List Line). b) (blocks ls)) ≤ bytesOf ls) × (length (gathered (λ (b : List Line). b) (blocks ls)) ≤ length ls)
 blocks-bytes ls =
-    let e = ap bytesOf (blocks-whole ls) in
-    let a = bytes-append (headLines ls) (gathered (λ (b : List Line). b) (blocks ls)) in
-    omega (arith, e, a)
+    let bs = gathered (λ (b : List Line). b) (blocks ls) in
+    (omega (arith, ap bytesOf (blocks-whole ls), bytes-append (headLines ls) bs), omega (arith, ap length (blocks-whole ls), length-append (headLines ls) bs))
 
 services-words : (d : Delivery) {bs : List (List Line)} → All (Fair d) bs → planLeast * length (gathered serviceWords (map serviceOf bs)) ≤ planLineSize * bytesOf (gathered (λ (b : List Line). b) bs)
 unfolding gathered
@@ -135,4 +145,4 @@ services-words d (cons {x = b} {xs = bs} h t) =
     omega (arith, x, y, a, e)
 
 pub plan-words : (d : Delivery) (ls : List Line) → All (Fair d) (blocks ls) → planLeast * length (gathered serviceWords (map serviceOf (blocks ls))) ≤ planLineSize * bytesOf ls
-plan-words d ls h = let a = services-words d h in let b = blocks-bytes ls in omega (arith, a, b)
+plan-words d ls h = let a = services-words d h in let b = blocks-bytes ls .0 in omega (arith, a, b)
