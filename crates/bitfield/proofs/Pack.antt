@@ -1,15 +1,16 @@
 -- The needs of reading hex digits by words of eight, for `search packing`. Assumes nothing.
 use mathlib.Core.Path.{_≡_, refl, sym, ap, _∙_}
 use mathlib.Core.List.{List, [], _∷_, map}
-use mathlib.Core.Bool.{Bool, true, _&&_}
+use mathlib.Core.Bool.{Bool, true}
 use Prim.Native.Nat.{ℕ, zero, suc, _+_, _*_, _≤_, _<_}
 use native.Mathlib.Omega.{arith}
 use lib.ListN.{length, getD, take, drop, set, length-drop}
 use Rattle.base.specs.Lists.{every}
-use Rattle.base.proofs.Laws.{clash, tests}
+use Rattle.base.proofs.Laws.{tests}
 use Rattle.base.proofs.Loops.{and-true}
 use Rattle.columns.specs.Columns.{padTo, columns, isHex, hexValue, isOf}
 use Rattle.columns.specs.declared.ByteClass.the-variants.{Hex}
+use Rattle.columns.proofs.Laws.{every-long}
 use Rattle.byte_words.specs.Inner.Words.{bytesOf, digitsFrom, hexadecimal}
 use Rattle.byte_words.proofs.Lines.{pad-is-take}
 use Rattle.bitfield.specs.BitField.{bitWords, hexFrom, bitsIn}
@@ -52,15 +53,8 @@ module _ (line : List ℕ) (i w : ℕ) (m : 103 ≤ length line) (h : i < bitWor
   word-is x d = d ∙ digits-hex 0 (bytesOf 8 w) ∙ ap (hexFrom 0) (sym bytes-are) ∙ sym (word-in line i h)
 
 -- blanks behind a short line are no hex digits
-hex-reaches : (w : ℕ) (l : List ℕ) → every isHex (padTo w l) ≡ true → w ≤ length l
-unfolding every padTo
-hex-reaches zero l e = omega arith
-hex-reaches (suc w) [] e = clash e
-hex-reaches (suc w) (b ∷ l) e = omega (arith, hex-reaches w l (and-true (isHex b) (every isHex (padTo w l)) e .1))
-
 pub hex-long : (line : List ℕ) → every isHex (columns 8 103 line) ≡ true → 103 ≤ length line
-unfolding columns
-hex-long line e = omega (arith, hex-reaches 96 (drop 7 line) e, length-drop 7 line)
+hex-long line e = every-long isHex refl 8 103 line (omega arith) (omega arith) e
 
 pub all-hex : (l : List ℕ) (t : Bool) → t ≡ every (isOf Hex) l → t ≡ true → every isHex l ≡ true
 all-hex l t e y = sym e ∙ y

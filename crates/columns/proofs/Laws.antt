@@ -1,5 +1,5 @@
 -- Laws of columns. For callers: `pad-take`, `pad-pad`, `part-columns` (a part reads as its columns), `next-column`, `no-column` (a turn and the end
--- of a loop over columns), `number-lt`, `columns-lt`. Assumes nothing.
+-- of a loop over columns), `every-long` (a line whose columns pass a test reaches so far), `number-lt`, `columns-lt`. Assumes nothing.
 use mathlib.Core.Path.{_≡_, refl, ap, _∙_, sym}
 use mathlib.Core.List.{List, [], _∷_}
 use mathlib.Core.Bool.{Bool, true, false, cond, not, _&&_, _||_, false≢true}
@@ -12,8 +12,9 @@ use lib.Seq.{take-nil, take-all}
 use lib.Dec.{leb, eqb, lit<}
 use borrow.Author.Tests.{eq-eqb, ne-eqb, le-leb, lt-leb}
 use Rattle.base.specs.Lists.{every}
-use Rattle.base.proofs.Laws.{drop-next, by-leb, tests}
-use Rattle.columns.specs.Columns.{padTo, columns, isDigit, digitValue, isOf, count, numberFrom, number, countTo}
+use Rattle.base.proofs.Laws.{drop-next, by-leb, clash, tests}
+use Rattle.base.proofs.Loops.{and-true}
+use Rattle.columns.specs.Columns.{padTo, columns, blank, isDigit, digitValue, isOf, count, numberFrom, number, countTo}
 use Rattle.columns.specs.declared.ByteClass.{ByteClass}
 use Rattle.columns.specs.declared.ByteClass.the-variants.{Digit, Byte}
 
@@ -58,6 +59,24 @@ pub pad-length : (l : List ℕ) → padTo (length l) l ≡ l
 unfolding padTo
 pad-length [] = refl
 pad-length (b ∷ l) = ap (λ (r : List ℕ). b ∷ r) (pad-length l)
+
+-- they are blank
+pub blank-past : (w : ℕ) → blank (padTo w []) ≡ true
+unfolding padTo every
+blank-past zero = refl
+blank-past (suc w) = blank-past w
+
+-- and a test that a blank fails holds of none of them
+pub every-reaches : (t : ℕ → Bool) → t 32 ≡ false → (w : ℕ) (l : List ℕ) → every t (padTo w l) ≡ true → w ≤ length l
+unfolding padTo every
+every-reaches t off zero l e = omega arith
+every-reaches t off (suc w) [] e = clash (sym (rw off) ∙ e)
+every-reaches t off (suc w) (b ∷ l) e = omega (arith, every-reaches t off w l (and-true (t b) (every t (padTo w l)) e .1))
+
+-- so the line reaches so far
+pub every-long : (t : ℕ → Bool) → t 32 ≡ false → (a b : ℕ) (line : List ℕ) → 1 ≤ a → a ≤ b → every t (columns a b line) ≡ true → b ≤ length line
+unfolding columns
+every-long t off a b line h k e = omega (arith, every-reaches t off (b - (a - 1)) (drop (a - 1) line) e, length-drop (a - 1) line, h, k)
 
 -- columns a to b are as many, however short the line is
 pub length-columns : (a b : ℕ) (line : List ℕ) → length (columns a b line) ≡ b - (a - 1)

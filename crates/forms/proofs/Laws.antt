@@ -157,7 +157,7 @@ twice true = refl
 twice false = refl
 
 -- and all "0" say 0
-zeros-say : (n : ℕ) (p : List ℕ) → n ≡ 0 → every (λ (b : ℕ). eqb b 48) p ≡ true → numberFrom n p ≡ 0
+pub zeros-say : (n : ℕ) (p : List ℕ) → n ≡ 0 → every (λ (b : ℕ). eqb b 48) p ≡ true → numberFrom n p ≡ 0
 unfolding every numberFrom
 zeros-say n [] o e = o
 zeros-say n (b ∷ p) o e =

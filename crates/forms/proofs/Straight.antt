@@ -2,17 +2,16 @@
 -- `step-wide` (a row behind none, one or several columns that no field names), `end-fit`, `fit`. Assumes nothing.
 use mathlib.Core.Path.{_≡_, refl, ap, sym, _∙_}
 use mathlib.Core.List.{List, [], _∷_}
-use mathlib.Core.Bool.{Bool, true, false, cond, not, _&&_, false≢true}
-use Prim.Native.Nat.{ℕ, zero, suc, _+_, _-_, _≤_, _<_}
+use mathlib.Core.Bool.{Bool, true, false, cond, _&&_}
+use Prim.Native.Nat.{ℕ, zero, suc, _+_, _-_, _≤_}
 use native.Mathlib.Omega.{arith}
 use lib.ListN.{length, getD, drop}
 use lib.Dec.{eqb}
 use Rattle.base.proofs.Laws.{tests, clash}
+use Rattle.columns.proofs.Laws.{blank-past}
 use Rattle.base.specs.Lists.{every}
-use Rattle.columns.specs.Columns.{padTo, columns, column, isBlank, isHex, blank, digits, countTo, isOf}
-use Rattle.columns.specs.declared.ByteClass.the-variants.{Byte}
+use Rattle.columns.specs.Columns.{padTo, columns, column, isBlank, blank}
 use Rattle.forms.specs.Form.{mostFileBytes, FieldRule, hasForm, formOf, isFit, before, brokenUnless, strayFrom, unnamed, rowForm, formFrom}
-use Rattle.forms.specs.Form as Fm
 use Rattle.forms.specs.Columns.{bitFieldColumns, stopColumns, interchangeColumns, classColumns, columnsOf}
 use Rattle.forms.specs.Inner.Usual.{bitFieldFits, stopFits, interchangeFits, classFits, tariffFits, supplementFits}
 use Rattle.forms.specs.declared.LineKind.{LineKind}
@@ -97,15 +96,10 @@ fit (BrokenForm c) e = clash e
 
 -- ---- several columns that no field names
 
-pad-blank : (w : ℕ) → blank (padTo w []) ≡ true
-unfolding padTo every
-pad-blank zero = refl
-pad-blank (suc w) = pad-blank w
-
 stray-blank : (c w : ℕ) (l : List ℕ) → isFit (strayFrom c w l) ≡ blank (padTo w l)
 unfolding strayFrom padTo every
 stray-blank c zero l = refl
-stray-blank c (suc w) [] = sym (pad-blank w)
+stray-blank c (suc w) [] = sym (blank-past w)
 stray-blank c (suc w) (b ∷ l) = go (isBlank b) (stray-blank (c + 1) w l)
   where
     go : (t : Bool) → isFit (strayFrom (c + 1) w l) ≡ blank (padTo w l) → isFit (cond t (strayFrom (c + 1) w l) (BrokenForm c)) ≡ (t && blank (padTo w l))
@@ -125,53 +119,38 @@ step-wide c x xs l y e = rw (row-fit, wide-gap c (x .from - 1) l, e)
 bit-field-same : (l : List ℕ) → length l ≤ 103 → hasForm bitFieldColumns l ≡ bitFieldFits l
 unfolding bitFieldFits
 bit-field-same l h =
-    step-next 0 (Fm.fieldRule 1 6 Fm.digitsOnly) (Fm.fieldRule 8 103 Fm.hexDigits ∷ []) l _ refl
-    (step-gap 6 (Fm.fieldRule 8 103 Fm.hexDigits) [] l true refl (end-fit 103 l h)
+    step-next 0 _ _ l _ refl
+    (step-gap 6 _ _ l true refl (end-fit 103 l h)
     ∙ ap (λ (b : Bool). isBlank (column 7 l) && b) (and-one _))
 
 stop-same : (l : List ℕ) → length l ≤ mostFileBytes → hasForm stopColumns l ≡ stopFits l
 unfolding stopFits
 stop-same l h =
-    step-next 0 (Fm.fieldRule 1 7 Fm.digitsOnly) (Fm.fieldRule 9 11 Fm.free ∷ Fm.fieldRule 13 62 Fm.notAllBlank ∷ Fm.restRule 63 Fm.free ∷ []) l _ refl
-    (step-gap 7 (Fm.fieldRule 9 11 Fm.free) (Fm.fieldRule 13 62 Fm.notAllBlank ∷ Fm.restRule 63 Fm.free ∷ []) l _ refl
-    (step-gap 11 (Fm.fieldRule 13 62 Fm.notAllBlank) (Fm.restRule 63 Fm.free ∷ []) l true refl
-    (step-next 62 (Fm.restRule 63 Fm.free) [] l true refl (end-fit mostFileBytes l h))
+    step-next 0 _ _ l _ refl
+    (step-gap 7 _ _ l _ refl
+    (step-gap 11 _ _ l true refl
+    (step-next 62 _ _ l true refl (end-fit mostFileBytes l h))
     ∙ ap (λ (b : Bool). isBlank (column 12 l) && b) (and-one _)))
 
 interchange-same : (l : List ℕ) → length l ≤ mostFileBytes → hasForm interchangeColumns l ≡ interchangeFits l
 unfolding interchangeFits
 interchange-same l h =
-    step-next 0 (Fm.fieldRule 1 7 Fm.digitsOnly) (Fm.fieldRule 9 10 (Fm.aCount 60) ∷ Fm.fieldRule 12 13 (Fm.aCount 99) ∷ Fm.restRule 15 Fm.free ∷ []) l _ refl
-    (step-gap 7 (Fm.fieldRule 9 10 (Fm.aCount 60)) (Fm.fieldRule 12 13 (Fm.aCount 99) ∷ Fm.restRule 15 Fm.free ∷ []) l _ refl
-    (step-gap 10 (Fm.fieldRule 12 13 (Fm.aCount 99)) (Fm.restRule 15 Fm.free ∷ []) l _ refl
-    (step-gap 13 (Fm.restRule 15 Fm.free) [] l true refl (end-fit mostFileBytes l h) ∙ and-one _)))
-
--- the rows of a class line from its output text on, from its tariff group on, and all
-abbrev fromText : List FieldRule
-fromText = Fm.fieldRule 12 19 Fm.free ∷ Fm.columnRule 21 (Fm.aCount 2) ∷ Fm.columnRule 23 (Fm.orBlank Fm.transportFlag) ∷ Fm.restRule 25 Fm.free ∷ []
-
-abbrev fromTariff : List FieldRule
-fromTariff = Fm.columnRule 8 (Fm.orBlank (Fm.letterTo 72)) ∷ Fm.columnRule 10 (Fm.aCount 7) ∷ fromText
-
-supplement-same : (l : List ℕ) → length l ≤ mostFileBytes → isFit (formFrom 10 fromText l) ≡ (isBlank (column 11 l) && supplementFits l)
-unfolding supplementFits
-supplement-same l h =
-    step-gap 10 (Fm.fieldRule 12 19 Fm.free) (Fm.columnRule 21 (Fm.aCount 2) ∷ Fm.columnRule 23 (Fm.orBlank Fm.transportFlag) ∷ Fm.restRule 25 Fm.free ∷ []) l _ refl
-    (step-gap 19 (Fm.columnRule 21 (Fm.aCount 2)) (Fm.columnRule 23 (Fm.orBlank Fm.transportFlag) ∷ Fm.restRule 25 Fm.free ∷ []) l _ refl
-    (step-gap 21 (Fm.columnRule 23 (Fm.orBlank Fm.transportFlag)) (Fm.restRule 25 Fm.free ∷ []) l _ refl
-    (step-gap 23 (Fm.restRule 25 Fm.free) [] l true refl (end-fit mostFileBytes l h) ∙ and-one _)))
-
-tariff-same : (l : List ℕ) → length l ≤ mostFileBytes → isFit (formFrom 6 fromTariff l) ≡ (isBlank (column 7 l) && tariffFits l)
-unfolding tariffFits
-tariff-same l h =
-    step-gap 6 (Fm.columnRule 8 (Fm.orBlank (Fm.letterTo 72))) (Fm.columnRule 10 (Fm.aCount 7) ∷ fromText) l _ refl
-    (step-gap 8 (Fm.columnRule 10 (Fm.aCount 7)) fromText l _ refl (supplement-same l h))
+    step-next 0 _ _ l _ refl
+    (step-gap 7 _ _ l _ refl
+    (step-gap 10 _ _ l _ refl
+    (step-gap 13 _ _ l true refl (end-fit mostFileBytes l h) ∙ and-one _)))
 
 class-same : (l : List ℕ) → length l ≤ mostFileBytes → hasForm classColumns l ≡ classFits l
-unfolding classFits
+unfolding classFits tariffFits supplementFits
 class-same l h =
-    step-next 0 (Fm.fieldRule 1 3 Fm.firstNotBlank) (Fm.fieldRule 5 6 (Fm.aCount 13) ∷ fromTariff) l _ refl
-    (step-gap 3 (Fm.fieldRule 5 6 (Fm.aCount 13)) fromTariff l _ refl (tariff-same l h))
+    step-next 0 _ _ l _ refl
+    (step-gap 3 _ _ l _ refl
+    (step-gap 6 _ _ l _ refl
+    (step-gap 8 _ _ l _ refl
+    (step-gap 10 _ _ l _ refl
+    (step-gap 19 _ _ l _ refl
+    (step-gap 21 _ _ l _ refl
+    (step-gap 23 _ _ l true refl (end-fit mostFileBytes l h) ∙ and-one _)))))))
 
 -- ---- for `search usual`: t is what the columns said, u what is answered
 

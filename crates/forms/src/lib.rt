@@ -157,8 +157,18 @@ const CATEGORY_CLASS: [u64; 8] = [
     class::REST as u64 * FROM + END + FREE,
 ];
 
+// Of each line of FPLAN but a call its kind, of each its mark and what may follow.
+const PLAN_KIND: u64 = plan_line::KIND as u64 * FROM + plan_line::KIND_END as u64 * TO + FREE;
+
+const PLAN_MARK: u64 = plan_line::MARK as u64 * FROM
+    + plan_line::MARK as u64 * TO
+    + BYTE
+    + b'%' as u64 * WITH;
+
+const PLAN_REST: u64 = plan_line::REST as u64 * FROM + END + FREE;
+
 const SERVICE: [u64; 7] = [
-    plan_line::KIND as u64 * FROM + plan_line::KIND_END as u64 * TO + FREE,
+    PLAN_KIND,
     opening::NUMBER as u64 * FROM + opening::NUMBER_END as u64 * TO + DIGITS,
     opening::ADMINISTRATION as u64 * FROM + opening::ADMINISTRATION_END as u64 * TO + NON_BLANK,
     opening::REPEATS as u64 * FROM + opening::REPEATS_END as u64 * TO + DIGITS_OR_BLANK,
@@ -166,22 +176,22 @@ const SERVICE: [u64; 7] = [
         + opening::OFFSET_END as u64 * TO
         + OFFSET_OF
         + opening::REPEATS as u64 * WITH,
-    plan_line::MARK as u64 * FROM + plan_line::MARK as u64 * TO + BYTE + b'%' as u64 * WITH,
-    plan_line::REST as u64 * FROM + END + FREE,
+    PLAN_MARK,
+    PLAN_REST,
 ];
 
 const FREQUENCY: [u64; 7] = [
-    plan_line::KIND as u64 * FROM + plan_line::KIND_END as u64 * TO + FREE,
+    PLAN_KIND,
     opening::NUMBER as u64 * FROM + opening::NUMBER_END as u64 * TO + DIGITS,
     opening::ADMINISTRATION as u64 * FROM + opening::ADMINISTRATION_END as u64 * TO + NON_BLANK,
     frequency::TIME as u64 * FROM + frequency::TIME_END as u64 * TO + DIGITS,
     frequency::DENSITY as u64 * FROM + frequency::DENSITY_END as u64 * TO + DIGITS_FROM_ONE,
-    plan_line::MARK as u64 * FROM + plan_line::MARK as u64 * TO + BYTE + b'%' as u64 * WITH,
-    plan_line::REST as u64 * FROM + END + FREE,
+    PLAN_MARK,
+    PLAN_REST,
 ];
 
 const CATEGORY: [u64; 8] = [
-    plan_line::KIND as u64 * FROM + plan_line::KIND_END as u64 * TO + FREE,
+    PLAN_KIND,
     category::NAME as u64 * FROM + category::NAME_END as u64 * TO + FIRST_NOT_BLANK,
     category::FROM as u64 * FROM + category::FROM_END as u64 * TO + RANGE_END,
     category::TO as u64 * FROM + category::TO_END as u64 * TO + RANGE_END,
@@ -193,12 +203,12 @@ const CATEGORY: [u64; 8] = [
         + category::TO_DETAIL_END as u64 * TO
         + DETAIL_OF
         + category::TO as u64 * WITH,
-    plan_line::MARK as u64 * FROM + plan_line::MARK as u64 * TO + BYTE + b'%' as u64 * WITH,
-    plan_line::REST as u64 * FROM + END + FREE,
+    PLAN_MARK,
+    PLAN_REST,
 ];
 
 const ATTRIBUTE: [u64; 9] = [
-    plan_line::KIND as u64 * FROM + plan_line::KIND_END as u64 * TO + FREE,
+    PLAN_KIND,
     attribute::CODE as u64 * FROM + attribute::CODE_END as u64 * TO + FIRST_NOT_BLANK,
     attribute::FROM as u64 * FROM + attribute::FROM_END as u64 * TO + RANGE_END,
     attribute::TO as u64 * FROM + attribute::TO_END as u64 * TO + RANGE_END,
@@ -211,8 +221,8 @@ const ATTRIBUTE: [u64; 9] = [
         + attribute::TO_DETAIL_END as u64 * TO
         + DETAIL_OF
         + attribute::TO as u64 * WITH,
-    plan_line::MARK as u64 * FROM + plan_line::MARK as u64 * TO + BYTE + b'%' as u64 * WITH,
-    plan_line::REST as u64 * FROM + END + FREE,
+    PLAN_MARK,
+    PLAN_REST,
 ];
 
 const CALL: [u64; 9] = [
@@ -223,8 +233,8 @@ const CALL: [u64; 9] = [
     call::NUMBER as u64 * FROM + call::NUMBER_END as u64 * TO + DIGITS_OR_BLANK,
     call::ADMINISTRATION as u64 * FROM + call::ADMINISTRATION_END as u64 * TO + NON_BLANK_OR_BLANK,
     call::BOARD as u64 * FROM + call::BOARD as u64 * TO + BYTE_OR_BLANK + b'X' as u64 * WITH,
-    plan_line::MARK as u64 * FROM + plan_line::MARK as u64 * TO + BYTE + b'%' as u64 * WITH,
-    plan_line::REST as u64 * FROM + END + FREE,
+    PLAN_MARK,
+    PLAN_REST,
 ];
 
 // ---- the kind of a line, by its first bytes
@@ -450,7 +460,8 @@ fn supplement_fits(line: &[u8]) -> bool
     false
 }
 
-fn blank_at(line: &[u8], c: usize) -> bool
+// Whether column c is blank.
+pub fn blank_at(line: &[u8], c: usize) -> bool
     ensures { λ r. ⌜ r ≡ isBlank (C.column c (now (line .entry))) ⌝ }
 {
     columns::column_at(line, c) == b' '
@@ -573,7 +584,7 @@ fn fits_rule(line: &[u8], a: usize, b: usize, k: u64, m: u32) -> bool
 }
 
 // Whether columns a to b are blank, or every one is of the class.
-fn blank_or(line: &[u8], a: usize, b: usize, class: ByteClass) -> bool
+pub fn blank_or(line: &[u8], a: usize, b: usize, class: ByteClass) -> bool
     ensures { λ r. ⌜ r ≡
         (blank (C.columns a b (now (line .entry))) || every (isOf class) (C.columns a b (now (line .entry)))) ⌝ }
 {

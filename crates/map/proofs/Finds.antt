@@ -2,38 +2,19 @@
 use mathlib.Core.Path.{_≡_, refl, ap, _∙_, sym}
 use mathlib.Core.List.{List}
 use mathlib.Core.Bool.{Bool, true, false}
-use Prim.Native.Nat.{ℕ, zero, suc, _+_, _*_, _/_, _%_, _-_, _^_, _≤_, _<_}
-use native.Mathlib.Nat.{mul-le-mul, mod-lt, div-lt-iff-lt-mul, mul-comm, mul-lt-mul-of-pos-right}
+use Prim.Native.Nat.{ℕ, zero, suc, _+_, _*_, _/_, _-_, _≤_, _<_}
 use native.Mathlib.Decide.{decLt}
 use native.Mathlib.Omega.{arith}
 use lib.ListN.{length, getD}
 use lib.Dec.{eqb}
 use borrow.Author.Tests.{eq-eqb, ne-eqb, eqb-true}
 use Rattle.base.proofs.Laws.{tests}
-use Rattle.map.specs.Inner.Map.{lastOf, foundBy, foundIn, column, numbersIn, bucketOf, inBucket, Chained, Mapped, Finds}
+use Rattle.chains.specs.Chains.{bucketOf}
+use Rattle.chains.proofs.Follow.{bucket-lt}
+use Rattle.map.specs.Inner.Map.{lastOf, foundBy, foundIn, column, numbersIn, inBucket, Chained, Mapped, Finds}
 use Rattle.map.specs.declared.Found.{Found}
 use Rattle.map.specs.declared.Found.the-variants.{At, Nowhere}
 use Rattle.map.proofs.Columns.{last-step, last-le, last-here, last-narrow}
-
--- ---- buckets, for `search spreads`
-
-pub product-fits : (x s : ℕ) → s ≤ 1073741824 → x % 4294967296 * s < 2 ^ 64
-product-fits x s h =
-    let l : x % 4294967296 < 4294967296 = mod-lt x (omega arith) in
-    let k : x % 4294967296 ≤ 4294967295 = omega arith in
-    let q : x % 4294967296 * s ≤ 4294967295 * 1073741824 = mul-le-mul k h in
-    omega arith
-
-pub bucket-inside : (s n : ℕ) → 0 < s → n * 2654435761 % 4294967296 * s / 4294967296 < s
-bucket-inside s n h =
-    div-lt-iff-lt-mul {k = 4294967296} {x = n * 2654435761 % 4294967296 * s} {y = s} (omega arith) .1
-    (rw (mul-comm s 4294967296) (mul-lt-mul-of-pos-right (mod-lt (n * 2654435761) (omega arith)) h))
-
-pub bucket-lt : (s n : ℕ) → 0 < s → bucketOf s n < s
-unfolding bucketOf
-bucket-lt s n h = bucket-inside s n h
-
-pub ruleset spreads = (tests, product-fits, bucket-inside)
 
 -- ---- the words tell how many records there are
 

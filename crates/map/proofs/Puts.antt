@@ -12,7 +12,8 @@ use lib.Seq.{getD-set-same, getD-set-other}
 use lib.Dec.{eqb}
 use borrow.Author.Tests.{eqb-true, eqb-false}
 use Rattle.base.proofs.Laws.{tests}
-use Rattle.map.specs.Inner.Map.{lastOf, column, numbersIn, placesIn, bucketOf, inBucket, Chained, Added}
+use Rattle.chains.specs.Chains.{bucketOf}
+use Rattle.map.specs.Inner.Map.{lastOf, column, numbersIn, placesIn, inBucket, Chained, Added}
 use Rattle.map.proofs.Columns.{column-same, column-more, last-step}
 
 -- ---- a record more, for `search puts`

@@ -5,7 +5,7 @@ ghost use mathlib.Core.Path.{_≡_};
 ghost use mathlib.Core.List.{_++_};
 ghost use Prim.Native.Nat.{_+_, _*_, _≤_, _<_};
 ghost use lib.ListN.{length, drop, replicate, getD};
-ghost use Rattle.map.specs.Inner.Map.{mapRecordSize, wordValues, mostRecords, bucketOf, Chained, Mapped, Finds};
+ghost use Rattle.map.specs.Inner.Map.{mapRecordSize, wordValues, Chained, Mapped, Finds};
 ghost use Rattle.map.specs.Inner.Map.{Added};
 
 // Which record, counted from 0.
@@ -24,7 +24,7 @@ pub fn find(m: &[u32], number: u32) -> Found
     if m.len() < 4 {
         return Found::Nowhere;
     }
-    let b = bucket(m.len() / 4, number);
+    let b = chains::bucket(m.len() / 4, number);
     let mut next = wide(m[4 * b]);
     while next != 0 {
         if m[4 * next - 3] == number {
@@ -41,7 +41,7 @@ pub fn put(m: &mut [u32], count: usize, number: u32, place: u32)
     requires { ⌜ mapRecordSize * count + mapRecordSize ≤ length (now m) ⌝ }
     ensures { λ _. ⌜ Added count number place (now (m .entry)) (now (m .exit)) ⌝ }
 {
-    let b = bucket(m.len() / 4, number);
+    let b = chains::bucket(m.len() / 4, number);
     let before = m[4 * b];
     let at = 4 * count;
     m[at + 1] = number;
@@ -68,19 +68,6 @@ pub fn clear(t: &mut [u32], words: usize)
         t[k] = 0;
         k += 1;
     }
-}
-
-// ---- buckets
-
-// The bucket of a number: the high part of a product, so that consecutive numbers and numbers with equal endings spread as random ones do.
-fn bucket(size: usize, number: u32) -> usize
-    requires { ⌜ 0 < size ⌝ }
-    requires { ⌜ size ≤ mostRecords ⌝ }
-    ensures { λ r. ⌜ r ≡ bucketOf size number ⌝ }
-    ensures { λ r. ⌜ r < size ⌝ }
-{
-    let spread = number as usize * 2654435761 % 4294967296;
-    spread * size / 4294967296
 }
 
 fn wide(x: u32) -> usize

@@ -6,15 +6,15 @@ use mathlib.Core.Bool.{Bool, true, false, cond}
 use Prim.Native.Nat.{ℕ, zero, suc, _+_, _-_, _≤_, _<_}
 use native.Mathlib.Nat.{add-sub-cancel-left}
 use native.Mathlib.Omega.{arith}
-use lib.ListN.{length, getD, take, drop, length-drop, length-take}
+use lib.ListN.{length, getD, take, drop, length-take}
 use lib.Seq.{length-take-le}
 use lib.Dec.{eqb}
 use borrow.Author.Tests.{ne-eqb, leb-true}
 use borrow.Author.Needs.{needs}
-use Rattle.base.specs.Lists.{every}
 use Rattle.base.proofs.Laws.{clash, drop-next, tests}
 use Rattle.base.proofs.Loops.{and-true}
-use Rattle.columns.specs.Columns.{padTo, columns, column, isDigit}
+use Rattle.columns.specs.Columns.{column, isDigit}
+use Rattle.columns.proofs.Laws.{every-long}
 use Rattle.lines.specs.Lines.{toLF, noCR, cutAt}
 use Rattle.lines.proofs.Pieces.{toLF-le, noCR-take, one-beyond}
 use Rattle.forms.specs.Form.{formOf}
@@ -95,15 +95,6 @@ formed-fits : (g : Form) (t : Told) → isFormed (formed g t) ≡ true → g ≡
 formed-fits Fits t e = refl
 formed-fits (BrokenForm c) t e = clash e
 
--- a mark in column 59
-mark-long : (text : List ℕ) → every (λ (b : ℕ). eqb b 37) (columns 59 59 text) ≡ true → 59 ≤ length text
-unfolding columns padTo every
-mark-long text e = go (drop 58 text) refl e
-  where
-    go : (l : List ℕ) → drop 58 text ≡ l → every (λ (b : ℕ). eqb b 37) (padTo 1 l) ≡ true → 59 ≤ length text
-    go [] q v = clash v
-    go (b ∷ l) q v = omega (arith, ap length q, length-drop 58 text)
-
 pub again-reaching : (f : List ℕ) (at n : ℕ) (opening : Opening) (e m : ℕ) (k : Counts) (calls ranges : List ℕ) → Passed f at n opening e m k calls ranges
     → e < length f → Sound (serviceLinesAt f at n) → Reaching f e
 again-reaching f at n opening e m k calls ranges p h s = record {
@@ -112,7 +103,7 @@ again-reaching f at n opening e m k calls ranges p h s = record {
       let q : kindOf text ≡ Schedule = digit-kind text (getD f e 0) (digit-first f e m h d) d in
       let g : isFormed (toldIn text) ≡ true = again-formed f at n opening e m k calls ranges p (cutAt f e m) (kindOf text) (isOpening (kindOf text)) h refl refl refl (ap isOpening q) s in
       let z : toldIn text ≡ formed (formOf callColumns text) (Calls (callIn text)) = told-own text Schedule (sym q) refl in
-      text-reaches f e m h d (mark-long text (row-holds callColumns text 7 (formed-fits (formOf callColumns text) (Calls (callIn text)) (ap isFormed (sym z) ∙ g))));
+      text-reaches f e m h d (every-long (λ (b : ℕ). eqb b 37) refl 59 59 text (omega arith) (omega arith) (row-holds callColumns text 7 (formed-fits (formOf callColumns text) (Calls (callIn text)) (ap isFormed (sym z) ∙ g))));
 }
 
 -- ---- t is whether the line begins with a digit

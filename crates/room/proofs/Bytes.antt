@@ -11,6 +11,7 @@ use Rattle.base.specs.Lists.{every}
 use Rattle.base.proofs.Laws.{clash}
 use Rattle.base.proofs.Loops.{and-true}
 use Rattle.columns.specs.Columns.{padTo, columns, isBlank, isDigit, blank, digits, count, countTo}
+use Rattle.columns.proofs.Laws.{blank-past, every-reaches}
 use Rattle.forms.specs.Form.{FieldRule, formOf}
 use Rattle.forms.specs.declared.Form.{Form}
 use Rattle.forms.specs.declared.Form.the-variants.{Fits, Broken}
@@ -69,13 +70,6 @@ bytes-append (l ∷ a) b = let h = bytes-append a b in omega (arith, h)
 
 -- ---- fields that reach so far
 
--- a test that a blank fails holds of no column past the end
-every-reaches : (t : ℕ → Bool) → t 32 ≡ false → (w : ℕ) (l : List ℕ) → every t (padTo w l) ≡ true → w ≤ length l
-unfolding padTo every
-every-reaches t off zero l e = omega arith
-every-reaches t off (suc w) [] e = clash (sym (rw off) ∙ e)
-every-reaches t off (suc w) (b ∷ l) e = let h = every-reaches t off w l (and-true (t b) (every t (padTo w l)) e .1) in omega (arith, h)
-
 count-reaches : (w : ℕ) (l : List ℕ) → count (padTo w l) ≡ true → w ≤ length l
 unfolding padTo count every
 count-reaches zero l e = omega arith
@@ -86,18 +80,9 @@ count-reaches (suc w) (b ∷ l) e = go (isBlank b) e (count-reaches w l)
     go true h more = let k = more h in omega (arith, k)
     go false h more = let k = every-reaches isDigit refl w l (and-true (isDigit b) (every isDigit (padTo w l)) h .1) in omega (arith, k)
 
-blank-past : (w : ℕ) → blank (padTo w []) ≡ true
-unfolding padTo every
-blank-past zero = refl
-blank-past (suc w) = blank-past w
-
 -- ---- a form that asks for it
 
 -- the rules of a line's form that reach so far
-pub every-long : (t : ℕ → Bool) → t 32 ≡ false → (a b : ℕ) (line : List ℕ) → 1 ≤ a → a ≤ b → every t (columns a b line) ≡ true → b ≤ length line
-unfolding columns
-every-long t off a b line h1 h2 e = let k = every-reaches t off (b - (a - 1)) (drop (a - 1) line) e in let d = length-drop (a - 1) line in omega (arith, k, d, h1, h2)
-
 pub count-long : (m a b : ℕ) (line : List ℕ) → 1 ≤ a → a ≤ b → countTo m (columns a b line) ≡ true → b ≤ length line
 unfolding columns
 count-long m a b line h1 h2 e =

@@ -9,6 +9,7 @@ use lib.Dec.{eqb}
 use Rattle.base.specs.Lists.{All, nil, cons, every, countIf, gathered}
 use Rattle.base.proofs.Laws.{apart}
 use Rattle.columns.specs.Columns.{columns}
+use Rattle.columns.proofs.Laws.{every-long}
 use Rattle.forms.specs.Form.{FieldRule, formOf}
 use Rattle.forms.specs.Columns.{serviceColumns, frequencyColumns, categoryColumns, attributeColumns, callColumns}
 use Rattle.forms.specs.Kinds.{kindOf}
@@ -35,7 +36,7 @@ use Rattle.whole_runs.proofs.Lines.{nothing-dropped}
 use Rattle.whole_runs.proofs.Right.{right}
 use Rattle.whole_runs.proofs.Text.{blocks-whole}
 use Rattle.room.specs.Room.{planLeast, planLineSize}
-use Rattle.room.proofs.Bytes.{bytesOf, bytes-append, every-long}
+use Rattle.room.proofs.Bytes.{bytesOf, bytes-append}
 
 -- ---- a line
 

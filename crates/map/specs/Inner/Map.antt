@@ -1,10 +1,11 @@
 -- A look-up map in words, four for each record. Assumes nothing.
-use Prim.Native.Nat.{ℕ, zero, suc, _+_, _*_, _/_, _%_, _≤_, _<_}
+use Prim.Native.Nat.{ℕ, zero, suc, _+_, _*_, _/_, _≤_, _<_}
 use mathlib.Core.Path.{_≡_}
 use mathlib.Core.List.{List, [], _∷_, _++_}
 use mathlib.Core.Bool.{Bool, cond}
 use lib.ListN.{length, getD}
 use lib.Dec.{eqb}
+use Rattle.chains.specs.Chains.{bucketOf}
 use Rattle.map.specs.declared.Found.{Found}
 use Rattle.map.specs.declared.Found.the-variants.{At, Nowhere}
 
@@ -17,10 +18,6 @@ mapRecordSize = 4
 -- the values of a word
 abbrev pub wordValues : ℕ
 wordValues = 4294967296
-
--- as many records as fill the words that a word can count
-abbrev pub mostRecords : ℕ
-mostRecords = 1073741824
 
 -- ---- what is asked
 
@@ -53,10 +50,6 @@ numbersIn n m = column 1 n m
 
 abbrev pub placesIn : ℕ → List ℕ → List ℕ
 placesIn n m = column 2 n m
-
--- the bucket of a number, of so many
-unfoldable pub bucketOf : ℕ → ℕ → ℕ
-bucketOf size number = number * 2654435761 % 4294967296 * size / 4294967296
 
 abbrev pub inBucket : ℕ → ℕ → ℕ → Bool
 inBucket size b x = eqb (bucketOf size x) b
