@@ -12,25 +12,25 @@ use Rattle.base.proofs.Loops.{and-true}
 use Rattle.lines.specs.Lines.{Line, linesOf, linesAt, cutAt}
 use Rattle.words.specs.Words.{write}
 use Rattle.words.proofs.Laws.{write-none, write-write}
-use Rattle.timetable.specs.Layout.{mostFileBytes, serviceHead}
+use Rattle.timetable.specs.Layout.{mostFileBytes}
 use Rattle.timetable.specs.Delivery.{StopRecord, Service}
 use Rattle.timetable.specs.Service.{blocks, serviceOf}
 use Rattle.timetable.specs.Checks.{headFirst}
 use Rattle.timetable.specs.Table.{serviceWords, pointing}
+use Rattle.timetable.specs.declared.Call.{Call}
 use Rattle.timetable.specs.declared.Offence.{Offence}
 use Rattle.timetable.specs.declared.Opening.{Opening}
-use Rattle.timetable.proofs.Records.{service-length}
-use Rattle.draft.specs.Inner.Draft.{draftCall, draftRange, mostRanges, callsLent, rangesLent, countsOf, ranges#}
+use Rattle.timetable.specs.declared.RangeLine.{RangeLine}
+use Rattle.draft.specs.Inner.Draft.{callsLent, rangesLent, countsOf, ranges#, Within, callsIn, rangesIn, draftedService}
 use Rattle.draft.specs.declared.Drafted.{Drafted}
-use Rattle.draft.proofs.Drafts.{draft-service, ranges-within}
+use Rattle.draft.proofs.Drafts.{draft-service}
 use Rattle.reading.specs.Inner.Reading.{serviceLinesAt, Boundary, Sound, allFormed, ServiceRead, HeadClear, HeadAs}
 use Rattle.reading.specs.declared.Head.{Head}
 use Rattle.reading.specs.declared.Head.the-variants.{Clear, Stray}
 use Rattle.reading.proofs.Heads.{after, service-here, services-none}
-use Rattle.service_words.specs.Inner.Parts.{serviceIn, sizesOf}
-use Rattle.service_words.specs.declared.Sizes.{Sizes}
+use Rattle.service_words.specs.Inner.Parts.{placedIn}
+use Rattle.service_words.proofs.Record.{pointed-size}
 use Rattle.service.specs.Inner.Answers.{ServiceTaken}
-use Rattle.stop_places.proofs.Laws.{pointed-size, calls-inside, pointed-written}
 use Rattle.plan.specs.Inner.Services.{blockWords, placedWords, countsWithin, allSound}
 use Rattle.plan.proofs.Within.{within-says}
 use Rattle.plan.proofs.Sizes.{words-fit}
@@ -81,54 +81,47 @@ module _ (f : List ℕ) (at n : ℕ) (b : Boundary f at n) (h : at < length f) w
   pub here-room : (to q l : ℕ) → to + length (blockWords (blocks (linesAt f at n))) ≡ q → q ≤ l → to + length (serviceWords (serviceOf (serviceLinesAt f at n))) ≤ l
   here-room to q l v r = omega (arith, v, r, here-words)
 
--- ---- the needs of `put_drafted`, for `search holding`: the draft that was read holds the service; m is how many ranges it has
+-- ---- the needs of `put_service`, for `search holding`: the draft that was read holds the service
 
 module _ (f : List ℕ) (at n : ℕ) (d : Drafted) (calls ranges : List ℕ) (s : ServiceRead f at n d calls ranges) where
-  pub calls-room : draftCall * d .counts .calls ≤ length calls
-  calls-room = omega (arith, s .draft .within .calls, s .draft .calls-lent)
+  pub within-read : Within (d .counts)
+  within-read = s .draft .within
 
-  pub ranges-count : ranges# (d .counts) ≤ mostRanges
-  ranges-count = ranges-within (d .counts) (s .draft .within)
+  pub calls-read : callsLent ≤ length calls
+  calls-read = s .draft .calls-lent
 
-  module _ (m : ℕ) (e : m ≡ ranges# (d .counts)) where
-    pub ranges-room : draftRange * m ≤ length ranges
-    ranges-room = omega (arith, e, ranges-count, s .draft .ranges-lent)
+  pub ranges-read : rangesLent ≤ length ranges
+  ranges-read = s .draft .ranges-lent
 
-    abbrev held : Service
-    held = serviceIn (d .opening) (d .line) (d .counts .calls) calls m ranges
+  service-is : draftedService (d .opening) (d .line) (callsIn (d .counts .calls) calls) (rangesIn (ranges# (d .counts)) ranges) ≡ serviceOf (serviceLinesAt f at n)
+  service-is =
+      let ls : List Line = serviceLinesAt f at n in
+      let cs : List Call = callsIn (d .counts .calls) calls in
+      let rs : List RangeLine = rangesIn (ranges# (d .counts)) ranges in
+      ap (λ (o : Opening). draftedService o (d .line) cs rs) (sym (s .opening))
+      ∙ (ap (λ (l : ℕ). draftedService (serviceOf ls .opening) l cs rs) (s .line ∙ sym (s .own-line)) ∙ draft-service ls (d .counts) calls ranges (s .draft))
 
-    service-is : held ≡ serviceOf (serviceLinesAt f at n)
-    service-is =
-        let ls : List Line = serviceLinesAt f at n in
-        ap (λ (k : ℕ). serviceIn (d .opening) (d .line) (d .counts .calls) calls k ranges) e
-        ∙ (ap (λ (o : Opening). serviceIn o (d .line) (d .counts .calls) calls (ranges# (d .counts)) ranges) (sym (s .opening))
-        ∙ (ap (λ (l : ℕ). serviceIn (serviceOf ls .opening) l (d .counts .calls) calls (ranges# (d .counts)) ranges) (s .line ∙ sym (s .own-line))
-        ∙ draft-service ls (d .counts) calls ranges (s .draft)))
+  module _ (stops : List StopRecord) where
+    held-is : placedIn stops d calls ranges ≡ pointing stops (serviceOf (serviceLinesAt f at n))
+    held-is = ap (pointing stops) service-is
 
-    pub held-room : (to l : ℕ) → to + length (serviceWords (serviceOf (serviceLinesAt f at n))) ≤ l → to + length (serviceWords held) ≤ l
-    held-room to l h = rw service-is h
+    held-size : length (serviceWords (placedIn stops d calls ranges)) ≡ length (serviceWords (serviceOf (serviceLinesAt f at n)))
+    held-size = ap (λ (x : Service). length (serviceWords x)) held-is ∙ pointed-size stops (serviceOf (serviceLinesAt f at n))
 
-    pub held-fits : Boundary f at n → at < length f → length (serviceWords held) ≤ 4294967295
-    held-fits b h = rw service-is (omega (arith, words-fit f at n (b .short), here-words f at n b h))
+    pub held-room : (to l : ℕ) → to + length (serviceWords (serviceOf (serviceLinesAt f at n))) ≤ l → to + length (serviceWords (placedIn stops d calls ranges)) ≤ l
+    held-room to l h = rw held-size h
 
-    pub held-taken : (z : Sizes) → z ≡ sizesOf held → ServiceTaken f at n (z .words) (d .end) (d .no)
-    held-taken z i = record { size = rw (i, service-is) refl; services = s .services; past = s .past; next = s .next }
+    pub held-fits : Boundary f at n → at < length f → length (serviceWords (placedIn stops d calls ranges)) ≤ 4294967295
+    held-fits b h = rw held-size (omega (arith, words-fit f at n (b .short), here-words f at n b h))
 
-    pub held-calls : (z : Sizes) → z ≡ sizesOf held → z .calls ≡ length (serviceOf (serviceLinesAt f at n) .calls)
-    held-calls z i = rw (i, service-is) refl
+    pub held-taken : (w : ℕ) → w ≡ length (serviceWords (placedIn stops d calls ranges)) → ServiceTaken f at n w (d .end) (d .no)
+    held-taken w i = record { size = i ∙ held-size; services = s .services; past = s .past; next = s .next }
 
-    pub held-written : (t t′ : List ℕ) (to : ℕ) → t′ ≡ write t to (serviceWords held) → t′ ≡ write t to (serviceWords (serviceOf (serviceLinesAt f at n)))
-    held-written t t′ to x = rw service-is at x
+    pub held-written : (t t′ : List ℕ) (to : ℕ) → t′ ≡ write t to (serviceWords (placedIn stops d calls ranges))
+        → t′ ≡ write t to (serviceWords (pointing stops (serviceOf (serviceLinesAt f at n))))
+    held-written t t′ to x = rw held-is at x
 
-pub ruleset holding = (tests, calls-room, ranges-count, ranges-room, held-room, held-fits, held-taken, held-calls, held-written)
-
--- ---- the needs of `put_service`, for `search pointed`: s is the service, whose words were written
-
--- where its calls begin
-pub calls-place : (to l : ℕ) (s : Service) → to + length (serviceWords s) ≤ l → l < 2 ^ 64 → to + serviceHead < 2 ^ 64
-calls-place to l s h k = omega (arith, h, k, service-length s)
-
-pub ruleset pointed = (tests, calls-place, calls-inside, pointed-written, len-trans)
+pub ruleset holding = (tests, within-read, calls-read, ranges-read, held-room, held-fits, held-taken, held-written)
 
 -- ---- a walk from service to service: the service that begins at place `at` takes w words
 

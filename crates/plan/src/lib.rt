@@ -2,7 +2,6 @@
 use reading::Head;
 use service::ServiceCheck;
 use timetable::Checked;
-use timetable::SERVICE_WORDS;
 ghost use mathlib.Core.Path.{_≡_};
 ghost use mathlib.Core.Bool.{true};
 ghost use mathlib.Core.Option.{none};
@@ -122,11 +121,10 @@ fn check_services(
     Checked::Holds(count, total)
 }
 
-// A service that was written: the words that it took, its calls, and where the next service begins (the place and the number of its opening line, or of the
-// file's end).
+// A service that was written: the words that it took, and where the next service begins (the place and the number of its opening line, or of the file's
+// end).
 struct Put {
     pub words: u32,
-    pub calls: u32,
     pub end: usize,
     pub no: u32,
 }
@@ -200,7 +198,7 @@ fn put_services(
     }
 }
 
-// Writes the words of the service that begins at a place, with line `no`: those of its draft, and then the places of its stops over their numbers.
+// Writes the words of the service that begins at a place, with line `no`.
 fn put_service(
     fplan: &[u8],
     at: usize,
@@ -221,46 +219,10 @@ fn put_service(
     ensures { λ r. ⌜ now (table .exit) ≡ write (now (table .entry)) to
         (serviceWords (pointing (stopsIn (now (bahnhof .entry))) (serviceOf (serviceLinesAt (now (fplan .entry)) at no)))) ⌝ }
 {
-    let put = put_drafted(fplan, at, no, calls, ranges, table, to);
-    stop_places::point_calls(bahnhof, stops, table, to + SERVICE_WORDS, put.calls);
-    put
-}
-
-// Writes the words of its draft, where a call has its stop's number.
-fn put_drafted(
-    fplan: &[u8],
-    at: usize,
-    no: u32,
-    calls: &mut [u32],
-    ranges: &mut [u32],
-    table: &mut [u32],
-    to: usize,
-) -> Put
-    requires { ⌜ Boundary (now fplan) at no × (at < length (now fplan)) ⌝ }
-    requires { ⌜ Sound (serviceLinesAt (now fplan) at no) ⌝ }
-    requires { ⌜ (callsLent ≤ length (now calls)) × (rangesLent ≤ length (now ranges)) ⌝ }
-    requires { ⌜ to + length (serviceWords (serviceOf (serviceLinesAt (now fplan) at no))) ≤ length (now table) ⌝ }
-    ensures { λ r. ⌜ ServiceTaken (now (fplan .entry)) at no (r .words) (r .end) (r .no) ⌝ }
-    ensures { λ r. ⌜ r .calls ≡ length (serviceOf (serviceLinesAt (now (fplan .entry)) at no) .calls) ⌝ }
-    ensures { λ r. ⌜ now (table .exit) ≡
-        write (now (table .entry)) to (serviceWords (serviceOf (serviceLinesAt (now (fplan .entry)) at no))) ⌝ }
-{
     let read = reading::read_again(fplan, at, no, calls, ranges);
-    let opening = read.opening;
-    let counts = read.counts;
-    let sizes = service_words::service_into(
-        opening,
-        read.line,
-        calls,
-        counts.calls,
-        ranges,
-        draft::range_count(counts),
-        table,
-        to,
-    );
+    let words = service_words::service_into(read, calls, ranges, bahnhof, stops, table, to);
     Put {
-        words: sizes.words,
-        calls: sizes.calls,
+        words,
         end: read.end,
         no: read.no,
     }

@@ -16,10 +16,10 @@ use Rattle.words.specs.Words.{write}
 use Rattle.words.proofs.Laws.{write-none, write-write, length-write}
 use Rattle.fields.specs.declared.RouteIndex.{RouteIndex}
 use Rattle.timetable.specs.Layout.{callSize}
-use Rattle.timetable.specs.Delivery.{Legs}
+use Rattle.timetable.specs.Delivery.{StopRecord, Legs}
 use Rattle.timetable.specs.Plan.{partNumber, isPart}
 use Rattle.timetable.specs.Service.{legsOn}
-use Rattle.timetable.specs.Table.{rowsIn, callWords}
+use Rattle.timetable.specs.Table.{stopPlace, rowsIn}
 use Rattle.timetable.specs.declared.Call.{Call}
 use Rattle.timetable.specs.declared.Part.{Part}
 use Rattle.timetable.specs.declared.Part.the-variants.{Category, Days, Extra}
@@ -29,7 +29,7 @@ use Rattle.draft.specs.Inner.Draft.{draftCall, draftRange, callBack, partBack, 
 use Rattle.route.specs.Inner.Route.{foundOf}
 use Rattle.route.specs.declared.RangeFound.{RangeFound}
 use Rattle.route.specs.declared.RangeFound.the-variants.{Between, Missing}
-use Rattle.service_words.specs.Inner.Parts.{rangeRowWords, foundWords, rangeGives, partWords, givenWords}
+use Rattle.service_words.specs.Inner.Parts.{placedCall, pointedWords, rangeRowWords, foundWords, rangeGives, partWords, givenWords}
 use Rattle.service_words.specs.declared.Given.{Given}
 use Rattle.service_words.specs.declared.Given.the-variants.{Nothing, Three, Four}
 
@@ -69,14 +69,14 @@ module _ (vs rest all t t₀ : List ℕ) (q m : ℕ) (e : all ≡ vs ++ rest) (l
 
 -- ---- the needs of `put_call`, for `search called`: four words, and three behind them
 
-module _ (t u : List ℕ) (q : ℕ) (c : Call) (room : q + callSize ≤ length t) (e : u ≡ write t q (c .stop ∷ c .arrival ∷ c .departure ∷ c .flags ∷ [])) where
+module _ (t u : List ℕ) (q stop : ℕ) (c : Call) (room : q + callSize ≤ length t) (e : u ≡ write t q (stop ∷ c .arrival ∷ c .departure ∷ c .flags ∷ [])) where
   abbrev four : List ℕ
-  four = c .stop ∷ c .arrival ∷ c .departure ∷ c .flags ∷ []
+  four = stop ∷ c .arrival ∷ c .departure ∷ c .flags ∷ []
 
   pub call-rest : q + 4 + 3 ≤ length u
   call-rest = rw (e, length-write t q four (omega arith)) (omega arith)
 
-  pub seven-put : (v : List ℕ) → v ≡ write u (q + 4) (c .number ∷ c .high ∷ c .low ∷ []) → v ≡ write t q (callWords c)
+  pub seven-put : (v : List ℕ) → v ≡ write u (q + 4) (c .number ∷ c .high ∷ c .low ∷ []) → v ≡ write t q (placedCall stop c)
   seven-put v f = f ∙ rw e (write-write t q four (c .number ∷ c .high ∷ c .low ∷ []) (omega arith))
 
 pub ruleset called = (tests, call-rest, seven-put)
@@ -84,37 +84,45 @@ pub ruleset called = (tests, call-rest, seven-put)
 -- ---- the loop of `calls_into`, for `search calling`
 
 -- the words of the calls from the i-th of c on, which is drafted at place p
-abbrev pub callsLeft : ℕ → ℕ → ℕ → List ℕ → List ℕ
-callsLeft c i p w = gathered callWords (rowsIn (λ (u : List ℕ). callBack u .1) draftCall (c - i) (drop p w))
+abbrev pub callsLeft : List StopRecord → ℕ → ℕ → ℕ → List ℕ → List ℕ
+callsLeft stops c i p w = gathered (pointedWords stops) (rowsIn (λ (u : List ℕ). callBack u .1) draftCall (c - i) (drop p w))
 
-pub calls-count : (c q : ℕ) (w : List ℕ) → q + length (callsLeft c 0 0 w) ≡ q + length (gathered callWords (callsIn c w))
-calls-count c q w = ap (λ (vs : List ℕ). q + length vs) (row-start (λ (u : List ℕ). callBack u .1) draftCall callWords w c)
+pub calls-count : (stops : List StopRecord) (c q : ℕ) (w : List ℕ) → q + length (callsLeft stops c 0 0 w) ≡ q + length (gathered (pointedWords stops) (callsIn c w))
+calls-count stops c q w = ap (λ (vs : List ℕ). q + length vs) (row-start (λ (u : List ℕ). callBack u .1) draftCall (pointedWords stops) w c)
 
-pub calls-start : (c q : ℕ) (w t : List ℕ) → write t q (callsLeft c 0 0 w) ≡ write t q (gathered callWords (callsIn c w))
-calls-start c q w t = ap (write t q) (row-start (λ (u : List ℕ). callBack u .1) draftCall callWords w c)
+pub calls-start : (stops : List StopRecord) (c q : ℕ) (w t : List ℕ) → write t q (callsLeft stops c 0 0 w) ≡ write t q (gathered (pointedWords stops) (callsIn c w))
+calls-start stops c q w t = ap (write t q) (row-start (λ (u : List ℕ). callBack u .1) draftCall (pointedWords stops) w c)
 
-module _ (c i p q m : ℕ) (w : List ℕ) where
-  module _ (h : i < c) (t t₀ : List ℕ) (len : length t ≡ length t₀) (count : q + length (callsLeft c i p w) ≡ m) (room : m ≤ length t₀) where
-    call-turn : callsLeft c i p w ≡ callWords (callBack (drop p w) .1) ++ callsLeft c (i + 1) (p + draftCall) w
-    call-turn = row-turn (λ (u : List ℕ). callBack u .1) draftCall callWords w c i p h (callWords (callBack (drop p w) .1)) refl
+module _ (stops : List StopRecord) (c i p q m : ℕ) (w : List ℕ) where
+  module _ (h : i < c) (t t₀ : List ℕ) (len : length t ≡ length t₀) (count : q + length (callsLeft stops c i p w) ≡ m) (room : m ≤ length t₀) where
+    abbrev own : List ℕ
+    own = pointedWords stops (callBack (drop p w) .1)
+
+    abbrev others : List ℕ
+    others = callsLeft stops c (i + 1) (p + draftCall) w
+
+    call-turn : callsLeft stops c i p w ≡ own ++ others
+    call-turn = row-turn (λ (u : List ℕ). callBack u .1) draftCall (pointedWords stops) w c i p h own refl
 
     pub call-room : q + callSize ≤ length t
-    call-room = run-room (callWords (callBack (drop p w) .1)) (callsLeft c (i + 1) (p + draftCall) w) (callsLeft c i p w) t t₀ q m call-turn len count room
+    call-room = run-room own others (callsLeft stops c i p w) t t₀ q m call-turn len count room
 
-    pub call-count : q + callSize + length (callsLeft c (i + 1) (p + draftCall) w) ≡ m
-    call-count = run-count (callWords (callBack (drop p w) .1)) (callsLeft c (i + 1) (p + draftCall) w) (callsLeft c i p w) t t₀ q m call-turn len count
+    pub call-count : q + callSize + length (callsLeft stops c (i + 1) (p + draftCall) w) ≡ m
+    call-count = run-count own others (callsLeft stops c i p w) t t₀ q m call-turn len count
 
-    pub call-again : (call : Call) (t′ r : List ℕ) → call ≡ callBack (drop p w) .1 → t′ ≡ write t q (callWords call)
-        → write t q (callsLeft c i p w) ≡ r → write t′ (q + callSize) (callsLeft c (i + 1) (p + draftCall) w) ≡ r
-    call-again call t′ r d z v =
-        run-again (callWords (callBack (drop p w) .1)) (callsLeft c (i + 1) (p + draftCall) w) (callsLeft c i p w) t t₀ q m call-turn len count room t′ r (z ∙ ap (λ (x : Call). write t q (callWords x)) d) v
+    -- `stop` is the place of the call's stop
+    pub call-again : (call : Call) (stop : ℕ) (t′ r : List ℕ) → call ≡ callBack (drop p w) .1 → stop ≡ stopPlace (call .stop) stops → t′ ≡ write t q (placedCall stop call)
+        → write t q (callsLeft stops c i p w) ≡ r → write t′ (q + callSize) (callsLeft stops c (i + 1) (p + draftCall) w) ≡ r
+    call-again call stop t′ r d e z v =
+        let here : t′ ≡ write t q own = z ∙ (ap (λ (k : ℕ). write t q (placedCall k call)) e ∙ ap (λ (x : Call). write t q (pointedWords stops x)) d) in
+        run-again own others (callsLeft stops c i p w) t t₀ q m call-turn len count room t′ r here v
 
   module _ (h : c ≤ i) where
-    pub calls-last : q + length (callsLeft c i p w) ≡ m → q ≡ m
-    calls-last v = sym (add-zero q) ∙ (rw (no-rows (λ (u : List ℕ). callBack u .1) draftCall callWords w c i p h) at v)
+    pub calls-last : q + length (callsLeft stops c i p w) ≡ m → q ≡ m
+    calls-last v = sym (add-zero q) ∙ (rw (no-rows (λ (u : List ℕ). callBack u .1) draftCall (pointedWords stops) w c i p h) at v)
 
-    pub calls-done : (t r : List ℕ) → write t q (callsLeft c i p w) ≡ r → t ≡ r
-    calls-done t r v = sym (write-none t q) ∙ (rw (no-rows (λ (u : List ℕ). callBack u .1) draftCall callWords w c i p h) at v)
+    pub calls-done : (t r : List ℕ) → write t q (callsLeft stops c i p w) ≡ r → t ≡ r
+    calls-done t r v = sym (write-none t q) ∙ (rw (no-rows (λ (u : List ℕ). callBack u .1) draftCall (pointedWords stops) w c i p h) at v)
 
 pub ruleset calling = (tests, len-trans, calls-count, calls-start, call-room, call-count, call-again, calls-last, calls-done)
 

@@ -1,30 +1,34 @@
 -- A service's words as the code writes them: its calls, the parts after them, its head. Assumes nothing.
 use mathlib.Core.Path.{_≡_, refl, sym, ap, _∙_}
-use mathlib.Core.List.{List, [], _∷_, _++_, append-nil}
+use mathlib.Core.List.{List, [], _∷_, _++_, map, append-nil}
 use mathlib.Core.Bool.{Bool, true, false, cond}
 use mathlib.Core.Option.{Option, none, some}
 use Prim.Native.Nat.{ℕ, _+_, _-_, _*_, _/_, _≤_}
 use native.Mathlib.Omega.{arith}
-use lib.ListN.{length, length-append}
+use lib.ListN.{length, length-append, length-map}
 use Rattle.base.specs.Lists.{gathered}
 use Rattle.base.proofs.Laws.{tests}
 use Rattle.base.proofs.Lists.{gathered-append}
 use Rattle.words.specs.Words.{write}
 use Rattle.words.proofs.Laws.{write-write, write-before}
 use Rattle.timetable.specs.Layout.{serviceHead, callSize, categorySize, daySize, extraSize}
-use Rattle.timetable.specs.Delivery.{Legs, CategoryRange, DayRange, ExtraRange, Service}
+use Rattle.timetable.specs.Delivery.{StopRecord, Legs, CategoryRange, DayRange, ExtraRange, Service}
 use Rattle.timetable.specs.Plan.{isPart, ofPart}
 use Rattle.timetable.specs.Service.{legsOn, withLegs, categoryRange, dayRange, extraRange}
-use Rattle.timetable.specs.Table.{callWords, categoryWords, dayWords, extraWords, headWords, serviceWords}
+use Rattle.timetable.specs.Table.{stopPlace, withStop, pointing, callWords, categoryWords, dayWords, extraWords, headWords, serviceWords}
 use Rattle.timetable.specs.declared.Call.{Call}
 use Rattle.timetable.specs.declared.Opening.{Opening}
 use Rattle.timetable.specs.declared.Part.{Part}
 use Rattle.timetable.specs.declared.Part.the-variants.{Category, Days, Extra}
 use Rattle.timetable.specs.declared.RangeLine.{RangeLine}
 use Rattle.timetable.proofs.Rows.{all-any, any, length-gathered}
-use Rattle.draft.specs.Inner.Draft.{callsIn, partIn, draftedService}
+use Rattle.timetable.proofs.Records.{service-length}
+use Rattle.draft.specs.Inner.Draft.{draftCall, draftRange, mostRanges, callsLent, rangesLent, ranges#, Within, callsIn, rangesIn, partIn, draftedService}
+use Rattle.draft.specs.declared.Counts.{Counts}
+use Rattle.draft.specs.declared.Drafted.{Drafted}
+use Rattle.draft.proofs.Drafts.{ranges-within}
 use Rattle.route.proofs.Laws.{length-calls}
-use Rattle.service_words.specs.Inner.Parts.{foundWords, partWords, rangeWords, rangeEnds, bodyOf, sizesBy, sizesOf, headBy}
+use Rattle.service_words.specs.Inner.Parts.{pointedWords, foundWords, partWords, rangeWords, rangeEnds, bodyOf, sizesBy, sizesOf, headBy, placedIn}
 use Rattle.service_words.specs.declared.RangeEnds.{RangeEnds}
 use Rattle.service_words.specs.declared.Sizes.{Sizes}
 
@@ -70,10 +74,16 @@ module _ (cs : List Call) (rs : List RangeLine) where
       go r none = refl
       go r (some g) = refl
 
+-- ---- a service takes as many words with its stops' places as with their numbers
+
+pub pointed-size : (stops : List StopRecord) (s : Service) → length (serviceWords (pointing stops s)) ≡ length (serviceWords s)
+unfolding pointing
+pointed-size stops s = omega (arith, service-length (pointing stops s), service-length s, length-map (s .calls) (withStop (λ (n : ℕ). stopPlace n stops)))
+
 -- ---- how many words each takes
 
-calls-size : (cs : List Call) → length (gathered callWords cs) ≡ callSize * length cs
-calls-size cs = length-gathered callWords callSize any (λ x h. refl) (all-any cs)
+calls-size : (stops : List StopRecord) (cs : List Call) → length (gathered (pointedWords stops) cs) ≡ callSize * length cs
+calls-size stops cs = length-gathered (pointedWords stops) callSize any (λ x h. refl) (all-any cs)
 
 categories-size : (rs : List CategoryRange) → length (gathered categoryWords rs) ≡ categorySize * length rs
 categories-size rs = length-gathered categoryWords categorySize any (λ x h. refl) (all-any rs)
@@ -84,18 +94,23 @@ days-size rs = length-gathered dayWords daySize any (λ x h. refl) (all-any rs)
 extras-size : (rs : List ExtraRange) → length (gathered extraWords rs) ≡ extraSize * length rs
 extras-size rs = length-gathered extraWords extraSize any (λ x h. refl) (all-any rs)
 
--- ---- the words of a drafted service
+-- ---- the words of a drafted service, as the table has it
 
-module _ (o : Opening) (line : ℕ) (cs : List Call) (rs : List RangeLine) where
+calls-pointed : (stops : List StopRecord) (cs : List Call) → gathered callWords (map (withStop (λ (n : ℕ). stopPlace n stops)) cs) ≡ gathered (pointedWords stops) cs
+unfolding gathered
+calls-pointed stops [] = refl
+calls-pointed stops (c ∷ cs) = ap (λ (vs : List ℕ). pointedWords stops c ++ vs) (calls-pointed stops cs)
+
+module _ (stops : List StopRecord) (o : Opening) (line : ℕ) (cs : List Call) (rs : List RangeLine) where
   abbrev s : Service
-  s = draftedService o line cs rs
+  s = pointing stops (draftedService o line cs rs)
 
-  head-and-body : serviceWords s ≡ headWords s ++ bodyOf cs rs
-  unfolding serviceWords draftedService
-  head-and-body = rw (categories-part cs rs, days-part cs rs, extras-part cs rs) refl
+  head-and-body : serviceWords s ≡ headWords s ++ bodyOf stops cs rs
+  unfolding serviceWords pointing draftedService
+  head-and-body = rw (calls-pointed stops cs, categories-part cs rs, days-part cs rs, extras-part cs rs) refl
 
-  words-size : length (serviceWords s) ≡ serviceHead + length (bodyOf cs rs)
-  words-size = ap length head-and-body ∙ length-append (headWords s) (bodyOf cs rs)
+  words-size : length (serviceWords s) ≡ serviceHead + length (bodyOf stops cs rs)
+  words-size = ap length head-and-body ∙ length-append (headWords s) (bodyOf stops cs rs)
 
   three : (v m : ℕ) → v ≡ 3 * m → v / 3 ≡ m
   three v m e = omega arith
@@ -103,64 +118,88 @@ module _ (o : Opening) (line : ℕ) (cs : List Call) (rs : List RangeLine) where
   four : (v m : ℕ) → v ≡ 4 * m → v / 4 ≡ m
   four v m e = omega arith
 
+  calls-count : length (s .calls) ≡ length cs
+  unfolding pointing draftedService
+  calls-count = length-map cs (withStop (λ (n : ℕ). stopPlace n stops))
+
   categories-count : length (partWords Category cs rs) ≡ categorySize * length (s .categories)
-  unfolding draftedService
+  unfolding pointing draftedService
   categories-count = ap length (sym (categories-part cs rs)) ∙ categories-size (s .categories)
 
   days-count : length (partWords Days cs rs) ≡ daySize * length (s .days)
-  unfolding draftedService
+  unfolding pointing draftedService
   days-count = ap length (sym (days-part cs rs)) ∙ days-size (s .days)
 
   extras-count : length (partWords Extra cs rs) ≡ extraSize * length (s .extras)
-  unfolding draftedService
+  unfolding pointing draftedService
   extras-count = ap length (sym (extras-part cs rs)) ∙ extras-size (s .extras)
 
-  sizes-told : sizesBy cs rs ≡ sizesOf s
-  unfolding draftedService
+  sizes-told : sizesBy stops cs rs ≡ sizesOf s
   sizes-told =
       rw (
         three (length (partWords Category cs rs)) (length (s .categories)) categories-count,
         three (length (partWords Days cs rs)) (length (s .days)) days-count,
         four (length (partWords Extra cs rs)) (length (s .extras)) extras-count,
         words-size,
+        calls-count,
       ) refl
 
   head-told : headBy (sizesOf s) o line ≡ headWords s
-  unfolding draftedService
-  head-told =
-      let e : length (serviceWords s) ≡ serviceHead + callSize * length (s .calls) + categorySize * length (s .categories) + daySize * length (s .days) + extraSize * length (s .extras) =
-      omega (
-        arith,
-        words-size,
-        calls-size cs,
-        categories-count,
-        days-count,
-        extras-count,
-        length-append (gathered callWords cs) (rangeWords cs rs),
-        length-append (partWords Category cs rs) (partWords Days cs rs ++ partWords Extra cs rs),
-        length-append (partWords Days cs rs) (partWords Extra cs rs),
-      ) in
-      rw e refl
+  unfolding pointing draftedService
+  head-told = rw (service-length s) refl
 
-  module _ (t : List ℕ) (q : ℕ) (room : q + length (serviceWords s) ≤ length t) where
-    pub room-body : q + serviceHead + length (bodyOf cs rs) ≤ length t
-    room-body = omega (arith, words-size)
+-- ---- the needs of `service_into`, for `search services`
+
+module _ (k : Counts) (h : Within k) where
+  pub count-ranges : ranges# k ≤ mostRanges
+  count-ranges = ranges-within k h
+
+  pub lent-calls : (calls : List ℕ) → callsLent ≤ length calls → draftCall * k .calls ≤ length calls
+  lent-calls calls l = omega (arith, h .calls)
+
+  pub lent-ranges : (ranges : List ℕ) (n : ℕ) → rangesLent ≤ length ranges → n ≡ ranges# k → draftRange * n ≤ length ranges
+  lent-ranges ranges n l e = omega (arith, count-ranges)
+
+-- the draft d holds n ranges; t is lent, and has room for the words from place q on
+module _ (stops : List StopRecord) (d : Drafted) (calls ranges : List ℕ) where
+  abbrev held : Service
+  held = placedIn stops d calls ranges
+
+  abbrev body : ℕ → List ℕ
+  body n = bodyOf stops (callsIn (d .counts .calls) calls) (rangesIn n ranges)
+
+  abbrev told : ℕ → Sizes
+  told n = sizesBy stops (callsIn (d .counts .calls) calls) (rangesIn n ranges)
+
+  held-size : (n : ℕ) → n ≡ ranges# (d .counts) → length (serviceWords held) ≡ serviceHead + length (body n)
+  held-size n e = words-size stops (d .opening) (d .line) (callsIn (d .counts .calls) calls) (rangesIn (ranges# (d .counts)) ranges) ∙ ap (λ (m : ℕ). serviceHead + length (body m)) (sym e)
+
+  module _ (t : List ℕ) (q : ℕ) (room : q + length (serviceWords held) ≤ length t) where
+    pub room-body : (n : ℕ) → n ≡ ranges# (d .counts) → q + serviceHead + length (body n) ≤ length t
+    room-body n e = omega (arith, held-size n e)
 
     pub room-head : (t₁ : List ℕ) → length t₁ ≡ length t → q + serviceHead ≤ length t₁
-    room-head t₁ l = omega (arith, words-size)
+    room-head t₁ l = omega (arith, held-size (ranges# (d .counts)) refl)
 
-    pub service-written : (t₁ t₂ : List ℕ) (z : Sizes) → t₁ ≡ write t (q + serviceHead) (bodyOf cs rs) → z ≡ sizesBy cs rs → t₂ ≡ write t₁ q (headBy z o line) → t₂ ≡ write t q (serviceWords s)
-    service-written t₁ t₂ z e₁ ez e₂ =
-        e₂ ∙ ap (λ (z : Sizes). write t₁ q (headBy z o line)) (ez ∙ sizes-told) ∙ ap (write t₁ q) head-told ∙ rw e₁ (write-before t q (headWords s) (bodyOf cs rs) (room-head t refl)) ∙ ap (write t q) (sym head-and-body)
+    pub service-written : (t₁ t₂ : List ℕ) (n : ℕ) (z : Sizes) → n ≡ ranges# (d .counts) → t₁ ≡ write t (q + serviceHead) (body n) → z ≡ told n → t₂ ≡ write t₁ q (headBy z (d .opening) (d .line))
+        → t₂ ≡ write t q (serviceWords held)
+    service-written t₁ t₂ n z e e₁ ez e₂ =
+        let cs : List Call = callsIn (d .counts .calls) calls in
+        let rs : List RangeLine = rangesIn (ranges# (d .counts)) ranges in
+        let sizes : z ≡ sizesOf held = ez ∙ (ap told e ∙ sizes-told stops (d .opening) (d .line) cs rs) in
+        let behind : t₁ ≡ write t (q + serviceHead) (bodyOf stops cs rs) = e₁ ∙ ap (λ (m : ℕ). write t (q + serviceHead) (body m)) e in
+        e₂
+        ∙ (ap (λ (z : Sizes). write t₁ q (headBy z (d .opening) (d .line))) sizes
+        ∙ (ap (write t₁ q) (head-told stops (d .opening) (d .line) cs rs)
+        ∙ (rw behind (write-before t q (headWords held) (bodyOf stops cs rs) (room-head t refl)) ∙ ap (write t q) (sym (head-and-body stops (d .opening) (d .line) cs rs)))))
 
-  pub service-sizes : (z : Sizes) → z ≡ sizesBy cs rs → z ≡ sizesOf s
-  service-sizes z e = e ∙ sizes-told
+  pub service-size : (n : ℕ) (z : Sizes) → n ≡ ranges# (d .counts) → z ≡ told n → z .words ≡ length (serviceWords held)
+  service-size n z e ez = ap (λ (z : Sizes). z .words) ez ∙ sym (held-size n e)
 
-  pub body-fits : length (serviceWords s) ≤ 4294967295 → serviceHead + length (bodyOf cs rs) ≤ 4294967295
-  body-fits h = omega (arith, words-size)
+  pub body-fits : (n : ℕ) → n ≡ ranges# (d .counts) → length (serviceWords held) ≤ 4294967295 → serviceHead + length (body n) ≤ 4294967295
+  body-fits n e h = omega (arith, held-size n e)
 
--- the needs of `service_into`
-pub ruleset services = (tests, room-body, room-head, body-fits, service-sizes, service-written)
+pub ruleset services = (tests, count-ranges, lent-calls, lent-ranges, room-body, room-head, body-fits, service-size, service-written)
 
 -- ---- the words of the head
 
@@ -210,11 +249,13 @@ pub ruleset ranging = (tests, room-first, room-middle, joined-three, range-ends)
 
 -- ---- the needs of `body_into`, for `search bodies`: g is where the ranges begin, r where they end
 
-body-count : (cs : List Call) (rs : List RangeLine)
-    → length (bodyOf cs rs) ≡ length (gathered callWords cs) + (length (partWords Category cs rs) + (length (partWords Days cs rs) + length (partWords Extra cs rs)))
-body-count cs rs = length-append (gathered callWords cs) (rangeWords cs rs) ∙ ap (λ (k : ℕ). length (gathered callWords cs) + k) (range-count cs rs)
+body-count : (stops : List StopRecord) (cs : List Call) (rs : List RangeLine)
+    → length (bodyOf stops cs rs) ≡ length (gathered (pointedWords stops) cs) + (length (partWords Category cs rs) + (length (partWords Days cs rs) + length (partWords Extra cs rs)))
+body-count stops cs rs =
+    length-append (gathered (pointedWords stops) cs) (rangeWords cs rs) ∙ ap (λ (k : ℕ). length (gathered (pointedWords stops) cs) + k) (range-count cs rs)
 
-module _ (c : ℕ) (w : List ℕ) (rs : List RangeLine) (q g : ℕ) (e : g ≡ q + length (gathered callWords (callsIn c w))) (r : RangeEnds) (k : r ≡ rangeEnds g (callsIn c w) rs) where
+module _ (stops : List StopRecord) (c : ℕ) (w : List ℕ) (rs : List RangeLine) (q g : ℕ) (e : g ≡ q + length (gathered (pointedWords stops) (callsIn c w))) (r : RangeEnds)
+    (k : r ≡ rangeEnds g (callsIn c w) rs) where
   abbrev cs : List Call
   cs = callsIn c w
 
@@ -234,18 +275,18 @@ module _ (c : ℕ) (w : List ℕ) (rs : List RangeLine) (q g : ℕ) (e : g ≡ q
   after-days = omega (arith, ends)
 
   pub body-sizes : (z : Sizes) → z ≡ record { calls = c; categories = (r .categories - g) / categorySize; «day_ranges» = (r .«day_ranges» - r .categories) / daySize; extras = (r .extras - r .«day_ranges») / extraSize; words = serviceHead + (r .extras - q) }
-      → z ≡ sizesBy (callsIn c w) rs
+      → z ≡ sizesBy stops (callsIn c w) rs
   body-sizes z d =
       let a : r .categories - g ≡ length (partWords Category cs rs) = omega (arith, ends) in
       let b : r .«day_ranges» - r .categories ≡ length (partWords Days cs rs) = omega (arith, ends) in
       let x : r .extras - r .«day_ranges» ≡ length (partWords Extra cs rs) = omega (arith, ends) in
-      let y : r .extras - q ≡ length (bodyOf cs rs) = omega (arith, ends, body-count cs rs) in
+      let y : r .extras - q ≡ length (bodyOf stops cs rs) = omega (arith, ends, body-count stops cs rs) in
       d ∙ rw (a, b, x, y, length-calls c w) refl
 
-pub body-ends : (cs : List Call) (rs : List RangeLine) (q g : ℕ) (r : RangeEnds) → r ≡ rangeEnds g cs rs → g ≡ q + length (gathered callWords cs) → serviceHead + length (bodyOf cs rs) ≤ 4294967295
-    → serviceHead + (r .extras - q) ≤ 4294967295
-body-ends cs rs q g r k e h =
+pub body-ends : (stops : List StopRecord) (cs : List Call) (rs : List RangeLine) (q g : ℕ) (r : RangeEnds) → r ≡ rangeEnds g cs rs → g ≡ q + length (gathered (pointedWords stops) cs)
+    → serviceHead + length (bodyOf stops cs rs) ≤ 4294967295 → serviceHead + (r .extras - q) ≤ 4294967295
+body-ends stops cs rs q g r k e h =
     let x : r .extras ≡ rangeEnds g cs rs .extras = ap (λ (r : RangeEnds). r .extras) k in
-    omega (arith, body-count cs rs)
+    omega (arith, body-count stops cs rs)
 
 pub ruleset bodies = (tests, room-first, room-second, joined, after-calls, after-start, after-categories, after-days, body-ends, body-sizes)

@@ -1,6 +1,8 @@
-// Writes a service's words from its draft: `calls` holds c drafted calls, `ranges` n drafted ranges; the words stand in `table` from `at` on.
+// Writes a service's words from its draft: `calls` holds c drafted calls, `ranges` n drafted ranges; the words stand in `table` from `at` on. A call is
+// written with the place of its stop (document 02, No. 10), which is found by `stops`, the map of BAHNHOF.
 use draft::DRAFT_CALL_WORDS;
 use draft::DRAFT_RANGE_WORDS;
+use draft::Drafted;
 use route::RangeFound;
 use timetable::Call;
 use timetable::Opening;
@@ -13,12 +15,15 @@ ghost use lib.ListN.{length, drop};
 ghost use Rattle.base.specs.Lists.{gathered};
 ghost use Rattle.words.specs.Words.{write};
 ghost use Rattle.timetable.specs.Layout.{serviceHead, callSize, categorySize, daySize, extraSize};
+ghost use Rattle.timetable.specs.Files.{stopsIn};
 ghost use Rattle.timetable.specs.Plan.{partNumber, isPart};
-ghost use Rattle.timetable.specs.Table.{callWords, serviceWords};
-ghost use Rattle.draft.specs.Inner.Draft.{draftCall, draftRange, partBack, lineBack, callsIn, rangesIn};
+ghost use Rattle.timetable.specs.Table.{serviceWords};
+ghost use Rattle.draft.specs.Inner.Draft.{draftCall, draftRange, callsLent, rangesLent, Within};
+ghost use Rattle.draft.specs.Inner.Draft.{partBack, lineBack, callsIn, rangesIn};
+ghost use Rattle.reading.specs.Inner.Maps.{StopMap};
 ghost use Rattle.service_words.specs.Inner.Parts.{rangeRowWords, rangeGives, partWords, rangeWords, rangeEnds};
-ghost use Rattle.service_words.specs.Inner.Parts.{bodyOf, sizesBy, givenWords};
-ghost use Rattle.service_words.specs.Inner.Parts.{headBy, sizesOf, serviceIn};
+ghost use Rattle.service_words.specs.Inner.Parts.{placedCall, pointedWords, bodyOf, sizesBy, givenWords};
+ghost use Rattle.service_words.specs.Inner.Parts.{headBy, placedIn};
 
 // What a range gives to a part of the service's words: nothing, or three or four words.
 enum Given {
@@ -28,7 +33,7 @@ enum Given {
 }
 
 // How many calls and ranges a service has, and how many words it takes.
-pub struct Sizes {
+struct Sizes {
     pub calls: u32,
     pub categories: u32,
     pub day_ranges: u32,
@@ -43,27 +48,33 @@ struct RangeEnds {
     pub extras: usize,
 }
 
-// Writes the words of a service: what its opening line says, that line's number, its calls and its ranges.
+// Writes the words of a drafted service: its head, its calls and its ranges. How many words they are.
 pub fn service_into(
-    opening: Opening,
-    line: u32,
+    d: Drafted,
     calls: &[u32],
-    c: u32,
     ranges: &[u32],
-    n: u32,
+    bahnhof: &[u8],
+    stops: &[u32],
     table: &mut [u32],
     at: usize,
-) -> Sizes
-    requires { ⌜ (draftCall * c ≤ length (now calls)) × (draftRange * n ≤ length (now ranges)) ⌝ }
-    requires { ⌜ at + length (serviceWords (serviceIn opening line c (now calls) n (now ranges))) ≤ length
-        (now table) ⌝ }
-    requires { ⌜ length (serviceWords (serviceIn opening line c (now calls) n (now ranges))) ≤ 4294967295 ⌝ }
-    ensures { λ r. ⌜ (r ≡ sizesOf (serviceIn opening line c (now (calls .entry)) n (now (ranges .entry)))) ×
-        (now (table .exit) ≡ write (now (table .entry)) at (serviceWords (serviceIn opening line c (now (calls .entry)) n (now (ranges .entry))))) ⌝ }
+) -> u32
+    requires { ⌜ Within (d .counts) × (callsLent ≤ length (now calls)) × (rangesLent ≤ length (now ranges)) ⌝ }
+    requires { ⌜ StopMap (now bahnhof) (now stops) ⌝ }
+    requires { ⌜ at + length (serviceWords (placedIn (stopsIn (now bahnhof)) d (now calls) (now ranges))) ≤
+        length (now table) ⌝ }
+    requires { ⌜ length (serviceWords (placedIn (stopsIn (now bahnhof)) d (now calls) (now ranges))) ≤ 4294967295 ⌝ }
+    ensures { λ r. ⌜ r ≡ length
+        (serviceWords (placedIn (stopsIn (now (bahnhof .entry))) d (now (calls .entry)) (now (ranges .entry)))) ⌝ }
+    ensures { λ _. ⌜ now (table .exit) ≡ write (now (table .entry)) at
+        (serviceWords (placedIn (stopsIn (now (bahnhof .entry))) d (now (calls .entry)) (now (ranges .entry)))) ⌝ }
 {
-    let sizes = body_into(calls, c, ranges, n, table, at + timetable::SERVICE_WORDS);
-    head_into(table, at, sizes, opening, line);
-    sizes
+    let counts = d.counts;
+    let n = draft::range_count(counts);
+    let body = at + timetable::SERVICE_WORDS;
+    let sizes = body_into(calls, counts.calls, ranges, n, bahnhof, stops, table, body);
+    let opening = d.opening;
+    head_into(table, at, sizes, opening, d.line);
+    sizes.words
 }
 
 // Writes the words at the front of a service.
@@ -98,31 +109,56 @@ fn head_into(table: &mut [u32], at: usize, sizes: Sizes, opening: Opening, line:
 }
 
 // Writes the calls and ranges of a service.
-fn body_into(calls: &[u32], c: u32, ranges: &[u32], n: u32, table: &mut [u32], at: usize) -> Sizes
+fn body_into(
+    calls: &[u32],
+    c: u32,
+    ranges: &[u32],
+    n: u32,
+    bahnhof: &[u8],
+    stops: &[u32],
+    table: &mut [u32],
+    at: usize,
+) -> Sizes
     requires { ⌜ (draftCall * c ≤ length (now calls)) × (draftRange * n ≤ length (now ranges)) ⌝ }
-    requires { ⌜ at + length (bodyOf (callsIn c (now calls)) (rangesIn n (now ranges))) ≤ length (now table) ⌝ }
-    requires { ⌜ serviceHead + length (bodyOf (callsIn c (now calls)) (rangesIn n (now ranges))) ≤ 4294967295 ⌝ }
-    ensures { λ r. ⌜ (r ≡ sizesBy (callsIn c (now (calls .entry))) (rangesIn n (now (ranges .entry)))) ×
-        (now (table .exit) ≡ write (now (table .entry)) at (bodyOf (callsIn c (now (calls .entry))) (rangesIn n (now (ranges .entry))))) ⌝ }
+    requires { ⌜ StopMap (now bahnhof) (now stops) ⌝ }
+    requires { ⌜ at + length (bodyOf (stopsIn (now bahnhof)) (callsIn c (now calls)) (rangesIn n (now ranges))) ≤
+        length (now table) ⌝ }
+    requires { ⌜ serviceHead + length (bodyOf (stopsIn (now bahnhof)) (callsIn c (now calls)) (rangesIn n (now ranges))) ≤
+        4294967295 ⌝ }
+    ensures { λ r. ⌜ r ≡
+        sizesBy (stopsIn (now (bahnhof .entry))) (callsIn c (now (calls .entry))) (rangesIn n (now (ranges .entry))) ⌝ }
+    ensures { λ _. ⌜ now (table .exit) ≡ write (now (table .entry)) at
+        (bodyOf (stopsIn (now (bahnhof .entry))) (callsIn c (now (calls .entry))) (rangesIn n (now (ranges .entry)))) ⌝ }
 {
-    let start = calls_into(calls, c, table, at);
+    let start = calls_into(calls, c, bahnhof, stops, table, at);
     let ends = ranges_into(ranges, n, calls, c, table, start);
     sizes_of(c, at, start, ends)
 }
 
-// Writes the calls; the place after them.
-fn calls_into(calls: &[u32], c: u32, table: &mut [u32], at: usize) -> usize
+// Writes the calls, each with the place of its stop; the place after them.
+fn calls_into(
+    calls: &[u32],
+    c: u32,
+    bahnhof: &[u8],
+    stops: &[u32],
+    table: &mut [u32],
+    at: usize,
+) -> usize
     requires { ⌜ draftCall * c ≤ length (now calls) ⌝ }
-    requires { ⌜ at + length (gathered callWords (callsIn c (now calls))) ≤ length (now table) ⌝ }
-    ensures { λ r. ⌜ (r ≡ at + length (gathered callWords (callsIn c (now (calls .entry))))) ×
-        (now (table .exit) ≡ write (now (table .entry)) at (gathered callWords (callsIn c (now (calls .entry))))) ⌝ }
+    requires { ⌜ StopMap (now bahnhof) (now stops) ⌝ }
+    requires { ⌜ at + length (gathered (pointedWords (stopsIn (now bahnhof))) (callsIn c (now calls))) ≤ length (now table) ⌝ }
+    ensures { λ r. ⌜ r ≡
+        at + length (gathered (pointedWords (stopsIn (now (bahnhof .entry)))) (callsIn c (now (calls .entry)))) ⌝ }
+    ensures { λ _. ⌜ now (table .exit) ≡ write (now (table .entry)) at
+        (gathered (pointedWords (stopsIn (now (bahnhof .entry)))) (callsIn c (now (calls .entry)))) ⌝ }
 {
     let mut i: u32 = 0;
     let mut place: usize = 0;
     let mut to = at;
     while i < c {
         let call = draft::call_at(calls, place);
-        put_call(table, to, call);
+        let stop = sections::stop_place(bahnhof, stops, call.stop);
+        put_call(table, to, stop, call);
         place += DRAFT_CALL_WORDS;
         to += timetable::CALL_WORDS;
         i += 1;
@@ -130,19 +166,12 @@ fn calls_into(calls: &[u32], c: u32, table: &mut [u32], at: usize) -> usize
     to
 }
 
-// Writes the words of a call.
-fn put_call(table: &mut [u32], at: usize, call: Call)
+// Writes the words of a call, with a place for its stop.
+fn put_call(table: &mut [u32], at: usize, stop: u32, call: Call)
     requires { ⌜ at + callSize ≤ length (now table) ⌝ }
-    ensures { λ _. ⌜ now (table .exit) ≡ write (now (table .entry)) at (callWords call) ⌝ }
+    ensures { λ _. ⌜ now (table .exit) ≡ write (now (table .entry)) at (placedCall stop call) ⌝ }
 {
-    words::put4(
-        table,
-        at,
-        call.stop,
-        call.arrival,
-        call.departure,
-        call.flags,
-    );
+    words::put4(table, at, stop, call.arrival, call.departure, call.flags);
     words::put3(table, at + 4, call.number, call.high, call.low);
 }
 

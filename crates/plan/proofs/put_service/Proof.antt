@@ -1,36 +1,33 @@
-use Rattle.base.proofs.Laws.{tests}
-use Rattle.plan.proofs.Putting.{pointed}
+use Rattle.plan.proofs.Putting.{holding}
 use Rattle.plan.proofs.put_service.Statement.{statement}
 use Rattle.plan.proofs.put_service.Tie as tie
 
-put-drafted-requires : tie.Need-put-drafted-requires
-put-drafted-requires c κs = search pointed
+read-again-requires : tie.Need-read-again-requires
+read-again-requires c κs = search holding
 
-add-point-calls : tie.Need-add-point-calls
-add-point-calls c = search pointed
-
-point-calls-requires : tie.Need-point-calls-requires
-point-calls-requires c κs = (search tests, search pointed)
+service-into-requires : tie.Need-service-into-requires
+service-into-requires c κs =
+    let room = c .before .before .before .before .before .before .before .before .before .before .before .before .before .before .before .before .pre .1 .1 .1 .1 in
+    ((search holding, search holding, search holding), (search holding, (search (holding, room), search holding)))
 
 same-length : tie.Need-same-length
-same-length c = search pointed
+same-length c = search holding
 
 same-length-2 : tie.Need-same-length-2
-same-length-2 c = search pointed
+same-length-2 c = search holding
 
 same-length-3 : tie.Need-same-length-3
-same-length-3 c = search pointed
+same-length-3 c = search holding
 
 returns : tie.Need-returns
-returns c = (search tests, search pointed)
+returns c = (search holding, search holding)
 
 pub put-service-spec : {M : Type 1} → statement M
 put-service-spec =
     tie.close
     (tie.spec
-    put-drafted-requires
-    add-point-calls
-    point-calls-requires
+    read-again-requires
+    service-into-requires
     same-length
     same-length-2
     same-length-3

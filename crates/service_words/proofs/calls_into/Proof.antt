@@ -3,26 +3,32 @@ use Prim.Native.Nat.{_+_, _*_, _-_}
 use lib.ListN.{length}
 use Rattle.base.specs.Lists.{gathered}
 use Rattle.words.specs.Words.{write}
-use Rattle.timetable.specs.Table.{callWords}
+use Rattle.timetable.specs.Files.{stopsIn}
 use Rattle.draft.specs.Inner.Draft.{draftCall, callsIn}
+use Rattle.reading.specs.Inner.Maps.{StopMap}
+use Rattle.service_words.specs.Inner.Parts.{pointedWords}
 use Rattle.service_words.proofs.Parts.{callsLeft, calling}
 use Rattle.service_words.proofs.calls_into.Statement.{statement}
 use Rattle.service_words.proofs.calls_into.Tie as tie
 
 abbrev Inv-loop : tie.InvT-loop
-Inv-loop calls c table₀ at i₀ place₀ to₀ table i place to =
+Inv-loop calls c bahnhof stops table₀ at i₀ place₀ to₀ table i place to =
     (length table ≡ length table₀) × (place ≡ draftCall * i)
-    × (to + length (callsLeft c i place calls) ≡ at + length (gathered callWords (callsIn c calls)))
-    × (write table to (callsLeft c i place calls) ≡ write table₀ at (gathered callWords (callsIn c calls)))
+    × (to + length (callsLeft (stopsIn bahnhof) c i place calls) ≡ at + length (gathered (pointedWords (stopsIn bahnhof)) (callsIn c calls)))
+    × (write table to (callsLeft (stopsIn bahnhof) c i place calls) ≡ write table₀ at (gathered (pointedWords (stopsIn bahnhof)) (callsIn c calls)))
 
 abbrev μ-loop : tie.MeasureT-loop
-μ-loop calls c table₀ at i₀ place₀ to₀ table i place to = c - i
+μ-loop calls c bahnhof stops table₀ at i₀ place₀ to₀ table i place to = c - i
 
 loop-holds : tie.Need-loop-holds Inv-loop μ-loop
 loop-holds c = search calling
 
 call-at-requires : tie.Need-call-at-requires Inv-loop μ-loop
 call-at-requires c κs = search calling
+
+stop-place-requires : tie.Need-stop-place-requires Inv-loop μ-loop
+unfolding StopMap
+stop-place-requires c κs = search calling
 
 put-call-requires : tie.Need-put-call-requires Inv-loop μ-loop
 put-call-requires c κs = search calling
@@ -56,6 +62,7 @@ calls-into-spec =
     μ-loop
     loop-holds
     call-at-requires
+    stop-place-requires
     put-call-requires
     add-place
     add-to

@@ -7,20 +7,31 @@ use mathlib.Core.Option.{Option, none, some}
 use lib.ListN.{length}
 use Rattle.base.specs.Lists.{gathered}
 use Rattle.timetable.specs.Layout.{serviceHead, categorySize, daySize, extraSize}
-use Rattle.timetable.specs.Delivery.{Legs, Service}
+use Rattle.timetable.specs.Delivery.{StopRecord, Legs, Service}
 use Rattle.timetable.specs.Plan.{isPart}
 use Rattle.timetable.specs.Service.{legsOn}
-use Rattle.timetable.specs.Table.{callWords, serviceWords}
+use Rattle.timetable.specs.Table.{stopPlace, withStop, pointing, callWords, serviceWords}
 use Rattle.timetable.specs.declared.Call.{Call}
 use Rattle.timetable.specs.declared.Opening.{Opening}
 use Rattle.timetable.specs.declared.Part.{Part}
 use Rattle.timetable.specs.declared.Part.the-variants.{Category, Days, Extra}
 use Rattle.timetable.specs.declared.RangeLine.{RangeLine}
-use Rattle.draft.specs.Inner.Draft.{callsIn, rangesIn, draftedService}
+use Rattle.draft.specs.Inner.Draft.{callsIn, rangesIn, ranges#, draftedService}
+use Rattle.draft.specs.declared.Drafted.{Drafted}
 use Rattle.service_words.specs.declared.Given.{Given}
 use Rattle.service_words.specs.declared.Given.the-variants.{Nothing, Three, Four}
 use Rattle.service_words.specs.declared.RangeEnds.{RangeEnds}
 use Rattle.service_words.specs.declared.Sizes.{Sizes}
+
+-- ---- one call
+
+-- its words, with a place for its stop
+abbrev pub placedCall : ℕ → Call → List ℕ
+placedCall place c = place ∷ c .arrival ∷ c .departure ∷ c .flags ∷ c .number ∷ c .high ∷ c .low ∷ []
+
+-- the same as the table has them
+abbrev pub pointedWords : List StopRecord → Call → List ℕ
+pointedWords stops c = callWords (withStop (λ (n : ℕ). stopPlace n stops) c)
 
 -- ---- one part
 
@@ -62,23 +73,23 @@ rangeEnds q cs rs = record {
 }
 
 -- all words after the head, and the sizes told by them
-abbrev pub bodyOf : List Call → List RangeLine → List ℕ
-bodyOf cs rs = gathered callWords cs ++ rangeWords cs rs
+abbrev pub bodyOf : List StopRecord → List Call → List RangeLine → List ℕ
+bodyOf stops cs rs = gathered (pointedWords stops) cs ++ rangeWords cs rs
 
-abbrev pub sizesBy : List Call → List RangeLine → Sizes
-sizesBy cs rs = record {
+abbrev pub sizesBy : List StopRecord → List Call → List RangeLine → Sizes
+sizesBy stops cs rs = record {
   calls = length cs;
   categories = length (partWords Category cs rs) / categorySize;
   «day_ranges» = length (partWords Days cs rs) / daySize;
   extras = length (partWords Extra cs rs) / extraSize;
-  words = serviceHead + length (bodyOf cs rs);
+  words = serviceHead + length (bodyOf stops cs rs);
 }
 
 -- ---- a whole service
 
--- the service that c drafted calls and n drafted ranges are
-abbrev pub serviceIn : Opening → ℕ → ℕ → List ℕ → ℕ → List ℕ → Service
-serviceIn o line c calls n ranges = draftedService o line (callsIn c calls) (rangesIn n ranges)
+-- the service that the words of a draft hold, as the table has it
+abbrev pub placedIn : List StopRecord → Drafted → List ℕ → List ℕ → Service
+placedIn stops d calls ranges = pointing stops (draftedService (d .opening) (d .line) (callsIn (d .counts .calls) calls) (rangesIn (ranges# (d .counts)) ranges))
 
 abbrev pub sizesOf : Service → Sizes
 sizesOf s = record { calls = length (s .calls); categories = length (s .categories); «day_ranges» = length (s .days); extras = length (s .extras); words = length (serviceWords s) }
