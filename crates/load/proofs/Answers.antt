@@ -22,8 +22,8 @@ use Rattle.timetable.specs.Load.{Where, delivered, lengthOffence, contentOffenc
 use Rattle.timetable.specs.declared.Offence.{Offence}
 use Rattle.timetable.specs.declared.Loaded.{Loaded}
 use Rattle.timetable.specs.declared.Loaded.the-variants.{Accepted, Refused as LoadRefused}
-use Rattle.plan.specs.Inner.Services.{allSound}
-use Rattle.plan.proofs.Within.{head-none, plan-sound}
+use Rattle.plan_words.specs.Inner.Services.{allSound}
+use Rattle.plan_words.proofs.Within.{head-none, plan-sound}
 use Rattle.table_words.specs.Inner.Words.{headerWords, bodyWords, SectionsSound}
 use Rattle.table_words.specs.declared.Header.{Header}
 use Rattle.load.specs.Inner.Delivered.{longIn, headerOf, deliveredBy, answered, left}

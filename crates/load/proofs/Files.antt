@@ -23,8 +23,8 @@ use Rattle.timetable.specs.declared.Checked.the-variants.{Holds as Both, Refuse
 use Rattle.timetable.proofs.Offences.{then-none, in-none, checked-holds, checked-refused}
 use Rattle.period.proofs.Laws.{period-short}
 use Rattle.sections.proofs.Held.{held-file}
-use Rattle.plan.specs.Inner.Services.{blockWords, mostPlanWords}
-use Rattle.plan.proofs.Sizes.{words-fit}
+use Rattle.reading.specs.Inner.Services.{blockWords, mostPlanWords}
+use Rattle.reading.proofs.Sizes.{words-fit}
 use Rattle.table_words.specs.declared.Header.{Header}
 use Rattle.load.specs.Inner.Helper.{Short}
 use Rattle.load.specs.Inner.Delivered.{longIn, headerBy, headerOf, refusedIn, deliveredBy}

@@ -14,8 +14,9 @@ use Rattle.timetable.specs.Load.{delivered}
 use Rattle.sections.specs.declared.Section.the-variants.{BitFields, Stops, Interchanges, Classes}
 use Rattle.table_words.specs.Inner.SectionWords.{sectionWords}
 use Rattle.table_words.proofs.section_words.Words.{words-fields, words-stops, words-interchanges, words-classes, length-fields, length-stops, length-interchanges, length-classes}
-use Rattle.plan.specs.Inner.Services.{blockWords, placedWords}
-use Rattle.plan.proofs.Putting.{placed-size}
+use Rattle.reading.specs.Inner.Services.{blockWords}
+use Rattle.plan_words.specs.Inner.Services.{placedWords}
+use Rattle.plan_words.proofs.Putting.{placed-size}
 use Rattle.table_words.specs.Inner.Words.{headerWords, sectionsWords, bodyWords}
 use Rattle.table_words.specs.declared.Header.{Header}
 use Rattle.load.specs.Inner.Delivered.{headerBy, headerOf}

@@ -28,7 +28,7 @@ ghost use Rattle.timetable.specs.Checks.{planFirst};
 ghost use Rattle.timetable.specs.Load.{delivered, contentOffence, loaded, written, helped};
 ghost use Rattle.draft.specs.Inner.Draft.{callsLent, rangesLent};
 ghost use Rattle.reading.specs.Inner.Maps.{FieldMap, StopMap, ClassIndex};
-ghost use Rattle.plan.specs.Inner.Services.{blockWords, mostPlanWords};
+ghost use Rattle.reading.specs.Inner.Services.{blockWords, mostPlanWords};
 ghost use Rattle.load.specs.Inner.Delivered.{longIn, headerBy, headerOf, refusedIn, deliveredBy, answered, left};
 ghost use Rattle.load.specs.Inner.Helper.{Short, roomOf, Emptied, LentAt, IndexLent, FieldsAfter, StopsAfter};
 ghost use Rattle.load.specs.Inner.Helper.{IndexAfter, StopsStand};
@@ -428,7 +428,7 @@ fn plan_by(
     let stops = &m[at..at + room.stops];
     let end = m.len();
     let index = &m[at + room.stops..end];
-    plan::check_plan(
+    plan_check::check_plan(
         fplan,
         bitfeld,
         fields,

@@ -4,3 +4,5 @@ pub mod Reaching
 pub mod Own
 pub mod Again
 pub mod Checking
+pub mod Sizes
+pub mod Services

@@ -1,2 +1,3 @@
 pub mod Maps
 pub mod Reading
+pub mod Services

@@ -29,8 +29,8 @@ use Rattle.cover.proofs.Turn.{turn-once, legs-rows}
 use Rattle.cover.proofs.Rows.{categories-once, days-once}
 use Rattle.draft.specs.Inner.Draft.{draftCall, draftRange, callsIn, rangesIn, ranges#, draftedService}
 use Rattle.draft.specs.declared.Drafted.{Drafted}
-use Rattle.service_words.specs.Inner.Parts.{partWords}
-use Rattle.service_words.proofs.Record.{categories-part, days-part}
+use Rattle.range_words.specs.Inner.Parts.{partWords}
+use Rattle.range_words.proofs.Parts.{categories-part, days-part}
 use Rattle.service.specs.Inner.Answers.{Counted, EndsFound, serviceIn, rowsTorn, daysFirst}
 use Rattle.service.proofs.Size.{calls-are, categories-are, days-are}
 

@@ -177,7 +177,7 @@ fn legs_wrong(
     let c = counts.calls;
     let n = draft::range_count(counts);
     let mut words = [0u32; CATEGORY_WORDS * MOST_CATEGORIES as usize];
-    service_words::part_into(Part::Category, ranges, n, calls, c, &mut words, 0);
+    range_words::part_into(Part::Category, ranges, n, calls, c, &mut words, 0);
     if each_once(&words, counts.categories, CATEGORY_WORDS, c - 1) {
         return operating_wrong(d, calls, ranges, bitfeld, fields, days);
     }
@@ -205,7 +205,7 @@ fn operating_wrong(
     let c = counts.calls;
     let n = draft::range_count(counts);
     let mut words = [0u32; DAYS_WORDS * MOST_DAYS as usize];
-    service_words::part_into(Part::Days, ranges, n, calls, c, &mut words, 0);
+    range_words::part_into(Part::Days, ranges, n, calls, c, &mut words, 0);
     days_wrong(&words, counts.days, c - 1, d.line, bitfeld, fields, days)
 }
 

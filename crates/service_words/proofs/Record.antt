@@ -1,98 +1,37 @@
 -- A service's words as the code writes them: its calls, the parts after them, its head. Assumes nothing.
 use mathlib.Core.Path.{_≡_, refl, sym, ap, _∙_}
-use mathlib.Core.List.{List, [], _∷_, _++_, map, append-nil}
-use mathlib.Core.Bool.{Bool, true, false, cond}
-use mathlib.Core.Option.{Option, none, some}
+use mathlib.Core.List.{List, [], _∷_, _++_, map}
 use Prim.Native.Nat.{ℕ, _+_, _-_, _*_, _/_, _≤_}
 use native.Mathlib.Omega.{arith}
 use lib.ListN.{length, length-append, length-map}
 use Rattle.base.specs.Lists.{gathered}
 use Rattle.base.proofs.Laws.{tests}
-use Rattle.base.proofs.Lists.{gathered-append}
 use Rattle.words.specs.Words.{write}
 use Rattle.words.proofs.Laws.{write-write, write-before}
-use Rattle.timetable.specs.Layout.{serviceHead, callSize, categorySize, daySize, extraSize}
-use Rattle.timetable.specs.Delivery.{StopRecord, Legs, CategoryRange, DayRange, ExtraRange, Service}
-use Rattle.timetable.specs.Plan.{isPart, ofPart}
-use Rattle.timetable.specs.Service.{legsOn, withLegs, categoryRange, dayRange, extraRange}
-use Rattle.timetable.specs.Table.{stopPlace, withStop, pointing, callWords, categoryWords, dayWords, extraWords, headWords, serviceWords}
+use Rattle.timetable.specs.Layout.{serviceHead, categorySize, daySize, extraSize}
+use Rattle.timetable.specs.Delivery.{StopRecord, Service}
+use Rattle.timetable.specs.Table.{stopPlace, withStop, pointing, callWords, headWords, serviceWords}
 use Rattle.timetable.specs.declared.Call.{Call}
 use Rattle.timetable.specs.declared.Opening.{Opening}
-use Rattle.timetable.specs.declared.Part.{Part}
 use Rattle.timetable.specs.declared.Part.the-variants.{Category, Days, Extra}
 use Rattle.timetable.specs.declared.RangeLine.{RangeLine}
-use Rattle.timetable.proofs.Rows.{all-any, any, length-gathered}
-use Rattle.timetable.proofs.Records.{service-length}
-use Rattle.draft.specs.Inner.Draft.{draftCall, draftRange, mostRanges, callsLent, rangesLent, ranges#, Within, callsIn, rangesIn, partIn, draftedService}
+use Rattle.timetable.proofs.Records.{categories-length, days-length, extras-length, service-length}
+use Rattle.draft.specs.Inner.Draft.{draftCall, draftRange, mostRanges, callsLent, rangesLent, ranges#, Within, callsIn, rangesIn, draftedService}
 use Rattle.draft.specs.declared.Counts.{Counts}
 use Rattle.draft.specs.declared.Drafted.{Drafted}
 use Rattle.draft.proofs.Drafts.{ranges-within}
 use Rattle.route.proofs.Laws.{length-calls}
-use Rattle.service_words.specs.Inner.Parts.{pointedWords, foundWords, partWords, rangeWords, rangeEnds, bodyOf, sizesBy, sizesOf, headBy, placedIn}
+use Rattle.range_words.specs.Inner.Parts.{partWords}
+use Rattle.range_words.proofs.Parts.{categories-part, days-part, extras-part}
+use Rattle.service_words.specs.Inner.Record.{pointedWords, rangeWords, rangeEnds, bodyOf, sizesBy, sizesOf, headBy, placedIn}
 use Rattle.service_words.specs.declared.RangeEnds.{RangeEnds}
 use Rattle.service_words.specs.declared.Sizes.{Sizes}
-
--- ---- a part is the part of the service
-
--- ranges of a kind X, made of a range line and written
-module _ {X : Type 0} (p : Part) (cs : List Call) (made : RangeLine → List X) (words : X → List ℕ) (same : (r : RangeLine) → gathered words (made r) ≡ foundWords p r (legsOn cs r)) where
-  part-of : (rs : List RangeLine) → gathered words (gathered made (partIn p rs)) ≡ partWords p cs rs
-  unfolding gathered
-  part-of [] = refl
-  part-of (r ∷ rs) =
-      ap (gathered words) (gathered-append made (ofPart p r) (partIn p rs))
-      ∙ gathered-append words (gathered made (ofPart p r)) (gathered made (partIn p rs))
-      ∙ ap (λ (vs : List ℕ). gathered words (gathered made (ofPart p r)) ++ vs) (part-of rs)
-      ∙ ap (λ (vs : List ℕ). vs ++ partWords p cs rs) (go (isPart p r))
-    where
-      go : (b : Bool) → gathered words (gathered made (cond b (r ∷ []) [])) ≡ cond b (foundWords p r (legsOn cs r)) []
-      go true = ap (gathered words) (append-nil (made r)) ∙ same r
-      go false = refl
-
-module _ (cs : List Call) (rs : List RangeLine) where
-  pub categories-part : gathered categoryWords (gathered (categoryRange cs) (partIn Category rs)) ≡ partWords Category cs rs
-  unfolding gathered
-  categories-part = part-of Category cs (categoryRange cs) categoryWords (λ r. go r (legsOn cs r)) rs
-    where
-      go : (r : RangeLine) (o : Option Legs) → gathered categoryWords (withLegs (λ (x : Legs). record { name = r .name; legs = x }) o) ≡ foundWords Category r o
-      go r none = refl
-      go r (some g) = refl
-
-  pub days-part : gathered dayWords (gathered (dayRange cs) (partIn Days rs)) ≡ partWords Days cs rs
-  unfolding gathered
-  days-part = part-of Days cs (dayRange cs) dayWords (λ r. go r (legsOn cs r)) rs
-    where
-      go : (r : RangeLine) (o : Option Legs) → gathered dayWords (withLegs (λ (x : Legs). record { field = r .field; legs = x }) o) ≡ foundWords Days r o
-      go r none = refl
-      go r (some g) = refl
-
-  extras-part : gathered extraWords (gathered (extraRange cs) (partIn Extra rs)) ≡ partWords Extra cs rs
-  unfolding gathered
-  extras-part = part-of Extra cs (extraRange cs) extraWords (λ r. go r (legsOn cs r)) rs
-    where
-      go : (r : RangeLine) (o : Option Legs) → gathered extraWords (withLegs (λ (x : Legs). record { code = r .name; field = r .field; legs = x }) o) ≡ foundWords Extra r o
-      go r none = refl
-      go r (some g) = refl
 
 -- ---- a service takes as many words with its stops' places as with their numbers
 
 pub pointed-size : (stops : List StopRecord) (s : Service) → length (serviceWords (pointing stops s)) ≡ length (serviceWords s)
 unfolding pointing
 pointed-size stops s = omega (arith, service-length (pointing stops s), service-length s, length-map (s .calls) (withStop (λ (n : ℕ). stopPlace n stops)))
-
--- ---- how many words each takes
-
-calls-size : (stops : List StopRecord) (cs : List Call) → length (gathered (pointedWords stops) cs) ≡ callSize * length cs
-calls-size stops cs = length-gathered (pointedWords stops) callSize any (λ x h. refl) (all-any cs)
-
-categories-size : (rs : List CategoryRange) → length (gathered categoryWords rs) ≡ categorySize * length rs
-categories-size rs = length-gathered categoryWords categorySize any (λ x h. refl) (all-any rs)
-
-days-size : (rs : List DayRange) → length (gathered dayWords rs) ≡ daySize * length rs
-days-size rs = length-gathered dayWords daySize any (λ x h. refl) (all-any rs)
-
-extras-size : (rs : List ExtraRange) → length (gathered extraWords rs) ≡ extraSize * length rs
-extras-size rs = length-gathered extraWords extraSize any (λ x h. refl) (all-any rs)
 
 -- ---- the words of a drafted service, as the table has it
 
@@ -124,15 +63,15 @@ module _ (stops : List StopRecord) (o : Opening) (line : ℕ) (cs : List Call) (
 
   categories-count : length (partWords Category cs rs) ≡ categorySize * length (s .categories)
   unfolding pointing draftedService
-  categories-count = ap length (sym (categories-part cs rs)) ∙ categories-size (s .categories)
+  categories-count = ap length (sym (categories-part cs rs)) ∙ categories-length (s .categories)
 
   days-count : length (partWords Days cs rs) ≡ daySize * length (s .days)
   unfolding pointing draftedService
-  days-count = ap length (sym (days-part cs rs)) ∙ days-size (s .days)
+  days-count = ap length (sym (days-part cs rs)) ∙ days-length (s .days)
 
   extras-count : length (partWords Extra cs rs) ≡ extraSize * length (s .extras)
   unfolding pointing draftedService
-  extras-count = ap length (sym (extras-part cs rs)) ∙ extras-size (s .extras)
+  extras-count = ap length (sym (extras-part cs rs)) ∙ extras-length (s .extras)
 
   sizes-told : sizesBy stops cs rs ≡ sizesOf s
   sizes-told =

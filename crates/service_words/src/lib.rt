@@ -1,36 +1,22 @@
 // Writes a service's words from its draft: `calls` holds c drafted calls, `ranges` n drafted ranges; the words stand in `table` from `at` on. A call is
 // written with the place of its stop (document 02, No. 10), which is found by `stops`, the map of BAHNHOF.
 use draft::DRAFT_CALL_WORDS;
-use draft::DRAFT_RANGE_WORDS;
 use draft::Drafted;
-use route::RangeFound;
 use timetable::Call;
 use timetable::Opening;
 use timetable::Part;
-use timetable::RangeLine;
 ghost use mathlib.Core.Path.{_≡_};
-ghost use mathlib.Core.Bool.{true};
 ghost use Prim.Native.Nat.{_+_, _-_, _*_, _/_, _≤_};
-ghost use lib.ListN.{length, drop};
+ghost use lib.ListN.{length};
 ghost use Rattle.base.specs.Lists.{gathered};
 ghost use Rattle.words.specs.Words.{write};
 ghost use Rattle.timetable.specs.Layout.{serviceHead, callSize, categorySize, daySize, extraSize};
 ghost use Rattle.timetable.specs.Files.{stopsIn};
-ghost use Rattle.timetable.specs.Plan.{partNumber, isPart};
 ghost use Rattle.timetable.specs.Table.{serviceWords};
-ghost use Rattle.draft.specs.Inner.Draft.{draftCall, draftRange, callsLent, rangesLent, Within};
-ghost use Rattle.draft.specs.Inner.Draft.{partBack, lineBack, callsIn, rangesIn};
+ghost use Rattle.draft.specs.Inner.Draft.{draftCall, draftRange, callsLent, rangesLent, Within, callsIn, rangesIn};
 ghost use Rattle.reading.specs.Inner.Maps.{StopMap};
-ghost use Rattle.service_words.specs.Inner.Parts.{rangeRowWords, rangeGives, partWords, rangeWords, rangeEnds};
-ghost use Rattle.service_words.specs.Inner.Parts.{placedCall, pointedWords, bodyOf, sizesBy, givenWords};
-ghost use Rattle.service_words.specs.Inner.Parts.{headBy, placedIn};
-
-// What a range gives to a part of the service's words: nothing, or three or four words.
-enum Given {
-    Nothing,
-    Three(u32, u32, u32),
-    Four(u32, u32, u32, u32),
-}
+ghost use Rattle.service_words.specs.Inner.Record.{placedCall, pointedWords, rangeWords, rangeEnds};
+ghost use Rattle.service_words.specs.Inner.Record.{bodyOf, sizesBy, headBy, placedIn};
 
 // How many calls and ranges a service has, and how many words it takes.
 struct Sizes {
@@ -189,9 +175,9 @@ fn ranges_into(
     ensures { λ r. ⌜ (r ≡ rangeEnds at (callsIn c (now (calls .entry))) (rangesIn n (now (ranges .entry)))) ×
         (now (table .exit) ≡ write (now (table .entry)) at (rangeWords (callsIn c (now (calls .entry))) (rangesIn n (now (ranges .entry))))) ⌝ }
 {
-    let categories = part_into(Part::Category, ranges, n, calls, c, table, at);
-    let day_ranges = part_into(Part::Days, ranges, n, calls, c, table, categories);
-    let extras = part_into(Part::Extra, ranges, n, calls, c, table, day_ranges);
+    let categories = range_words::part_into(Part::Category, ranges, n, calls, c, table, at);
+    let day_ranges = range_words::part_into(Part::Days, ranges, n, calls, c, table, categories);
+    let extras = range_words::part_into(Part::Extra, ranges, n, calls, c, table, day_ranges);
     RangeEnds {
         categories,
         day_ranges,
@@ -222,99 +208,5 @@ fn sizes_of(c: u32, at: usize, start: usize, ends: RangeEnds) -> Sizes
         day_ranges: (day_ranges / timetable::DAYS_WORDS) as u32,
         extras: (extras / timetable::EXTRA_WORDS) as u32,
         words: (timetable::SERVICE_WORDS + body) as u32,
-    }
-}
-
-// ---- one part
-
-// Writes the ranges of one part; the place after them.
-pub fn part_into(
-    part: Part,
-    ranges: &[u32],
-    n: u32,
-    calls: &[u32],
-    c: u32,
-    table: &mut [u32],
-    at: usize,
-) -> usize
-    requires { ⌜ (draftCall * c ≤ length (now calls)) × (draftRange * n ≤ length (now ranges)) ⌝ }
-    requires { ⌜ at + length (partWords part (callsIn c (now calls)) (rangesIn n (now ranges))) ≤ length (now table) ⌝ }
-    ensures { λ r. ⌜ (r ≡ at + length (partWords part (callsIn c (now (calls .entry))) (rangesIn n (now (ranges .entry))))) ×
-        (now (table .exit) ≡ write (now (table .entry)) at (partWords part (callsIn c (now (calls .entry))) (rangesIn n (now (ranges .entry))))) ⌝ }
-{
-    let mut i: u32 = 0;
-    let mut place: usize = 0;
-    let mut to = at;
-    while i < n {
-        let given = given_at(part, ranges, place, calls, c);
-        to = put_given(given, table, to);
-        place += DRAFT_RANGE_WORDS;
-        i += 1;
-    }
-    to
-}
-
-// What the range at a place gives to a part. Its part is looked at first: most ranges are of another, and are not taken apart.
-fn given_at(part: Part, ranges: &[u32], at: usize, calls: &[u32], c: u32) -> Given
-    requires { ⌜ (draftCall * c ≤ length (now calls)) × (at + draftRange ≤ length (now ranges)) ⌝ }
-    ensures { λ r. ⌜ givenWords r ≡
-        rangeGives part (callsIn c (now (calls .entry))) (lineBack (drop at (now (ranges .entry)))) ⌝ }
-{
-    if part_drafted(ranges[at + 1]) != draft::part_number(part) {
-        return Given::Nothing;
-    }
-    given_by(part, draft::range_at(ranges, at), calls, c)
-}
-
-// The part that a word of the draft says, by its number.
-fn part_drafted(word: u32) -> u32
-    ensures { λ r. ⌜ r ≡ partNumber (partBack word) ⌝ }
-{
-    match word {
-        0 => 0,
-        1 => 1,
-        _ => 2,
-    }
-}
-
-// What a range of a part gives to it: none whose ends are not found gives anything.
-fn given_by(part: Part, range: RangeLine, calls: &[u32], c: u32) -> Given
-    requires { ⌜ (draftCall * c ≤ length (now calls)) × (isPart part range ≡ true) ⌝ }
-    ensures { λ r. ⌜ givenWords r ≡ rangeGives part (callsIn c (now (calls .entry))) range ⌝ }
-{
-    let found = route::legs_on(calls, c, range);
-    let RangeFound::Between(from, to) = found else {
-        return Given::Nothing;
-    };
-    row_of(part, range, from.0, to.0)
-}
-
-// The words of a range of a part, from one call to another.
-fn row_of(part: Part, range: RangeLine, from: u32, to: u32) -> Given
-    ensures { λ r. ⌜ givenWords r ≡ rangeRowWords part range from to ⌝ }
-{
-    match part {
-        Part::Category => Given::Three(range.name, from, to),
-        Part::Days => Given::Three(range.field, from, to),
-        Part::Extra => Given::Four(range.name, range.field, from, to),
-    }
-}
-
-// Writes what is given; the place after it.
-fn put_given(given: Given, table: &mut [u32], at: usize) -> usize
-    requires { ⌜ at + length (givenWords given) ≤ length (now table) ⌝ }
-    ensures { λ r. ⌜ (r ≡ at + length (givenWords given))
-        × (now (table .exit) ≡ write (now (table .entry)) at (givenWords given)) ⌝ }
-{
-    match given {
-        Given::Nothing => at,
-        Given::Three(x, y, z) => {
-            words::put3(table, at, x, y, z);
-            at + 3
-        }
-        Given::Four(x, y, z, u) => {
-            words::put4(table, at, x, y, z, u);
-            at + 4
-        }
     }
 }

@@ -14,7 +14,7 @@ ghost use Rattle.timetable.specs.Service.{blocks};
 ghost use Rattle.timetable.specs.Checks.{headFirst};
 ghost use Rattle.draft.specs.Inner.Draft.{callsLent, rangesLent};
 ghost use Rattle.reading.specs.Inner.Maps.{StopMap};
-ghost use Rattle.plan.specs.Inner.Services.{allSound};
+ghost use Rattle.plan_words.specs.Inner.Services.{allSound};
 ghost use Rattle.table_words.specs.Inner.Words.{headerWords, sectionsWords, bodyWords, SectionsSound};
 
 pub mod section_words;
@@ -59,7 +59,7 @@ pub fn put_table(
 {
     put_header(h, t);
     let services = put_sections(bitfeld, bahnhof, umsteigb, zugart, t, HEADER_WORDS);
-    plan::put_plan(fplan, bahnhof, stops, calls, ranges, t, services);
+    plan_words::put_plan(fplan, bahnhof, stops, calls, ranges, t, services);
 }
 
 fn put_header(h: Header, t: &mut [u32])

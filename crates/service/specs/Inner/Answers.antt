@@ -1,16 +1,14 @@
 -- What the checks of one service answer, by the definitions of the crate timetable. Nobody has to believe this file. Assumes nothing.
-use Prim.Native.Nat.{ℕ, _≤_, _<_}
+use Prim.Native.Nat.{ℕ, _≤_}
 use mathlib.Core.Path.{_≡_}
-use mathlib.Core.List.{List, _∷_, map}
+use mathlib.Core.List.{List, map}
 use mathlib.Core.Bool.{Bool, false, not}
 use mathlib.Core.Option.{Option, none, some}
 use lib.ListN.{length}
 use lib.Dec.{leb, ltb}
 use Rattle.base.specs.Lists.{some-of, below}
-use Rattle.lines.specs.Lines.{linesAt}
 use Rattle.timetable.specs.Delivery.{BitField, StopRecord, CategoryClass, DayRange, Service}
 use Rattle.timetable.specs.Offences.{_<|>_, given}
-use Rattle.timetable.specs.Service.{blocks, serviceOf}
 use Rattle.timetable.specs.Legs.{operated, stretches}
 use Rattle.timetable.specs.Checks.{eachOnce, timesFirst, endsFirst, legsFirst, serviceFirst}
 use Rattle.timetable.specs.Table.{serviceWords}
@@ -19,18 +17,12 @@ use Rattle.timetable.specs.declared.Part.the-variants.{Category, Days, Extra}
 use Rattle.draft.specs.Inner.Draft.{callsLent, rangesLent, callsOn, callsIn, rangesOn, rangesIn, ranges#, Within, partIn, draftedService}
 use Rattle.draft.specs.declared.Counts.{Counts}
 use Rattle.draft.specs.declared.Drafted.{Drafted}
-use Rattle.reading.specs.Inner.Reading.{serviceLinesAt, Boundary}
+use Rattle.reading.specs.Inner.Reading.{serviceLinesAt}
+use Rattle.reading.specs.Inner.Services.{ServiceTaken}
 use Rattle.service.specs.declared.ServiceCheck.{ServiceCheck}
 use Rattle.service.specs.declared.ServiceCheck.the-variants.{Takes, Refused}
 
 -- ---- the answer for a service of a file
-
--- the service that begins at a place takes so many words, and the next begins at the place `end`, with line m
-pub record ServiceTaken (f : List ℕ) (at n words end m : ℕ) : Type 0 where
-  pub size : words ≡ length (serviceWords (serviceOf (serviceLinesAt f at n)))
-  pub services : blocks (linesAt f at n) ≡ serviceLinesAt f at n ∷ blocks (linesAt f end m)
-  pub past : at < end
-  pub next : Boundary f end m
 
 -- "every line's own checks, then the service's checks": its first offence, or its words
 abbrev pub CheckedAs : List BitField → List StopRecord → List CategoryClass → ℕ → List ℕ → ℕ → ℕ → ServiceCheck → Type 0

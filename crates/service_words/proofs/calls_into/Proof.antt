@@ -6,8 +6,8 @@ use Rattle.words.specs.Words.{write}
 use Rattle.timetable.specs.Files.{stopsIn}
 use Rattle.draft.specs.Inner.Draft.{draftCall, callsIn}
 use Rattle.reading.specs.Inner.Maps.{StopMap}
-use Rattle.service_words.specs.Inner.Parts.{pointedWords}
-use Rattle.service_words.proofs.Parts.{callsLeft, calling}
+use Rattle.service_words.specs.Inner.Record.{pointedWords}
+use Rattle.service_words.proofs.Calls.{callsLeft, calling}
 use Rattle.service_words.proofs.calls_into.Statement.{statement}
 use Rattle.service_words.proofs.calls_into.Tie as tie
 

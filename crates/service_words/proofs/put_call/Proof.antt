@@ -1,4 +1,4 @@
-use Rattle.service_words.proofs.Parts.{called}
+use Rattle.service_words.proofs.Calls.{called}
 use Rattle.service_words.proofs.put_call.Statement.{statement}
 use Rattle.service_words.proofs.put_call.Tie as tie
 

@@ -9,7 +9,7 @@ use Rattle.timetable.specs.Service.{blocks}
 use Rattle.sections.specs.Inner.Sections.{soundSection}
 use Rattle.sections.specs.declared.Section.the-variants.{BitFields, Stops, Interchanges, Classes}
 use Rattle.table_words.specs.Inner.SectionWords.{sectionWords}
-use Rattle.plan.specs.Inner.Services.{placedWords}
+use Rattle.plan_words.specs.Inner.Services.{placedWords}
 use Rattle.table_words.specs.declared.Header.{Header}
 
 abbrev pub headerWords : Header → List ℕ

@@ -1,4 +1,0 @@
-pub mod Within
-pub mod Sizes
-pub mod Putting
-pub mod Checking
