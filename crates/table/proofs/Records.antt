@@ -13,11 +13,14 @@ use Rattle.base.specs.Lists.{every}
 use Rattle.base.proofs.Laws.{tests, by-eqb}
 use Rattle.timetable.specs.Layout.{headerSize, classSize, serviceHead, callSize, categorySize, daySize, extraSize, mostClass}
 use Rattle.timetable.specs.Runs.{openingSound}
-use Rattle.timetable.specs.Table.{rowsIn, openingAt, callAt, legsAt, wordCountIn, calls#, categories#, days#, extras#, categoryPlace, dayPlace, extraPlace, serviceAt, classAt, usedWords, stops#, services#, servicesPlace, classes#, used, tableOf, classSound, callSound, legsSound, serviceSound, countsSound, sizesSound, recordSound, recordsSound, isTable}
+use Rattle.timetable.specs.Table.{rowsIn, openingAt, callAt, legsAt, wordCountIn, calls#, categories#, days#, extras#, categoryPlace, dayPlace, extraPlace, classAt, usedWords, stops#, services#, servicesPlace, classes#, used, tableOf, classSound, callSound, legsSound, countsSound, sizesSound, recordSound, recordsSound, isTable}
 use Rattle.timetable.specs.declared.Opening.{Opening}
 use Rattle.timetable.proofs.Rows.{rows-again, rows-out, rows-done}
-use Rattle.table.specs.JustTable.{recordEnd, headerSound, classesPlace, extrasSound}
-use Rattle.table.proofs.Says.{Sizes, sizes-say, record-says, service-parts, HeadOf, header-says, header-word, table-says, table-word}
+use Rattle.table.specs.JustTable.{recordEnd, headerSound, classesPlace, boundsSound, extrasSound}
+use Rattle.table.specs.Steady.{callsSteady, recordsSteady, steady, lookBy}
+use Rattle.table.specs.declared.Look.{Look}
+use Rattle.table.proofs.steady.Laws.{steady-sound}
+use Rattle.table.proofs.Says.{Sizes, sizes-say, head-word, record-says, service-parts, HeadOf, header-says, header-word, table-says, table-word}
 
 -- ---- the length of a record: said is its first word, y what its counts make it
 
@@ -38,37 +41,33 @@ module _ (w : List ℕ) (h : serviceHead ≤ length w) (x : Bool) (e : x ≡ cou
 
 pub ruleset sizes = (tests, length-differs, length-end, sizes-counts, sizes-length)
 
--- ---- what a record holds: t says whether its opening line o is sound, x, y, z say whether its calls, its *G from g on and its *A VE from v on are sound
+-- ---- what a record holds but its calls: t says whether its opening line o is sound, y, z say whether its *G from g on and its *A VE from v on are sound
 
-module _ (stops : ℕ) (w : List ℕ) (o : Opening) (a : o ≡ openingAt w) (t : Bool) (b : t ≡ openingSound o) where
+module _ (w : List ℕ) (o : Opening) (a : o ≡ openingAt w) (t : Bool) (b : t ≡ openingSound o) where
   opening-is : t ≡ openingSound (openingAt w)
   opening-is = b ∙ ap openingSound a
 
-  pub parts-opening : not t ≡ true → false ≡ serviceSound stops (serviceAt w)
-  parts-opening h = sym (service-parts stops w ∙ rw (sym opening-is ∙ not-true t h))
+  pub parts-opening : not t ≡ true → false ≡ boundsSound w
+  parts-opening h = sym (rw (sym opening-is ∙ not-true t h))
 
-  module _ (h : not t ≡ false) (x : Bool) (e : x ≡ every (callSound stops) (rowsIn callAt callSize (calls# w) (drop serviceHead w))) where
-    pub parts-calls : not x ≡ true → false ≡ serviceSound stops (serviceAt w)
-    parts-calls n = sym (service-parts stops w ∙ rw (sym opening-is ∙ not-false t h, sym e ∙ not-true x n))
+  module _ (h : not t ≡ false) (g : ℕ) (i : g ≡ categoryPlace w) (y : Bool) (f : y ≡ every (legsSound false (calls# w)) (rowsIn (legsAt 1) categorySize (categories# w) (drop g w))) where
+    after-opening : boundsSound w ≡ (y && (every (legsSound false (calls# w)) (rowsIn (legsAt 1) daySize (days# w) (drop (dayPlace w) w)) && every (legsSound true (calls# w)) (rowsIn (legsAt 2) extraSize (extras# w) (drop (extraPlace w) w))))
+    after-opening = rw (sym opening-is ∙ not-false t h, f, i)
 
-    module _ (n : not x ≡ false) (g : ℕ) (i : g ≡ categoryPlace w) (y : Bool) (f : y ≡ every (legsSound false (calls# w)) (rowsIn (legsAt 1) categorySize (categories# w) (drop g w))) where
-      after-calls : serviceSound stops (serviceAt w) ≡ (y && (every (legsSound false (calls# w)) (rowsIn (legsAt 1) daySize (days# w) (drop (dayPlace w) w)) && every (legsSound true (calls# w)) (rowsIn (legsAt 2) extraSize (extras# w) (drop (extraPlace w) w))))
-      after-calls = service-parts stops w ∙ rw (sym opening-is ∙ not-false t h, sym e ∙ not-false x n, f, i)
+    pub parts-categories : not y ≡ true → false ≡ boundsSound w
+    parts-categories m = sym (after-opening ∙ rw (not-true y m))
 
-      pub parts-categories : not y ≡ true → false ≡ serviceSound stops (serviceAt w)
-      parts-categories m = sym (after-calls ∙ rw (not-true y m))
+    module _ (m : not y ≡ false) (v : ℕ) (j : v ≡ dayPlace w) (z : Bool) (k : z ≡ every (legsSound false (calls# w)) (rowsIn (legsAt 1) daySize (days# w) (drop v w))) where
+      after-categories : boundsSound w ≡ (z && every (legsSound true (calls# w)) (rowsIn (legsAt 2) extraSize (extras# w) (drop (extraPlace w) w)))
+      after-categories = after-opening ∙ rw (not-false y m, k, j)
 
-      module _ (m : not y ≡ false) (v : ℕ) (j : v ≡ dayPlace w) (z : Bool) (k : z ≡ every (legsSound false (calls# w)) (rowsIn (legsAt 1) daySize (days# w) (drop v w))) where
-        after-categories : serviceSound stops (serviceAt w) ≡ (z && every (legsSound true (calls# w)) (rowsIn (legsAt 2) extraSize (extras# w) (drop (extraPlace w) w)))
-        after-categories = after-calls ∙ rw (not-false y m, k, j)
+      pub parts-days : not z ≡ true → false ≡ boundsSound w
+      parts-days o = sym (after-categories ∙ rw (not-true z o))
 
-        pub parts-days : not z ≡ true → false ≡ serviceSound stops (serviceAt w)
-        parts-days o = sym (after-categories ∙ rw (not-true z o))
+      pub parts-extras : not z ≡ false → (p : ℕ) → p ≡ extraPlace w → (r : Bool) → r ≡ every (legsSound true (calls# w)) (rowsIn (legsAt 2) extraSize (extras# w) (drop p w)) → r ≡ boundsSound w
+      parts-extras o p l r q = sym (after-categories ∙ rw (not-false z o, q, l))
 
-        pub parts-extras : not z ≡ false → (p : ℕ) → p ≡ extraPlace w → (r : Bool) → r ≡ every (legsSound true (calls# w)) (rowsIn (legsAt 2) extraSize (extras# w) (drop p w)) → r ≡ serviceSound stops (serviceAt w)
-        parts-extras o p l r q = sym (after-categories ∙ rw (not-false z o, q, l))
-
-pub ruleset parts = (tests, parts-opening, parts-calls, parts-categories, parts-days, parts-extras)
+pub ruleset parts = (tests, parts-opening, parts-categories, parts-days, parts-extras)
 
 -- its other *A alone, from p on
 pub extras-are : (w : List ℕ) (p : ℕ) → p ≡ extraPlace w → (r : Bool) → r ≡ every (legsSound true (calls# w)) (rowsIn (legsAt 2) extraSize (extras# w) (drop p w))
@@ -77,7 +76,32 @@ extras-are w p e r q = rw e at q
 
 pub ruleset extras = (tests, extras-are)
 
--- ---- one record; x says whether its sizes are sound
+-- ---- one record; x says whether its sizes are sound, b whether all but its calls is
+
+-- its calls are within bounds
+abbrev callsSound : ℕ → List ℕ → Bool
+callsSound stops w = every (callSound stops) (rowsIn callAt callSize (calls# w) (drop serviceHead w))
+
+record-split : (stops : ℕ) (w : List ℕ) → sizesSound w ≡ true → recordSound stops w ≡ (boundsSound w && callsSound stops w)
+unfolding recordSound
+record-split stops w e =
+    rw e
+    (service-parts stops w
+    ∙ turned (openingSound (openingAt w)) (callsSound stops w) (every (legsSound false (calls# w)) (rowsIn (legsAt 1) categorySize (categories# w) (drop (categoryPlace w) w)))
+    (every (legsSound false (calls# w)) (rowsIn (legsAt 1) daySize (days# w) (drop (dayPlace w) w))) (every (legsSound true (calls# w)) (rowsIn (legsAt 2) extraSize (extras# w) (drop (extraPlace w) w))))
+  where
+    turned : (o c g v a : Bool) → (o && (c && (g && (v && a)))) ≡ ((o && (g && (v && a))) && c)
+    turned false c g v a = refl
+    turned true false g v a = sym (never (g && (v && a)))
+      where
+        never : (b : Bool) → (b && false) ≡ false
+        never true = refl
+        never false = refl
+    turned true true g v a = sym (always (g && (v && a)))
+      where
+        always : (b : Bool) → (b && true) ≡ b
+        always true = refl
+        always false = refl
 
 module _ (w : List ℕ) (x : Bool) (e : x ≡ sizesSound w) where
   pub record-sizes : (stops : ℕ) → not x ≡ true → false ≡ recordSound stops w
@@ -85,14 +109,54 @@ module _ (w : List ℕ) (x : Bool) (e : x ≡ sizesSound w) where
   record-sizes stops n = rw (sym e ∙ not-true x n)
 
   module _ (n : not x ≡ false) where
+    pub record-sized : sizesSound w ≡ true
+    record-sized = sym e ∙ not-false x n
+
     pub record-room : recordEnd w ≤ length w
-    record-room = sizes-say w (sym e ∙ not-false x n) .inside
+    record-room = sizes-say w record-sized .inside
 
-    pub record-parts : (stops : ℕ) (y : Bool) → y ≡ serviceSound stops (serviceAt w) → y ≡ recordSound stops w
-    unfolding recordSound
-    record-parts stops y f = f ∙ rw (sym e ∙ not-false x n)
+    pub record-head : 6 < length w
+    record-head = head-word w record-sized 6 (omega arith)
 
-pub ruleset one = (tests, record-sizes, record-room, record-parts)
+    pub record-calls : 12 + 7 * getD w 6 0 ≤ length w
+    record-calls = omega (arith, record-room)
+
+    module _ (stops : ℕ) (b : Bool) (f : b ≡ boundsSound w) where
+      pub record-bounds : not b ≡ true → false ≡ recordSound stops w
+      record-bounds m = sym (record-split stops w record-sized ∙ rw (sym f ∙ not-true b m))
+
+      pub record-parts : not b ≡ false → (y : Bool) → y ≡ callsSound stops w → y ≡ recordSound stops w
+      record-parts m y g = g ∙ sym (record-split stops w record-sized ∙ rw (sym f ∙ not-false b m))
+
+      -- s says whether its calls are steady
+      module _ (m : not b ≡ false) (s : Bool) (g : s ≡ callsSteady stops w) where
+        pub look-steady : s ≡ true → (r : Look) → r ≡ lookBy true true → r ≡ lookBy (recordSound stops w) (callsSteady stops w)
+        look-steady h r q =
+            let z : recordSound stops w ≡ true = sym (record-parts m true (sym (steady-sound stops w (sym g ∙ h) (sizes-say w record-sized .calls-low)))) in
+            q ∙ sym (rw (z, sym g ∙ h))
+
+        pub look-else : s ≡ false → (y : Bool) → y ≡ callsSound stops w → (r : Look) → r ≡ lookBy y false → r ≡ lookBy (recordSound stops w) (callsSteady stops w)
+        look-else h y q r l = l ∙ sym (rw (← (record-parts m y q), sym g ∙ h))
+
+pub look-none : (t s : Bool) (r : Look) → false ≡ t → r ≡ lookBy false false → r ≡ lookBy t s
+look-none t s r e q = q ∙ ap (λ (b : Bool). lookBy b s) e
+
+pub looked-no : (t s : Bool) (r : Look) → not t ≡ true → r ≡ lookBy false false → r ≡ lookBy t s
+looked-no t s r n q = look-none t s r (sym (not-true t n)) q
+
+pub looked-yes : (t s : Bool) → not t ≡ false → record { table = true; steady = s } ≡ lookBy t s
+looked-yes t s n = ap (λ (b : Bool). lookBy b s) (sym (not-false t n))
+
+module _ (a b : Bool) where
+  pub both-no : not a ≡ true → false ≡ (a && b)
+  both-no n = sym (ap (λ (x : Bool). x && b) (not-true a n))
+
+  pub both-yes : not a ≡ false → b ≡ (a && b)
+  both-yes n = sym (ap (λ (x : Bool). x && b) (not-false a n))
+
+pub ruleset look-ends = (tests, looked-no, looked-yes, both-no, both-yes)
+
+pub ruleset one = (tests, record-sizes, record-sized, record-room, record-head, record-calls, record-bounds, record-parts, look-steady, look-else, look-none)
 
 -- ---- parts of the words
 
@@ -113,7 +177,7 @@ part-is (suc a) (suc b) (x ∷ l) =
     let e : suc b - suc a ≡ b - a = omega arith in
     rw e (part-is a b l)
 
--- ---- records one after the other; x says whether the record at `at` is sound
+-- ---- records one after the other; o is what the look at the one at `at` tells
 
 pub one-record : (stops k : ℕ) (u : List ℕ) → 0 < k → recordsSound stops k u ≡ (recordSound stops u && recordsSound stops (k - 1) (drop (wordCountIn u) u))
 unfolding recordsSound
@@ -125,13 +189,29 @@ one-record stops (suc k) u h =
 pub first-word : (w : List ℕ) (at : ℕ) → getD (drop at w) 0 0 ≡ getD w at 0
 first-word w at = getD-drop at w 0 0 ∙ rw add-zero
 
-module _ (stops : ℕ) (w : List ℕ) (at : ℕ) (x : Bool) (i : at ≤ length w) (e : x ≡ recordSound stops (take (length w - at) (drop at w))) where
-  record-here : x ≡ recordSound stops (drop at w)
-  record-here = e ∙ ap (recordSound stops) (rest-is w at)
+one-steady : (stops k : ℕ) (u : List ℕ) → 0 < k → recordsSteady stops k u ≡ (callsSteady stops u && recordsSteady stops (k - 1) (drop (wordCountIn u) u))
+unfolding recordsSteady
+one-steady stops zero u h = absurd (omega arith)
+one-steady stops (suc k) u h =
+    let e : suc k - 1 ≡ k = omega arith in
+    rw e
 
-  module _ (n : not x ≡ false) where
+module _ (stops : ℕ) (w : List ℕ) (at : ℕ) (o : Look) (i : at ≤ length w) (e : o ≡ lookBy (recordSound stops (take (length w - at) (drop at w))) (callsSteady stops (take (length w - at) (drop at w)))) where
+  look-here : o ≡ lookBy (recordSound stops (drop at w)) (callsSteady stops (drop at w))
+  look-here = e ∙ ap (λ (u : List ℕ). lookBy (recordSound stops u) (callsSteady stops u)) (rest-is w at)
+
+  record-here : o .table ≡ recordSound stops (drop at w)
+  record-here = ap (λ (l : Look). l .table) look-here
+
+  module _ (n : not (o .table) ≡ false) where
+    sound-here : recordSound stops (drop at w) ≡ true
+    sound-here = sym record-here ∙ not-false (o .table) n
+
+    steady-here : o .steady ≡ callsSteady stops (drop at w)
+    steady-here = ap (λ (l : Look). l .steady) look-here ∙ ap (λ (b : Bool). b && callsSteady stops (drop at w)) sound-here
+
     sizes-here : Sizes (drop at w)
-    sizes-here = record-says stops (drop at w) (sym record-here ∙ not-false x n) .0
+    sizes-here = record-says stops (drop at w) sound-here .0
 
     pub records-inside : at < length w
     records-inside = omega (arith, sizes-here .head, length-drop at w)
@@ -139,12 +219,22 @@ module _ (stops : ℕ) (w : List ℕ) (at : ℕ) (x : Bool) (i : at ≤ length w
     pub records-fit : (y : ℕ) → y ≡ getD w at 0 → at + y ≤ length w
     records-fit y q = omega (arith, sizes-here .said, sizes-here .inside, length-drop at w, first-word w at, records-inside)
 
-  module _ (k : ℕ) (r : Bool) (h : 0 < k) (v : recordsSound stops k (drop at w) ≡ r) where
-    pub records-again : (y : ℕ) → y ≡ getD w at 0 → not x ≡ false → recordsSound stops (k - 1) (drop (at + y) w) ≡ r
-    records-again y q n = rw (one-record stops k (drop at w) h, sym record-here ∙ not-false x n, first-word w at, ← q, drop-drop y at w) at v
+  module _ (k : ℕ) (r : Bool) (h : 0 < k) where
+    pub records-again : (y : ℕ) → recordsSound stops k (drop at w) ≡ r → y ≡ getD w at 0 → not (o .table) ≡ false → recordsSound stops (k - 1) (drop (at + y) w) ≡ r
+    records-again y v q n = rw (one-record stops k (drop at w) h, sound-here n, first-word w at, ← q, drop-drop y at w) at v
 
-    pub records-out : not x ≡ true → false ≡ r
-    records-out n = rw (one-record stops k (drop at w) h, sym record-here ∙ not-true x n) at v
+    pub records-out : recordsSound stops k (drop at w) ≡ r → not (o .table) ≡ true → false ≡ r
+    records-out v n = rw (one-record stops k (drop at w) h, sym record-here ∙ not-true (o .table) n) at v
+
+    pub records-steady : (s t : Bool) (y : ℕ) → (s && recordsSteady stops k (drop at w)) ≡ r → y ≡ getD w at 0 → not (o .table) ≡ false → t ≡ (s && o .steady) → (t && recordsSteady stops (k - 1) (drop (at + y) w)) ≡ r
+    records-steady s t y v q n f =
+        ap (λ (b : Bool). b && recordsSteady stops (k - 1) (drop (at + y) w)) f
+        ∙ and-assoc s (o .steady) (recordsSteady stops (k - 1) (drop (at + y) w))
+        ∙ (rw (one-steady stops k (drop at w) h, ← (steady-here n), first-word w at, ← q, drop-drop y at w) at v)
+      where
+        and-assoc : (a b c : Bool) → ((a && b) && c) ≡ (a && (b && c))
+        and-assoc true b c = refl
+        and-assoc false b c = refl
 
 pub records-done : (stops : ℕ) (w : List ℕ) (at k : ℕ) (r : Bool) → at ≤ length w → k ≤ 0 → recordsSound stops k (drop at w) ≡ r → eqb at (length w) ≡ r
 unfolding recordsSound
@@ -153,7 +243,18 @@ records-done stops w at zero r i h v =
     ∙ rw (length-drop at w) at v
 records-done stops w at (suc k) r i h v = absurd (omega arith)
 
-pub ruleset records = (tests, records-inside, records-fit, records-again, records-out, records-done)
+steady-done : (stops : ℕ) (u : List ℕ) (k : ℕ) (s r : Bool) → k ≤ 0 → (s && recordsSteady stops k u) ≡ r → s ≡ r
+unfolding recordsSteady
+steady-done stops u zero true r h v = v
+steady-done stops u zero false r h v = v
+steady-done stops u (suc k) s r h v = absurd (omega arith)
+
+pub look-done : (stops : ℕ) (w : List ℕ) (at k : ℕ) (t s : Bool) (l : Look) → at ≤ length w → k ≤ 0 → (b : Bool) → recordsSound stops k (drop at w) ≡ t → (b && recordsSteady stops k (drop at w)) ≡ s → l ≡ lookBy (eqb at (length w)) b → l ≡ lookBy t s
+look-done stops w at k t s l i h b v u q = q ∙ ap (λ (x : Bool). lookBy x b) (records-done stops w at k t i h v) ∙ ap (lookBy t) (steady-done stops (drop at w) k b s h u)
+
+pub ruleset places = (tests, records-inside, records-fit)
+
+pub ruleset records = (tests, records-inside, records-fit, records-again, records-out, records-steady, look-done, look-none)
 
 -- ---- the table; x says whether its header is sound, y whether its classes are
 
@@ -189,11 +290,17 @@ module _ (w : List ℕ) (h : headerSize ≤ length w) (x : Bool) (e : x ≡ head
       table-classes m = rw (le-leb headerSize (length w) h, sym e ∙ not-false x n, sym g ∙ not-true y m)
 
       module _ (m : not y ≡ false) (at end : ℕ) (q : at ≡ servicesPlace w) (p : end ≡ usedWords w) where
-        pub table-rest : (r : Bool) → r ≡ recordsSound (stops# w) (services# w) (take (end - at) (drop at w)) → r ≡ isTable w
+        rest-is-table : recordsSound (stops# w) (services# w) (take (end - at) (drop at w)) ≡ isTable w
         unfolding isTable
-        table-rest r f = f ∙ rw (le-leb headerSize (length w) h, sym e ∙ not-false x n, sym g ∙ not-false y m, ← p, ← q, part-is at end w)
+        rest-is-table = sym (rw (le-leb headerSize (length w) h, sym e ∙ not-false x n, sym g ∙ not-false y m, ← p, ← q, ← (part-is at end w)))
 
-pub ruleset whole = (tests, table-short, table-head, table-header, table-classes, table-order, table-scaled, table-room, table-rest)
+        pub table-rest : (r : Look) → r ≡ lookBy (recordsSound (stops# w) (services# w) (take (end - at) (drop at w))) (recordsSteady (stops# w) (services# w) (take (end - at) (drop at w))) → r ≡ lookBy (isTable w) (steady w)
+        table-rest r f = f ∙ ap (λ (b : Bool). lookBy b (recordsSteady (stops# w) (services# w) (take (end - at) (drop at w)))) rest-is-table ∙ ap (λ (u : List ℕ). lookBy (isTable w) (recordsSteady (stops# w) (services# w) u)) (part-is at end w ∙ rw (p, q))
+
+pub table-told : (w : List ℕ) (l : Look) → l ≡ lookBy (isTable w) (steady w) → l .table ≡ isTable w
+table-told w l e = ap (λ (x : Look). x .table) e
+
+pub ruleset whole = (tests, look-none, table-told, table-short, table-head, table-header, table-classes, table-order, table-scaled, table-room, table-rest)
 
 -- ---- the words used
 

@@ -2,11 +2,12 @@
 use Prim.Native.Nat.{ℕ, _+_, _*_}
 use mathlib.Core.Path.{_≡_}
 use mathlib.Core.List.{List}
-use mathlib.Core.Bool.{Bool, true}
+use mathlib.Core.Bool.{Bool, true, false, _&&_}
 use lib.ListN.{length, drop}
 use Rattle.base.specs.Lists.{every}
-use Rattle.timetable.specs.Layout.{headerSize, bitFieldSize, stopSize, interchangeSize, extraSize, recordSize}
-use Rattle.timetable.specs.Table.{usedWords, firstDay, periodDays, bitFields#, stops#, interchanges#, servicesPlace, classes#, calls#, categories#, days#, extras#, rowsIn, legsAt, extraPlace, legsSound, headSound, isTable}
+use Rattle.timetable.specs.Layout.{headerSize, bitFieldSize, stopSize, interchangeSize, categorySize, daySize, extraSize, recordSize}
+use Rattle.timetable.specs.Runs.{openingSound}
+use Rattle.timetable.specs.Table.{usedWords, firstDay, periodDays, bitFields#, stops#, interchanges#, servicesPlace, classes#, calls#, categories#, days#, extras#, rowsIn, legsAt, openingAt, categoryPlace, dayPlace, extraPlace, legsSound, headSound, isTable}
 
 -- the words of a table, and no later ones
 pub record JustTable (w : List ℕ) : Type 0 where
@@ -30,6 +31,14 @@ classesPlace w = interchangesPlace w + interchangeSize * interchanges# w
 -- where the record at the front of the words ends, by its counts
 abbrev pub recordEnd : List ℕ → ℕ
 recordEnd w = recordSize (calls# w) (categories# w) (days# w) (extras# w)
+
+-- all that it holds but its calls is within bounds
+abbrev pub boundsSound : List ℕ → Bool
+boundsSound w =
+    openingSound (openingAt w)
+    && (every (legsSound false (calls# w)) (rowsIn (legsAt 1) categorySize (categories# w) (drop (categoryPlace w) w))
+    && (every (legsSound false (calls# w)) (rowsIn (legsAt 1) daySize (days# w) (drop (dayPlace w) w))
+    && every (legsSound true (calls# w)) (rowsIn (legsAt 2) extraSize (extras# w) (drop (extraPlace w) w))))
 
 -- its other *A are sound
 abbrev pub extrasSound : List ℕ → Bool

@@ -41,7 +41,7 @@ use timetable::STOP_WORDS;
 use timetable::STOPS_AT;
 use timetable::USED_AT;
 ghost use mathlib.Core.Path.{_≡_};
-ghost use mathlib.Core.Bool.{true, _&&_};
+ghost use mathlib.Core.Bool.{true, false, _&&_};
 ghost use Prim.Native.Nat.{_+_, _*_, _≤_};
 ghost use lib.ListN.{length, drop};
 ghost use lib.Dec.{leb, eqb};
@@ -49,31 +49,57 @@ ghost use Rattle.base.specs.Lists.{every};
 ghost use Rattle.timetable.specs.Layout.{headerSize, classSize, serviceHead, callSize, recordSize, firstService};
 ghost use Rattle.timetable.specs.Table.{wordCountIn, rowsIn, legsAt, classAt, callAt, openingAt, serviceAt};
 ghost use Rattle.timetable.specs.Table.{categoryPlace, dayPlace, extraPlace, used, tableOf, classSound, callSound};
-ghost use Rattle.timetable.specs.Table.{legsSound, serviceSound, countsSound, sizesSound, recordSound, recordsSound};
+ghost use Rattle.timetable.specs.Table.{legsSound, countsSound, sizesSound, recordSound, recordsSound};
 ghost use Rattle.timetable.specs.Table.{headSound, isTable};
-ghost use Rattle.table.specs.JustTable.{recordEnd, headerSound, classesPlace, extrasSound};
+ghost use Rattle.table.specs.JustTable.{recordEnd, headerSound, classesPlace, boundsSound, extrasSound};
+ghost use Rattle.table.specs.Steady.{callsSteady, recordsSteady, steady, lookBy};
+
+pub mod steady;
 
 // The day after 31.12.2199.
 const AFTER_LAST_DAY: u64 = calendar::LAST_DAY as u64 + 1;
+
+// What a look at words tells: whether they are a table, and of a table whether its calls are steady (specs/Steady).
+pub struct Look {
+    pub table: bool,
+    pub steady: bool,
+}
 
 // Whether the words are a table.
 pub fn is_table(w: &[u32]) -> bool
     ensures { λ r. ⌜ r ≡ isTable (now (w .entry)) ⌝ }
 {
+    let seen = look_at(w);
+    seen.table
+}
+
+// The same, and whether its calls are steady: one look tells both.
+pub fn look_at(w: &[u32]) -> Look
+    ensures { λ r. ⌜ r ≡ lookBy (isTable (now (w .entry))) (steady (now (w .entry))) ⌝ }
+{
     if w.len() < HEADER_WORDS {
-        return false;
+        return no_table();
     }
     if !header_sound(w) {
-        return false;
+        return no_table();
     }
     if !classes_sound(w) {
-        return false;
+        return no_table();
     }
-    records_sound(
+    records_look(
         &w[size(w[FIRST_SERVICE_AT])..size(w[USED_AT])],
         w[SERVICES_AT],
         w[STOPS_AT],
     )
+}
+
+fn no_table() -> Look
+    ensures { λ r. ⌜ r ≡ lookBy false false ⌝ }
+{
+    Look {
+        table: false,
+        steady: false,
+    }
 }
 
 // The words that a table uses, without those after them.
@@ -204,30 +230,73 @@ fn classes_within(w: &[u32], at: usize, n: u32) -> bool
 
 // ---- records
 
-// Whether v records follow each other and end with the words; the table has so many stops.
-fn records_sound(w: &[u32], v: u32, stops: u32) -> bool
-    ensures { λ r. ⌜ r ≡ recordsSound stops v (now (w .entry)) ⌝ }
+// Whether v records follow each other and end with the words, and whether their calls are steady; the table has so many stops.
+fn records_look(w: &[u32], v: u32, stops: u32) -> Look
+    ensures { λ r. ⌜ r ≡ lookBy (recordsSound stops v (now (w .entry))) (recordsSteady stops v (now (w .entry))) ⌝ }
 {
     let mut at = 0;
     let mut k = v;
+    let mut steady = true;
     while 0 < k {
-        if !record_sound(&w[at..], stops) {
-            return false;
+        let seen = record_look(&w[at..], stops);
+        if !seen.table {
+            return no_table();
         }
+        steady = both(steady, seen.steady);
         at += size(w[at]);
         k -= 1;
     }
-    at == w.len()
+    looked(at == w.len(), steady)
 }
 
-// Whether the record at the front of the words is sound.
+fn looked(table: bool, steady: bool) -> Look
+    ensures { λ r. ⌜ r ≡ lookBy table steady ⌝ }
+{
+    if !table {
+        return no_table();
+    }
+    Look {
+        table: true,
+        steady,
+    }
+}
+
+fn both(a: bool, b: bool) -> bool
+    ensures { λ r. ⌜ r ≡ (a && b) ⌝ }
+{
+    if !a {
+        return false;
+    }
+    b
+}
+
+// Whether the record at the front of the words is sound, and whether its calls are steady: where they are, they are sound.
+fn record_look(w: &[u32], stops: u32) -> Look
+    ensures { λ r. ⌜ r ≡ lookBy (recordSound stops (now (w .entry))) (callsSteady stops (now (w .entry))) ⌝ }
+{
+    if !sizes_sound(w) {
+        return no_table();
+    }
+    if !bounds_sound(w) {
+        return no_table();
+    }
+    if steady::calls_steady(w, stops) {
+        return looked(true, true);
+    }
+    looked(calls_sound(w, SERVICE_WORDS, w[CALLS_AT], stops), false)
+}
+
+// Whether it is sound.
 pub fn record_sound(w: &[u32], stops: u32) -> bool
     ensures { λ r. ⌜ r ≡ recordSound stops (now (w .entry)) ⌝ }
 {
     if !sizes_sound(w) {
         return false;
     }
-    service_sound(w, stops)
+    if !bounds_sound(w) {
+        return false;
+    }
+    calls_sound(w, SERVICE_WORDS, w[CALLS_AT], stops)
 }
 
 // Whether its counts are in their bounds, and it is as long as it says.
@@ -293,18 +362,15 @@ fn record_size(c: u32, g: u32, v: u32, a: u32) -> u64
         + EXTRA_WORDS as u64 * (a as u64)
 }
 
-// Whether all that it holds is within bounds.
-fn service_sound(w: &[u32], stops: u32) -> bool
+// Whether all that it holds but its calls is within bounds.
+fn bounds_sound(w: &[u32]) -> bool
     requires { ⌜ recordEnd (now w) ≤ length (now w) ⌝ }
-    ensures { λ r. ⌜ r ≡ serviceSound stops (serviceAt (now (w .entry))) ⌝ }
+    ensures { λ r. ⌜ r ≡ boundsSound (now (w .entry)) ⌝ }
 {
     if !runs::opening_sound(opening_at(w)) {
         return false;
     }
     let c = w[CALLS_AT];
-    if !calls_sound(w, SERVICE_WORDS, c, stops) {
-        return false;
-    }
     if !ranges_sound(w, category_place(w), w[CATEGORIES_AT], 1, false, c) {
         return false;
     }

@@ -8,12 +8,29 @@ sizes-sound-requires c κs = search one
 returns : tie.Need-returns
 returns c = search one
 
-service-sound-requires : tie.Need-service-sound-requires
-service-sound-requires c κs = search one
+bounds-sound-requires : tie.Need-bounds-sound-requires
+bounds-sound-requires c κs = search one
 
 returns-2 : tie.Need-returns-2
 returns-2 c = search one
 
+shared-slice-read-calls-sound : tie.Need-shared-slice-read-calls-sound
+shared-slice-read-calls-sound c = search one
+
+calls-sound-requires : tie.Need-calls-sound-requires
+calls-sound-requires c κs = search one
+
+returns-3 : tie.Need-returns-3
+returns-3 c = search one
+
 pub record-sound-spec : {M : Type 1} → statement M
 record-sound-spec =
-    tie.close (tie.spec sizes-sound-requires returns service-sound-requires returns-2)
+    tie.close
+    (tie.spec
+    sizes-sound-requires
+    returns
+    bounds-sound-requires
+    returns-2
+    shared-slice-read-calls-sound
+    calls-sound-requires
+    returns-3)
