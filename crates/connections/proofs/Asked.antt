@@ -42,6 +42,6 @@ module _ (w x ws : List ℕ) (m : ℕ) (e : m ≡ quickRefusal w (length x)) whe
 pub ruleset quick = (tests, quick-words, quick-refused, quick-is)
 
 -- of a table and words that begin with its index and go on by the calls' words the quick answer is the plain one
-pub connection-agrees : (w x c : List ℕ) (m : ℕ) → isTable w ≡ true → x ≡ indexOf (used w) ++ c → length c ≡ stops# (used w) + 4 * m → (ws : List ℕ) → connectionQuick w x ws ≡ connectionAsked w ws
+pub connection-agrees : (w x c : List ℕ) (m : ℕ) → isTable w ≡ true → x ≡ indexOf (used w) ++ c → length c ≡ stops# (used w) + 4 * m + 1 → (ws : List ℕ) → connectionQuick w x ws ≡ connectionAsked w ws
 unfolding connectionQuick connectionAsked
 connection-agrees w x c m t e l ws = quickly-agrees w x c m t e l noConnection (λ (v : View). connectionIn v ws)

@@ -41,7 +41,7 @@ module _ (w : List ℕ) (a b c n : ℕ) (p : a ≡ servicesFrom w) (q : b ≡ se
   pub too-short : n < a + b + c → false ≡ indexLong w n
   too-short h = rw (lt-leb (indexSize w + stops# w) n (omega (arith, least-is)))
 
-  pub long-enough : a + b + c ≤ n → (m : ℕ) → m ≡ (n - (a + b + c)) % 4 → eqb m 0 ≡ indexLong w n
+  pub long-enough : a + b + c ≤ n → (m : ℕ) → m ≡ (n - (a + b + c)) % 4 → eqb m 1 ≡ indexLong w n
   long-enough h m i = rw (le-leb (indexSize w + stops# w) n (omega (arith, least-is)), i, least-is)
 
 module _ (w x : List ℕ) (e : indexLong w (length x) ≡ true) where
@@ -181,16 +181,16 @@ length-index w =
     length-append (chainsOf w (fieldSection w)) (chainsOf w (stopSection w) ++ (chainsOf w (interchangeSection w) ++ (chainsOf w (classSection w) ++ placesOf w)))
     ∙ rw (length-append (chainsOf w (stopSection w)) (chainsOf w (interchangeSection w) ++ (chainsOf w (classSection w) ++ placesOf w)), length-append (chainsOf w (interchangeSection w)) (chainsOf w (classSection w) ++ placesOf w), length-append (chainsOf w (classSection w)) (placesOf w), length-of w (fieldSection w), length-of w (stopSection w), length-of w (interchangeSection w), length-of w (classSection w), length-places w (services# w) (servicesPlace w)) (omega arith)
 
-module _ (w x c : List ℕ) (m : ℕ) (t : isTable w ≡ true) (e : x ≡ indexOf (used w) ++ c) (l : length c ≡ stops# (used w) + 4 * m) where
+module _ (w x c : List ℕ) (m : ℕ) (t : isTable w ≡ true) (e : x ≡ indexOf (used w) ++ c) (l : length c ≡ stops# (used w) + 4 * m + 1) where
   table-headed : headed w ≡ true
   table-headed = rw (le-leb headerSize (length w) (omega (arith, table-says w t .used-low, table-says w t .used-high)), table-parts w t .header)
 
-  index-length : length x ≡ indexSize (used w) + stops# (used w) + 4 * m
+  index-length : length x ≡ indexSize (used w) + stops# (used w) + 4 * m + 1
   index-length = ap length e ∙ length-append (indexOf (used w)) c ∙ omega (arith, length-index (used w), l)
 
   index-long : indexLong (used w) (length x) ≡ true
   index-long =
-      let r : (length x - (indexSize (used w) + stops# (used w))) % 4 ≡ 0 = omega (arith, index-length) in
+      let r : (length x - (indexSize (used w) + stops# (used w))) % 4 ≡ 1 = omega (arith, index-length) in
       rw (le-leb (indexSize (used w) + stops# (used w)) (length x) (omega (arith, index-length)), r)
 
   front : lookupsOf (used w) x ≡ indexOf (used w)

@@ -8,11 +8,11 @@ use Rattle.timetable.specs.Table.{stops#, used}
 use Rattle.timetable.specs.View.{View}
 use Rattle.index.specs.Index.{indexSize, headed, viewIn}
 
--- ---- the words lent as an index: those of the look-ups (Index), then those of the calls, one for each stop and four for each call
+-- ---- the words lent as an index: those of the look-ups (Index), then those of the calls, one for each stop and four for each call, and a mark
 
 -- so many words can be an index of these: all that is asked of the index before a look-up
 abbrev pub indexLong : List ℕ → ℕ → Bool
-indexLong w n = leb (indexSize w + stops# w) n && eqb ((n - (indexSize w + stops# w)) % 4) 0
+indexLong w n = leb (indexSize w + stops# w) n && eqb ((n - (indexSize w + stops# w)) % 4) 1
 
 -- the words of the look-ups
 abbrev pub lookupsOf : List ℕ → List ℕ → List ℕ

@@ -1,5 +1,5 @@
 // Whether words are a table's index (43), told exactly, without other words and in time that grows with the table only: each section's chains (`chain_check`),
-// the place of each service by going from record to record, and the calls (`calls_check`).
+// the place of each service by going from record to record, the calls (`calls_check`) and their mark.
 use index::Section;
 use timetable::FIRST_SERVICE_AT;
 use timetable::SERVICES_AT;
@@ -9,10 +9,11 @@ ghost use Prim.Native.Nat.{_+_, _*_, _≤_};
 ghost use lib.ListN.{length, drop};
 ghost use Rattle.timetable.specs.Table.{services#};
 ghost use Rattle.table.specs.JustTable.{JustTable};
+ghost use Rattle.table.specs.Steady.{steady};
 ghost use Rattle.chain_check.specs.Tally.{same};
 ghost use Rattle.index.specs.Index.{indexSize, placesOf, indexOf};
 ghost use Rattle.index.specs.Inner.Ready.{Fits};
-ghost use Rattle.whole_index.specs.Whole.{wholeIndexOf};
+ghost use Rattle.whole_index.specs.Whole.{markedCalls, wholeIndexOf};
 ghost use Rattle.index_check.specs.Check.{checkedOf};
 ghost use Rattle.index_check.specs.Inner.Parts.{chainsRight};
 
@@ -26,18 +27,20 @@ pub enum IndexCheck {
 pub fn check_index(w: &[u32], x: &[u32]) -> IndexCheck
     ensures { λ r. ⌜ r ≡ checkedOf (now (w .entry)) (now (x .entry)) ⌝ }
 {
-    if !table::is_table(w) {
+    let seen = table::look_at(w);
+    if !seen.table {
         return IndexCheck::Refused(21);
     }
-    if !is_index(table::used_words(w), x) {
+    if !is_index(table::used_words(w), seen.steady, x) {
         return IndexCheck::Refused(43);
     }
     IndexCheck::Right
 }
 
-// The same of just a table.
-pub fn is_index(w: &[u32], x: &[u32]) -> bool
+// The same of just a table, where it is known whether its calls are steady.
+pub fn is_index(w: &[u32], is_steady: bool, x: &[u32]) -> bool
     requires { ⌜ JustTable (now w) ⌝ }
+    requires { ⌜ «is_steady» ≡ steady (now w) ⌝ }
     ensures { λ r. ⌜ r ≡ same (now (x .entry)) (wholeIndexOf (now (w .entry))) ⌝ }
 {
     let n = index::index_size(w);
@@ -47,7 +50,23 @@ pub fn is_index(w: &[u32], x: &[u32]) -> bool
     if !are_lookups(w, &x[0..n]) {
         return false;
     }
-    calls_check::is_call_index(w, &x[n..])
+    are_marked(w, is_steady, &x[n..])
+}
+
+// Whether words are the calls and the mark.
+fn are_marked(w: &[u32], is_steady: bool, y: &[u32]) -> bool
+    requires { ⌜ JustTable (now w) ⌝ }
+    requires { ⌜ «is_steady» ≡ steady (now w) ⌝ }
+    ensures { λ r. ⌜ r ≡ same (now (y .entry)) (markedCalls (now (w .entry))) ⌝ }
+{
+    if y.len() == 0 {
+        return false;
+    }
+    let last = y.len() - 1;
+    if y[last] != whole_index::mark(is_steady) {
+        return false;
+    }
+    calls_check::is_call_index(w, &y[0..last])
 }
 
 // ---- the look-ups

@@ -18,8 +18,7 @@ use Rattle.chains.proofs.Follow.{first-le, first-key, next-le, next-key}
 use Rattle.chains.proofs.Agrees.{greatest-le, first-agrees, next-agrees}
 use Rattle.index.specs.Index.{stopsFrom, fieldSection, stopSection, interchangeSection, classSection, placesOf, chainsOf, indexOf}
 use Rattle.index.proofs.Agrees.{length-of}
-use Rattle.calls.specs.Calls.{callIndexOf}
-use Rattle.whole_index.specs.Whole.{wholeIndexOf}
+use Rattle.whole_index.specs.Whole.{markedCalls, wholeIndexOf}
 use Rattle.stops_numbered.specs.Inner.Numbered.{numberAt, stopsWith, stopFrom, firstStop, nextStop}
 
 -- the record e from the end is the stop at place S - e
@@ -84,23 +83,23 @@ module _ (w x rest : List ℕ) (number : ℕ) (e : drop (stopsFrom w) x ≡ chai
       ∙ from-greatest w number (stops# w - (place + 1)) (place + 1) (omega arith)
 
 -- the chains of the stops in the index as a whole
-stops-part : (w x : List ℕ) → x ≡ wholeIndexOf w → drop (stopsFrom w) x ≡ chainsOf w (stopSection w) ++ ((chainsOf w (interchangeSection w) ++ (chainsOf w (classSection w) ++ placesOf w)) ++ callIndexOf w)
+stops-part : (w x : List ℕ) → x ≡ wholeIndexOf w → drop (stopsFrom w) x ≡ chainsOf w (stopSection w) ++ ((chainsOf w (interchangeSection w) ++ (chainsOf w (classSection w) ++ placesOf w)) ++ markedCalls w)
 unfolding wholeIndexOf indexOf
 stops-part w x q =
     let a : List ℕ = chainsOf w (fieldSection w) in
     let b : List ℕ = chainsOf w (stopSection w) in
     let c : List ℕ = chainsOf w (interchangeSection w) ++ (chainsOf w (classSection w) ++ placesOf w) in
-    ap (drop (stopsFrom w)) (q ∙ append-assoc a (b ++ c) (callIndexOf w))
-    ∙ drop-at a ((b ++ c) ++ callIndexOf w) (stopsFrom w) (length-of w (fieldSection w))
-    ∙ append-assoc b c (callIndexOf w)
+    ap (drop (stopsFrom w)) (q ∙ append-assoc a (b ++ c) (markedCalls w))
+    ∙ drop-at a ((b ++ c) ++ markedCalls w) (stopsFrom w) (length-of w (fieldSection w))
+    ∙ append-assoc b c (markedCalls w)
 
 -- THE PLACES: of a table's words and their own index
 module _ (w x : List ℕ) (number : ℕ) (q : x ≡ wholeIndexOf w) where
   pub first-own : firstStop w x number ≡ stopFrom w number 0 (stops# w)
-  first-own = first-from w x ((chainsOf w (interchangeSection w) ++ (chainsOf w (classSection w) ++ placesOf w)) ++ callIndexOf w) number (stops-part w x q)
+  first-own = first-from w x ((chainsOf w (interchangeSection w) ++ (chainsOf w (classSection w) ++ placesOf w)) ++ markedCalls w) number (stops-part w x q)
 
   pub next-own : (place : ℕ) → place < stops# w → numberAt w place ≡ number → nextStop w x number place ≡ stopFrom w number (place + 1) (stops# w - (place + 1))
-  next-own = next-from w x ((chainsOf w (interchangeSection w) ++ (chainsOf w (classSection w) ++ placesOf w)) ++ callIndexOf w) number (stops-part w x q)
+  next-own = next-from w x ((chainsOf w (interchangeSection w) ++ (chainsOf w (classSection w) ++ placesOf w)) ++ markedCalls w) number (stops-part w x q)
 
 -- ---- one after the other they are all that have the number
 

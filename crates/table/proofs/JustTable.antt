@@ -12,6 +12,7 @@ use borrow.Author.Tests.{le-leb}
 use Rattle.base.proofs.Loops.{and-true}
 use Rattle.timetable.specs.Layout.{headerSize, bitFieldSize, stopSize, interchangeSize, classSize}
 use Rattle.timetable.specs.Table.{rowsIn, bitFieldAt, stopAt, interchangeAt, classAt, servicesIn, usedWords, firstDay, periodDays, bitFields#, stops#, interchanges#, services#, servicesPlace, classes#, used, resolved, stopsAt, tableOf, recordsSound, headSound, isTable}
+use Rattle.table.specs.Steady.{recordsSteady, steady}
 use Rattle.table.specs.JustTable.{JustTable, headerSound, stopsPlace, interchangesPlace, classesPlace}
 use Rattle.table.proofs.Says.{HeadOf, table-parts, table-says, table-word, table-records}
 
@@ -52,6 +53,9 @@ module _ (w : List ℕ) (e : isTable w ≡ true) where
 
   pub used-word : (k : ℕ) → k < headerSize → getD (used w) k 0 ≡ getD w k 0
   used-word k h = same-word (usedWords w) k refl h
+
+  pub used-steady : steady (used w) ≡ steady w
+  used-steady = rw (used-still (usedWords w) refl, used-word 4 (omega arith), used-word 6 (omega arith), used-word 7 (omega arith))
 
   pub used-same : tableOf (used w) ≡ tableOf w
   used-same = used-holds (usedWords w) refl

@@ -2,8 +2,8 @@ use Rattle.index_check.proofs.Whole.{any}
 use Rattle.index_check.proofs.check_index.Statement.{statement}
 use Rattle.index_check.proofs.check_index.Tie as tie
 
-is-table-requires : tie.Need-is-table-requires
-is-table-requires c κs = search any
+look-at-requires : tie.Need-look-at-requires
+look-at-requires c κs = search any
 
 returns : tie.Need-returns
 returns c = search any
@@ -23,4 +23,4 @@ returns-3 c = search any
 pub check-index-spec : {M : Type 1} → statement M
 check-index-spec =
     tie.close
-    (tie.spec is-table-requires returns used-words-requires is-index-requires returns-2 returns-3)
+    (tie.spec look-at-requires returns used-words-requires is-index-requires returns-2 returns-3)

@@ -23,20 +23,20 @@ are-lookups-requires c κs = search wholes
 returns-2 : tie.Need-returns-2
 returns-2 c = search wholes
 
-mul-is-call-index : tie.Need-mul-is-call-index
-mul-is-call-index c = search wholes
+mul-are-marked : tie.Need-mul-are-marked
+mul-are-marked c = search wholes
 
-sub-is-call-index : tie.Need-sub-is-call-index
-sub-is-call-index c = search wholes
+sub-are-marked : tie.Need-sub-are-marked
+sub-are-marked c = search wholes
 
-part-is-call-index-start : tie.Need-part-is-call-index-start
-part-is-call-index-start c = search wholes
+part-are-marked-start : tie.Need-part-are-marked-start
+part-are-marked-start c = search wholes
 
-part-is-call-index-end : tie.Need-part-is-call-index-end
-part-is-call-index-end c = search wholes
+part-are-marked-end : tie.Need-part-are-marked-end
+part-are-marked-end c = search wholes
 
-is-call-index-requires : tie.Need-is-call-index-requires
-is-call-index-requires c κs = search wholes
+are-marked-requires : tie.Need-are-marked-requires
+are-marked-requires c κs = search wholes
 
 returns-3 : tie.Need-returns-3
 returns-3 c = search wholes
@@ -52,9 +52,9 @@ is-index-spec =
     part-are-lookups-end
     are-lookups-requires
     returns-2
-    mul-is-call-index
-    sub-is-call-index
-    part-is-call-index-start
-    part-is-call-index-end
-    is-call-index-requires
+    mul-are-marked
+    sub-are-marked
+    part-are-marked-start
+    part-are-marked-end
+    are-marked-requires
     returns-3)

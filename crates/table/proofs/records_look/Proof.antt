@@ -80,10 +80,11 @@ loop-again c =
     let given = c .before .before .before .before .before .before .before .before .before .before .args in
     let seen = c .before .before .before .before .before .record-look in
     let kept = c .before .before .before .if1 .left in
-    let said = c .size .ensures in
-    (records-fit (given .stops) (given .w .now) (loop .at) (seen .result) (loop .inv .0) (seen .ensures) kept (c .size .result) said,
-    records-again (given .stops) (given .w .now) (loop .at) (seen .result) (loop .inv .0) (seen .ensures) (loop .k) (recordsSound (given .stops) (given .v) (given .w .now)) (c .before .before .before .before .before .before .before .loop-test .taken) (c .size .result) (loop .inv .1) said kept,
-    records-steady (given .stops) (given .w .now) (loop .at) (seen .result) (loop .inv .0) (seen .ensures) (loop .k) (recordsSteady (given .stops) (given .v) (given .w .now)) (c .before .before .before .before .before .before .before .loop-test .taken) (loop .steady) (c .before .before .both .result) (c .size .result) (loop .inv .2) said kept (c .before .before .both .ensures))
+    let said = c .size .ensures in (
+      records-fit (given .stops) (given .w .now) (loop .at) (seen .result) (loop .inv .0) (seen .ensures) kept (c .size .result) said,
+      records-again (given .stops) (given .w .now) (loop .at) (seen .result) (loop .inv .0) (seen .ensures) (loop .k) (recordsSound (given .stops) (given .v) (given .w .now)) (c .before .before .before .before .before .before .before .loop-test .taken) (c .size .result) (loop .inv .1) said kept,
+      records-steady (given .stops) (given .w .now) (loop .at) (seen .result) (loop .inv .0) (seen .ensures) (loop .k) (recordsSteady (given .stops) (given .v) (given .w .now)) (c .before .before .before .before .before .before .before .loop-test .taken) (loop .steady) (c .before .before .both .result) (c .size .result) (loop .inv .2) said kept (c .before .before .both .ensures),
+    )
 
 looked-requires : tie.Need-looked-requires Inv-loop μ-loop
 looked-requires c κs = search records

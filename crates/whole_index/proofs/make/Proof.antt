@@ -5,8 +5,8 @@ use Rattle.whole_index.proofs.make.Tie as tie
 index-size-requires : tie.Need-index-size-requires
 index-size-requires c κs = search makes
 
-call-index-size-requires : tie.Need-call-index-size-requires
-call-index-size-requires c κs = search makes
+marked-size-requires : tie.Need-marked-size-requires
+marked-size-requires c κs = search makes
 
 add-needed : tie.Need-add-needed
 add-needed c = search makes
@@ -15,7 +15,7 @@ returns : tie.Need-returns
 returns c = search makes
 
 put-whole-requires : tie.Need-put-whole-requires
-put-whole-requires c κs = search makes
+put-whole-requires c κs = (search makes, (search makes, (search makes, search makes)))
 
 same-length : tie.Need-same-length
 same-length c = search makes
@@ -28,7 +28,7 @@ make-spec =
     tie.close
     (tie.spec
     index-size-requires
-    call-index-size-requires
+    marked-size-requires
     add-needed
     returns
     put-whole-requires

@@ -2,8 +2,8 @@ use Rattle.whole_index.proofs.Answers.{any}
 use Rattle.whole_index.proofs.make_index.Statement.{statement}
 use Rattle.whole_index.proofs.make_index.Tie as tie
 
-is-table-requires : tie.Need-is-table-requires
-is-table-requires c κs = search any
+look-at-requires : tie.Need-look-at-requires
+look-at-requires c κs = search any
 
 returns : tie.Need-returns
 returns c = search any
@@ -23,4 +23,4 @@ returns-2 c = search any
 pub make-index-spec : {M : Type 1} → statement M
 make-index-spec =
     tie.close
-    (tie.spec is-table-requires returns used-words-requires make-requires same-length returns-2)
+    (tie.spec look-at-requires returns used-words-requires make-requires same-length returns-2)

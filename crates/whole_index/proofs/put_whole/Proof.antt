@@ -5,20 +5,20 @@ use Rattle.whole_index.proofs.put_whole.Tie as tie
 put-index-requires : tie.Need-put-index-requires
 put-index-requires c κs = search parts
 
-mul-put-calls : tie.Need-mul-put-calls
-mul-put-calls c = search parts
+mul-put-marked : tie.Need-mul-put-marked
+mul-put-marked c = search parts
 
-sub-put-calls : tie.Need-sub-put-calls
-sub-put-calls c = search parts
+sub-put-marked : tie.Need-sub-put-marked
+sub-put-marked c = search parts
 
-part-put-calls-start : tie.Need-part-put-calls-start
-part-put-calls-start c = search parts
+part-put-marked-start : tie.Need-part-put-marked-start
+part-put-marked-start c = search parts
 
-part-put-calls-end : tie.Need-part-put-calls-end
-part-put-calls-end c = search parts
+part-put-marked-end : tie.Need-part-put-marked-end
+part-put-marked-end c = search parts
 
-put-calls-requires : tie.Need-put-calls-requires
-put-calls-requires c κs = search parts
+put-marked-requires : tie.Need-put-marked-requires
+put-marked-requires c κs = search parts
 
 same-length : tie.Need-same-length
 same-length c = search parts
@@ -31,10 +31,10 @@ put-whole-spec =
     tie.close
     (tie.spec
     put-index-requires
-    mul-put-calls
-    sub-put-calls
-    part-put-calls-start
-    part-put-calls-end
-    put-calls-requires
+    mul-put-marked
+    sub-put-marked
+    part-put-marked-start
+    part-put-marked-end
+    put-marked-requires
     same-length
     returns)
