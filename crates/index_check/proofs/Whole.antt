@@ -9,7 +9,7 @@ use lib.ListN.{length, getD, take, drop, length-drop, length-append}
 use lib.Seq.{drop-drop, length-take-le, take-all, take-at}
 use lib.Dec.{eqb}
 use borrow.Author.Tests.{not-true, not-false}
-use Rattle.base.proofs.Laws.{tests, apart}
+use Rattle.base.proofs.Laws.{tests, clash}
 use Rattle.timetable.specs.Table.{bitFields#, stops#, interchanges#, services#, classes#, used, isTable}
 use Rattle.table.specs.Steady.{steady, lookBy}
 use Rattle.table.specs.declared.Look.{Look}
@@ -115,10 +115,12 @@ module _ (w y : List ℕ) where
         last-is [] m = refl
         last-is (x ∷ c) m = last-is c m
 
-    whole-again : (y : List ℕ) → 1 ≤ length y → y ≡ take (length y - 1) y ++ (getD y (length y - 1) 0 ∷ [])
-    whole-again [] g = absurd (omega (arith, g))
-    whole-again (x ∷ []) g = refl
-    whole-again (x ∷ (u ∷ v)) g = ap (λ (s : List ℕ). x ∷ s) (whole-again (u ∷ v) (omega arith))
+    whole-at : (y : List ℕ) (n : ℕ) → length y ≡ suc n → y ≡ take n y ++ (getD y n 0 ∷ [])
+    whole-at [] n g = absurd (omega (arith, g))
+    whole-at (x ∷ []) zero g = refl
+    whole-at (x ∷ []) (suc n) g = absurd (omega (arith, g))
+    whole-at (x ∷ (u ∷ v)) zero g = absurd (omega (arith, g))
+    whole-at (x ∷ (u ∷ v)) (suc n) g = ap (λ (s : List ℕ). x ∷ s) (whole-at (u ∷ v) n (omega (arith, g)))
 
     module _ (m : ℕ) (s : Bool) (e : s ≡ steady w) (f : m ≡ cond s 1 0) where
       mark-is : m ≡ steadyMark w
@@ -129,16 +131,15 @@ module _ (w y : List ℕ) where
       marked-wrong n = differs y (callIndexOf w ++ (steadyMark w ∷ [])) (λ q. n (ends (callIndexOf w) (steadyMark w) q .1 ∙ sym mark-is))
 
       pub marked-tells : getD y (length y - 1) 0 ≡ m → (b : Bool) → b ≡ same (take (length y - 1 - 0) y) (callIndexOf w) → b ≡ same y (markedCalls w)
+      unfolding markedCalls
       marked-tells q true g = sym (yes (same-is (take (length y - 1) y) (callIndexOf w) (rw sub-zero at (sym g))))
         where
           yes : take (length y - 1) y ≡ callIndexOf w → same y (markedCalls w) ≡ true
-          unfolding markedCalls
-          yes d = ap (λ (v : List ℕ). same v (callIndexOf w ++ (steadyMark w ∷ []))) (whole-again y h ∙ rw (d, q, mark-is)) ∙ same-refl (callIndexOf w ++ (steadyMark w ∷ []))
+          yes d = ap (λ (v : List ℕ). same v (callIndexOf w ++ (steadyMark w ∷ []))) (whole-at y (length y - 1) (omega arith) ∙ rw (d, q, mark-is)) ∙ same-refl (callIndexOf w ++ (steadyMark w ∷ []))
       marked-tells q false g = no
         where
           no : false ≡ same y (markedCalls w)
-          unfolding markedCalls
-          no = differs y (callIndexOf w ++ (steadyMark w ∷ [])) (λ d. apart (rw sub-zero at g ∙ ap (λ (v : List ℕ). same v (callIndexOf w)) (ends (callIndexOf w) (steadyMark w) d .0) ∙ same-refl (callIndexOf w)))
+          no = differs y (callIndexOf w ++ (steadyMark w ∷ [])) (λ d. clash (rw sub-zero at g ∙ ap (λ (v : List ℕ). same v (callIndexOf w)) (ends (callIndexOf w) (steadyMark w) d .0) ∙ same-refl (callIndexOf w)))
 
 pub ruleset marks = (tests, marked-none, marked-some, marked-last, marked-wrong, marked-tells)
 
