@@ -5,23 +5,23 @@ use mathlib.Core.Bool.{Bool, true, false, cond, not, _&&_}
 use mathlib.Core.Option.{Option, none, some}
 use Prim.Native.Nat.{ℕ, zero, suc, _+_, _-_, _*_, _^_, _≤_, _<_}
 use native.Mathlib.Omega.{arith}
-use lib.ListN.{length, getD, getElem?, take, drop, drop-of-length-le}
+use lib.ListN.{length, getD, take, drop, drop-of-length-le}
 use lib.Dec.{eqb, ltb, leb}
 use borrow.Author.Tests.{not-true, not-false, eq-eqb, ne-eqb, le-leb, lt-leb, lt-ltb, le-ltb}
 use Rattle.base.proofs.Laws.{tests, clash, by-leb, by-ltb, by-eqb}
 use Rattle.base.proofs.Loops.{and-true}
 use Rattle.timetable.specs.Layout.{serviceHead, callSize, daySize}
 use Rattle.timetable.specs.Runs.{openingSound}
-use Rattle.timetable.specs.Table.{rowsIn, dayAt, openingAt, calls#, days#, dayPlace, serviceAt, stops#, services#, withStops, sizesSound, recordSound}
+use Rattle.timetable.specs.Table.{rowsIn, dayAt, callAt, openingAt, calls#, days#, dayPlace, serviceAt, stops#, services#, callSound, sizesSound, recordSound}
+use Rattle.timetable.specs.declared.Call.{Call}
 use Rattle.timetable.specs.View.{View}
 use Rattle.timetable.specs.Run.{callsRefusal, courseBy, stretchCourse, courseOn}
 use Rattle.timetable.specs.declared.Opening.{Opening}
 use Rattle.timetable.specs.declared.Course.{Course}
 use Rattle.timetable.specs.declared.Course.the-variants.{Along, NotRunning, Refused}
-use Rattle.table.proofs.Says.{sizes-say, head-word, header-word, record-says, record-sized}
+use Rattle.table.proofs.Says.{sizes-say, head-word, header-word, record-sized, call-sound}
 use Rattle.cover.specs.Inner.Cover.{legsIn, inTurn}
-use Rattle.index.specs.declared.ServiceRecord.the-variants.{From, Refused as RecordRefused}
-use Rattle.index.specs.Index.{viewIn, recordPlaceIn, recordFrom, recordIn, serviceFrom}
+use Rattle.index.specs.Index.{viewIn}
 use Rattle.index.specs.Inner.Ready.{Ready}
 use Rattle.course.specs.declared.legs.DayLegs.{DayLegs}
 use Rattle.course.specs.Inner.Run.{noted}
@@ -31,11 +31,12 @@ use Rattle.course.specs.Inner.Rows.{callsFrom}
 use Rattle.course.specs.Inner.Course.{stretchesCourse}
 use Rattle.course.proofs.Laws.{stretch-calls}
 use Rattle.course.proofs.Turn.{turn-31, turn-order, turn-within, turn-day}
-use Rattle.board.specs.Board.{Departure, callDepartures, leaves, placeDepartures}
-use Rattle.board_runs.specs.Batch.{foundAt, departuresAt, Batched, Shelved}
+use Rattle.board.specs.Board.{leaves}
+use Rattle.board_runs.specs.Batch.{daysFollow, followed, leftOn, callStands, saysLeft, trusted, callGives, departuresAt, recordOf, departuresIn, Batched, Shelved}
 use Rattle.board_runs.specs.declared.Batch.{Batch}
-use Rattle.board_runs.specs.Inner.Plain.{recordDepartures, goesFrom, goesAlong, isNone, unrefused, Opened, DaysInTurn, PlainSays}
-use Rattle.board_runs.proofs.Needs.{record-goes, record-idle}
+use Rattle.board_runs.specs.Inner.Plain.{goesFrom, goesAlong, goesIn, alongIn, recordGives, isNone, unrefused, callsPlain, Opened, DaysInTurn, CallReady}
+use Rattle.board_runs.proofs.Given.{followed-days, goes-ready, goes-none, call-room, unmarked, none-past, given-by}
+use Rattle.board_runs.proofs.Plain.{plain-record, plain-fine}
 use Rattle.board_runs.proofs.Hidden.{past-none, shelf-fits, shelf-some, shelf-place}
 
 and-no : (b : Bool) → false ≡ (b && false)
@@ -72,37 +73,71 @@ module _ (stops : ℕ) (s : List ℕ) (a b c p : ℕ) where
       (λ h. refl)
       (λ h. by-ltb (λ (t : Bool). leaves (cond t (Refused 35) (stretchCourse (serviceAt s) a (b - a))) p ≡ false) c (calls# s - 1) (λ g. refl) (λ g. e))
 
-  pub along-before : p < a → false ≡ goesAlong stops s a b c p
-  along-before h = and-no (recordSound stops s) ∙ ap (λ (t : Bool). recordSound stops s && t) (sym (off-any (off-leaves s a (b - a) p (rw (lt-leb a p h)))))
+  before : p < a → goesAlong stops s a b c p ≡ false
+  before h = ap (λ (t : Bool). recordSound stops s && t) (off-any (off-leaves s a (b - a) p (rw (lt-leb a p h)))) ∙ sym (and-no (recordSound stops s))
+
+  -- whatever the mark
+  neither : (m : Bool) → leftOn (calls# s - 1) a b c p ≡ false → goesAlong stops s a b c p ≡ false → false ≡ alongIn m stops s a b c p
+  neither m e f = go (m && followed s)
+    where
+      go : (x : Bool) → false ≡ cond x (leftOn (calls# s - 1) a b c p && callStands stops s p) (goesAlong stops s a b c p)
+      go true = sym (ap (λ (y : Bool). y && callStands stops s p) e)
+      go false = sym f
+
+  pub along-before : (m : Bool) → p < a → false ≡ alongIn m stops s a b c p
+  along-before m h = neither m (rw (lt-leb a p h)) (before h)
 
   module _ (o : a ≤ b) where
-    pub along-after : b ≤ p → false ≡ goesAlong stops s a b c p
-    along-after h =
+    after : b ≤ p → goesAlong stops s a b c p ≡ false
+    after h =
         let l : a + (b - a) ≤ p = omega arith in
         let m : a ≤ p = omega arith in
-        and-no (recordSound stops s) ∙ ap (λ (t : Bool). recordSound stops s && t) (sym (off-any (off-leaves s a (b - a) p (rw (le-leb a p m, le-ltb p (a + (b - a)) l)))))
+        ap (λ (t : Bool). recordSound stops s && t) (off-any (off-leaves s a (b - a) p (rw (le-leb a p m, le-ltb p (a + (b - a)) l)))) ∙ sym (and-no (recordSound stops s))
+
+    pub along-after : (m : Bool) → b ≤ p → false ≡ alongIn m stops s a b c p
+    along-after m h = neither m (rw (le-ltb p b h) (sym (and-no (leb a p)))) (after h)
 
     module _ (i : b ≤ calls# s - 1) (h : a ≤ p) (g : p < b) where
       begins : leb (calls# s - 1) a ≡ false
       begins = lt-leb (calls# s - 1) a (omega arith)
 
-      pub along-two : c < getD s 6 0 - 1 → false ≡ goesAlong stops s a b c p
+      two : c < calls# s - 1 → goesAlong stops s a b c p ≡ false
       unfolding stretchesCourse
-      along-two l = and-no (recordSound stops s) ∙ rw (begins, lt-ltb c (calls# s - 1) l)
+      two l = rw (begins, lt-ltb c (calls# s - 1) l) (sym (and-no (recordSound stops s)))
+
+      pub along-two : (m : Bool) → c < getD s 6 0 - 1 → false ≡ alongIn m stops s a b c p
+      along-two m l = neither m (rw (lt-leb (calls# s - 1) c l, le-leb a p h, lt-ltb p b g)) (two l)
 
       module _ (l : getD s 6 0 - 1 ≤ c) where
         one : leaves (stretchesCourse (serviceAt s) (calls# s - 1) a b c) p ≡ unrefused s a (b - a)
         unfolding stretchesCourse
         one = rw (begins, le-ltb c (calls# s - 1) l) (along-leaves s a (b - a) p (omega arith) h (omega arith))
 
-        pub along-plain : (r : Bool) → PlainSays stops s r → r ≡ true → true ≡ goesAlong stops s a b c p
-        along-plain r f e = sym (rw (f .sound e, one, f .fine e a (b - a) (omega arith) (omega arith)))
+        -- by what calls that pass say
+        plainly : followed s ≡ true → callsPlain stops s ≡ true → goesAlong stops s a b c p ≡ true
+        plainly y z = rw (plain-record stops s y z, one, plain-fine stops s y z a (b - a) (omega arith) (omega arith))
 
-        pub along-by : (r : Bool) → r ≡ (recordSound stops s && unrefused s a (b - a)) → r ≡ goesAlong stops s a b c p
-        along-by r e = e ∙ ap (λ (t : Bool). recordSound stops s && t) (sym one)
+        -- y says whether the ranges follow
+        module _ (m y : Bool) (f : y ≡ followed s) where
+          pub along-loose : not y ≡ true → (r : Bool) → r ≡ (recordSound stops s && unrefused s a (b - a)) → r ≡ alongIn m stops s a b c p
+          along-loose n r e =
+              e ∙ ap (λ (t : Bool). recordSound stops s && t) (sym one)
+              ∙ ap (λ (t : Bool). cond t (leftOn (calls# s - 1) a b c p && callStands stops s p) (goesAlong stops s a b c p)) (and-no m ∙ ap (λ (t : Bool). m && t) (sym (not-true y n) ∙ f))
+
+          pub along-steady : not y ≡ false → m ≡ true → (r : Bool) → r ≡ callStands stops s p → r ≡ alongIn m stops s a b c p
+          along-steady n d r e = e ∙ sym (rw (d, sym f ∙ not-false y n, le-leb a p h, lt-ltb p b g, le-leb (calls# s - 1) c l) refl)
+
+          pub along-plain : not y ≡ false → m ≡ false → (r : Bool) → r ≡ callsPlain stops s → r ≡ true → true ≡ alongIn m stops s a b c p
+          along-plain n d r e v = sym (rw d (plainly (sym f ∙ not-false y n) (sym e ∙ v)))
+
+        pub along-by : (m : Bool) → m ≡ false → (r : Bool) → r ≡ (recordSound stops s && unrefused s a (b - a)) → r ≡ alongIn m stops s a b c p
+        along-by m d r e = e ∙ ap (λ (t : Bool). recordSound stops s && t) (sym one) ∙ sym (rw d refl)
 
       pub along-within : a + (b - a) < calls# s
       along-within = omega arith
+
+      pub along-call : DaysInTurn s → serviceHead + callSize * p + callSize ≤ length s
+      along-call d = call-room s p (d .opened) (omega arith)
 
 module _ (s : List ℕ) (d : DaysInTurn s) where
   pub along-sized : sizesSound s ≡ true
@@ -114,7 +149,12 @@ module _ (s : List ℕ) (d : DaysInTurn s) where
   pub along-legs : 1 ≤ getD s 6 0
   along-legs = omega (arith, sizes-say s (d .opened .sized) .calls-low)
 
-pub ruleset along = (tests, along-before, along-after, along-two, along-plain, along-by, along-within, along-sized, along-head, along-legs)
+pub ruleset along = (tests, along-before, along-after, along-two, along-loose, along-steady, along-plain, along-by, along-within, along-call, along-sized, along-head, along-legs)
+
+pub stands-at : (stops p : ℕ) (s : List ℕ) (c : Call) (r : Bool) → c ≡ callAt (drop (12 + 7 * p) s) → r ≡ callSound stops c → r ≡ callStands stops s p
+stands-at stops p s c r q e = e ∙ ap (callSound stops) q
+
+pub ruleset one-call = (tests, stands-at)
 
 -- ---- call by call; t says whether the record is sound, `number` what a call is refused for
 
@@ -141,8 +181,16 @@ pub ruleset slowly = (tests, stops-word, stands-no, stands-by, slowly-by, slowly
 -- ---- by the operating-day ranges, which begin u; t says whether they follow each other, l what they say of day k
 
 module _ (v : View) (stops : ℕ) (s u : List ℕ) (k p : ℕ) (t : Bool) (l : DayLegs) (o : Opened s) (q : u ≡ drop (dayPlace s) s) (e : t ≡ inTurn 0 (calls# s - 1) (legsIn daySize (days# s) u)) (h : not t ≡ false) (f : l ≡ rangesSay v k noLegs (rowsIn dayAt daySize (days# s) u)) where
-  pub goes-31 : not (l .known) ≡ true → false ≡ goesFrom v stops s k p
-  goes-31 n = and-no (recordSound stops s) ∙ ap (λ (x : Course). recordSound stops s && leaves x p) (turn-31 v s u k t l q e h f n)
+  trusted-by : (l .known && leftOn (calls# s - 1) (l .start) (l .end) (l .again) p && callStands stops s p) ≡ trusted v stops s k p
+  unfolding trusted
+  trusted-by = ap (λ (m : DayLegs). saysLeft m (calls# s - 1) p && callStands stops s p) (f ∙ ap (λ (r : List ℕ). rangesSay v k noLegs (rowsIn dayAt daySize (days# s) r)) q)
+
+  pub goes-31 : (m : Bool) → not (l .known) ≡ true → false ≡ goesIn m v stops s k p
+  goes-31 m n = go (m && followed s)
+    where
+      go : (x : Bool) → false ≡ cond x (trusted v stops s k p) (goesFrom v stops s k p)
+      go true = sym (ap (λ (y : Bool). (y && leftOn (calls# s - 1) (l .start) (l .end) (l .again) p) && callStands stops s p) (not-true (l .known) n)) ∙ trusted-by
+      go false = and-no (recordSound stops s) ∙ ap (λ (x : Course). recordSound stops s && leaves x p) (turn-31 v s u k t l q e h f n)
 
   module _ (n : not (l .known) ≡ false) where
     pub goes-order : l .start ≤ l .end
@@ -151,8 +199,22 @@ module _ (v : View) (stops : ℕ) (s u : List ℕ) (k p : ℕ) (t : Bool) (l : D
     pub goes-within : l .end ≤ calls# s - 1
     goes-within = turn-within v s u k t l q e h f n
 
-    pub goes-by : (r : Bool) → r ≡ goesAlong stops s (l .start) (l .end) (l .again) p → r ≡ goesFrom v stops s k p
-    goes-by r g = g ∙ ap (λ (x : Course). recordSound stops s && leaves x p) (turn-day v s u k t l q e h f n (stretchesCourse (serviceAt s) (calls# s - 1) (l .start) (l .end) (l .again)) refl)
+    along-is : goesAlong stops s (l .start) (l .end) (l .again) p ≡ goesFrom v stops s k p
+    along-is = ap (λ (x : Course). recordSound stops s && leaves x p) (turn-day v s u k t l q e h f n (stretchesCourse (serviceAt s) (calls# s - 1) (l .start) (l .end) (l .again)) refl)
+
+    left-is : (leftOn (calls# s - 1) (l .start) (l .end) (l .again) p && callStands stops s p) ≡ trusted v stops s k p
+    left-is = sym (ap (λ (y : Bool). (y && leftOn (calls# s - 1) (l .start) (l .end) (l .again) p) && callStands stops s p) (not-false (l .known) n)) ∙ trusted-by
+
+    pub goes-by : (m r : Bool) → r ≡ alongIn m stops s (l .start) (l .end) (l .again) p → r ≡ goesIn m v stops s k p
+    goes-by m r g = g ∙ (λ j. cond (m && followed s) (left-is j) (along-is j))
+
+-- where they do not
+pub goes-loose : (v : View) (stops : ℕ) (s u : List ℕ) (k p : ℕ) (t m r : Bool) → Opened s → u ≡ drop (dayPlace s) s → t ≡ inTurn 0 (calls# s - 1) (legsIn daySize (days# s) u) → not t ≡ true → r ≡ goesFrom v stops s k p → r ≡ goesIn m v stops s k p
+unfolding followed
+goes-loose v stops s u k p t m r o q e h g =
+    let d : daysFollow s ≡ false = sym (e ∙ ap (λ (z : List ℕ). inTurn 0 (calls# s - 1) (legsIn daySize (days# s) z)) q) ∙ not-true t h in
+    let f : followed s ≡ false = rw (o .sized, o .opening, d) refl in
+    g ∙ ap (λ (x : Bool). cond x (trusted v stops s k p) (goesFrom v stops s k p)) (and-no m ∙ ap (λ (x : Bool). m && x) (sym f))
 
 pub goes-turn : (s u : List ℕ) (t : Bool) → Opened s → u ≡ drop (dayPlace s) s → t ≡ inTurn 0 (calls# s - 1) (legsIn daySize (days# s) u) → not t ≡ false → DaysInTurn s
 goes-turn s u t o q e h = record { opened = o; follow = rw q at (sym e ∙ not-false t h) }
@@ -160,46 +222,33 @@ goes-turn s u t o q e h = record { opened = o; follow = rw q at (sym e ∙ not-f
 pub opened-sized : (s : List ℕ) → Opened s → sizesSound s ≡ true
 opened-sized s o = o .sized
 
-pub ruleset from-days = (tests, head-words, head-word, legs-fit, days-room, stops-word, opened-sized, goes-31, goes-order, goes-within, goes-by, goes-turn)
+pub ruleset from-days = (tests, head-words, head-word, legs-fit, days-room, stops-word, opened-sized, goes-31, goes-order, goes-within, goes-by, goes-loose, goes-turn)
 
 -- ---- a record, and the i-th service
 
-module _ (v : View) (stops n k t u i : ℕ) (s : List ℕ) (p : ℕ) (b : Batch) where
-  unsound : recordSound stops s ≡ false → Batched b [] → Batched b (recordDepartures v stops n k t u i s p)
-  unsound e g = rw e g
-
-  pub record-unsized : (x : Bool) → x ≡ sizesSound s → not x ≡ true → Batched b [] → Batched b (recordDepartures v stops n k t u i s p)
-  unfolding recordSound
-  record-unsized x e h g = unsound (rw (sym e ∙ not-true x h)) g
-
-  pub record-unopened : (o : Opening) → o ≡ openingAt s → (x : Bool) → x ≡ openingSound o → not x ≡ true → Batched b [] → Batched b (recordDepartures v stops n k t u i s p)
-  record-unopened o q x e h g = unsound (either (recordSound stops s) refl) g
+module _ (m : Bool) (v : View) (stops n k t u i : ℕ) (s : List ℕ) (p : ℕ) (b : Batch) where
+  unready : (Opened s → ⊥) → Batched b [] → Batched b (recordGives m v stops n k t u i s p)
+  unready o g = go (goesIn m v stops s k p) refl
     where
-      either : (y : Bool) → recordSound stops s ≡ y → recordSound stops s ≡ false
-      either false z = z
-      either true z = clash (sym (not-true x h) ∙ e ∙ ap openingSound q ∙ record-says stops s z .1 .opening)
+      go : (y : Bool) → goesIn m v stops s k p ≡ y → Batched b (cond y (callGives v n t u i s p) [])
+      go false e = g
+      go true e = absurd (o (goes-ready m v stops s k p e .opened))
 
-  module _ (x : Bool) (e : x ≡ goesFrom v stops s k p) where
-    pub record-on : not x ≡ false → Batched b (callDepartures n t u i (openingAt s) p (getElem? (withStops (v .shown) (serviceAt s) .calls) p)) → Batched b (recordDepartures v stops n k t u i s p)
-    record-on h g =
-        let y = and-true (recordSound stops s) (leaves (courseOn v (serviceAt s) k) p) (sym e ∙ not-false x h) in
-        rw (y .0) (record-goes v s n k t u i p b g (courseOn v (serviceAt s) k) true refl (sym (y .1)) refl)
+  pub record-unsized : (x : Bool) → x ≡ sizesSound s → not x ≡ true → Batched b [] → Batched b (recordGives m v stops n k t u i s p)
+  record-unsized x e h g = unready (λ o. clash (sym (not-true x h) ∙ e ∙ o .sized)) g
 
-    pub record-off : not x ≡ true → Batched b [] → Batched b (recordDepartures v stops n k t u i s p)
-    record-off h g = either (recordSound stops s) refl
-      where
-        either : (y : Bool) → recordSound stops s ≡ y → Batched b (recordDepartures v stops n k t u i s p)
-        either false z = unsound z g
-        either true z = rw z (stays z)
-          where
-            off : recordSound stops s ≡ true → leaves (courseOn v (serviceAt s) k) p ≡ false
-            off z = sym (ap (λ (c : Bool). c && leaves (courseOn v (serviceAt s) k) p) z) ∙ sym e ∙ not-true x h
+  pub record-unopened : (o : Opening) → o ≡ openingAt s → (x : Bool) → x ≡ openingSound o → not x ≡ true → Batched b [] → Batched b (recordGives m v stops n k t u i s p)
+  record-unopened o q x e h g = unready (λ r. clash (sym (not-true x h) ∙ e ∙ ap openingSound q ∙ r .opening)) g
 
-            stays : recordSound stops s ≡ true → Batched b (placeDepartures v n k t u i (withStops (v .shown) (serviceAt s)) p)
-            stays z = record-idle v s n k t u i p b (off z) g
+  module _ (x : Bool) (e : x ≡ goesIn m v stops s k p) where
+    pub record-on : not x ≡ false → Batched b (callGives v n t u i s p) → Batched b (recordGives m v stops n k t u i s p)
+    record-on h g = rw (sym e ∙ not-false x h) g
 
-pub record-goes-sound : (v : View) (stops k p : ℕ) (s : List ℕ) (x : Bool) → x ≡ goesFrom v stops s k p → not x ≡ false → recordSound stops s ≡ true
-record-goes-sound v stops k p s x e h = and-true (recordSound stops s) (leaves (courseOn v (serviceAt s) k) p) (sym e ∙ not-false x h) .0
+    pub record-off : not x ≡ true → Batched b [] → Batched b (recordGives m v stops n k t u i s p)
+    record-off h g = rw (sym e ∙ not-true x h) g
+
+pub record-ready : (m : Bool) (v : View) (stops k p : ℕ) (s : List ℕ) (x : Bool) → x ≡ goesIn m v stops s k p → not x ≡ false → CallReady stops s p
+record-ready m v stops k p s x e h = goes-ready m v stops s k p (sym e ∙ not-false x h)
 
 pub record-opened : (s : List ℕ) (x : Bool) (o : Opening) (y : Bool) → x ≡ sizesSound s → not x ≡ false → o ≡ openingAt s → y ≡ openingSound o → not y ≡ false → Opened s
 record-opened s x o y e h q f g = record { sized = sym e ∙ not-false x h; opening = sym (f ∙ ap openingSound q) ∙ not-false y g }
@@ -209,32 +258,75 @@ record-head s x e h = sizes-say s (sym e ∙ not-false x h) .head
 
 pub ruleset one-record = (tests, record-unsized, record-unopened, record-on, record-off, record-head)
 
--- no words are no record
-none-sound : (stops : ℕ) → recordSound stops [] ≡ false
-unfolding recordSound
-none-sound stops = refl
-
 -- the places of the services begin at `places`; j is the service as a place, at what stands there
-module _ (w x : List ℕ) (places n k t u i p j : ℕ) (h : Shelved w x places) (a : j ≡ i) (b : Batch) where
-  pub service-past : length x ≤ places + j → Batched b [] → Batched b (departuresAt (viewIn w x) n k t u i p)
-  service-past l g = rw (past-none w x places t u i p j h a l n k) g
+module _ (w x : List ℕ) (places n k t u i p j : ℕ) (h : Shelved w x places) (a : j ≡ i) (b : Batch) (m : Bool) where
+  pub service-past : length x ≤ places + j → Batched b [] → Batched b (departuresIn m w x n k t u i p)
+  service-past l g = rw (past-none w x places t u i p j h a l m n k) g
 
   module _ (l : places + j < length x) (at : ℕ) (e : at ≡ getD x (places + j) 0) where
-    found : departuresAt (viewIn w x) n k t u i p ≡ recordDepartures (viewIn w x) (stops# w) n k t u i (drop at w) p
-    unfolding departuresAt viewIn recordIn recordFrom
-    found = rw (lt-ltb i (services# w) (shelf-some w x places i j h a l), ← (shelf-place w x places i j h a l at e)) (by-sound (recordSound (stops# w) (drop at w)))
-      where
-        by-sound : (y : Bool) → foundAt (viewIn w x) n k t u i p (serviceFrom w (cond y (From at) (RecordRefused 43))) ≡ cond y (placeDepartures (viewIn w x) n k t u i (withStops (viewIn w x .shown) (serviceAt (drop at w))) p) []
-        by-sound true = refl
-        by-sound false = refl
+    found : departuresIn m w x n k t u i p ≡ recordGives m (viewIn w x) (stops# w) n k t u i (drop at w) p
+    found = given-by w x n k t u i p (shelf-some w x places i j h a l) m ∙ ap (λ (q : ℕ). recordGives m (viewIn w x) (stops# w) n k t u i (drop q w) p) (sym (shelf-place w x places i j h a l at e))
 
-    pub service-out : length w < at → Batched b [] → Batched b (departuresAt (viewIn w x) n k t u i p)
-    service-out m g = rw (found, drop-of-length-le w {i = at} (omega arith), none-sound (stops# w)) g
+    pub service-out : length w < at → Batched b [] → Batched b (departuresIn m w x n k t u i p)
+    service-out c g = rw (found, drop-of-length-le w {i = at} (omega arith), goes-none m (viewIn w x) (stops# w) k p) g
 
-    pub service-in : at ≤ length w → (s : List ℕ) → s ≡ drop at w → Batched b (recordDepartures (viewIn w x) (stops# w) n k t u i s p) → Batched b (departuresAt (viewIn w x) n k t u i p)
-    service-in m s d g = rw found (rw d at g)
+    pub service-in : at ≤ length w → (s : List ℕ) → s ≡ drop at w → Batched b (recordGives m (viewIn w x) (stops# w) n k t u i s p) → Batched b (departuresIn m w x n k t u i p)
+    service-in c s d g = rw found (rw d at g)
 
 pub ready-of : (w x : List ℕ) (places : ℕ) → Shelved w x places → Ready w x
 ready-of w x places h = h .ready
 
 pub ruleset services = (tests, shelf-fits, service-past, service-out, service-in, ready-of)
+
+-- ---- where the calls of a record pass, the mark changes nothing
+
+module _ (stops : ℕ) (s : List ℕ) (y : followed s ≡ true) (z : callsPlain stops s ≡ true) where
+  steady-along : (a b c p : ℕ) → a ≤ b → b ≤ calls# s - 1 → (leftOn (calls# s - 1) a b c p && callStands stops s p) ≡ goesAlong stops s a b c p
+  steady-along a b c p o i =
+      by-leb (λ (t : Bool). ((t && (ltb p b && leb (calls# s - 1) c)) && callStands stops s p) ≡ goesAlong stops s a b c p) a p
+      (λ h. by-ltb (λ (t : Bool). ((t && leb (calls# s - 1) c) && callStands stops s p) ≡ goesAlong stops s a b c p) p b
+      (λ g. by-leb (λ (t : Bool). (t && callStands stops s p) ≡ goesAlong stops s a b c p) (calls# s - 1) c
+      (λ l. call-sound stops s (plain-record stops s y z) p (omega arith) ∙ sym (plainly stops s a b c p o i h g l y z))
+      (λ l. sym (two stops s a b c p o i h g l)))
+      (λ g. sym (after stops s a b c p o g)))
+      (λ h. sym (before stops s a b c p h))
+
+  module _ (v : View) (k p : ℕ) where
+    abbrev day : DayLegs
+    day = rangesSay v k noLegs (rowsIn dayAt daySize (days# s) (drop (dayPlace s) s))
+
+    turns : true ≡ inTurn 0 (calls# s - 1) (legsIn daySize (days# s) (drop (dayPlace s) s))
+    turns = sym (followed-days s y .follow)
+
+    opened : Opened s
+    opened = followed-days s y .opened
+
+    steady-goes : trusted v stops s k p ≡ goesFrom v stops s k p
+    steady-goes = go (day .known) refl
+      where
+        go : (b : Bool) → day .known ≡ b → trusted v stops s k p ≡ goesFrom v stops s k p
+        go true d =
+            let n : not (day .known) ≡ false = ap not d in
+            let u : List ℕ = drop (dayPlace s) s in
+            sym (left-is v stops s u k p true day opened refl turns refl refl n)
+            ∙ steady-along (day .start) (day .end) (day .again) p (goes-order v stops s u k p true day opened refl turns refl refl n) (goes-within v stops s u k p true day opened refl turns refl refl n)
+            ∙ along-is v stops s u k p true day opened refl turns refl refl n
+        go false d =
+            let n : not (day .known) ≡ true = ap not d in
+            let u : List ℕ = drop (dayPlace s) s in
+            let t : false ≡ cond (followed s) (trusted v stops s k p) (goesFrom v stops s k p) = goes-31 v stops s u k p true day opened refl turns refl refl true n in
+            sym (rw y at t) ∙ goes-31 v stops s u k p true day opened refl turns refl refl false n
+
+-- of words and an index whose records pass where they are marked so
+pub steady-same : (m : Bool) (w x : List ℕ) (n k t u i p : ℕ) → (m ≡ true → i < services# w → callsPlain (stops# w) (recordOf w x i) ≡ true) → departuresIn m w x n k t u i p ≡ departuresAt (viewIn w x) n k t u i p
+steady-same m w x n k t u i p f =
+    by-ltb (λ (b : Bool). departuresIn m w x n k t u i p ≡ departuresIn false w x n k t u i p) i (services# w)
+    (λ l. given-by w x n k t u i p l m ∙ ap (λ (b : Bool). cond b (callGives (viewIn w x) n t u i (recordOf w x i) p) []) (go l (m && followed (recordOf w x i)) refl) ∙ sym (given-by w x n k t u i p l false))
+    (λ l. none-past w x n k t u i p m l ∙ sym (none-past w x n k t u i p false l))
+    ∙ unmarked w x n k t u i p
+  where
+    go : i < services# w → (b : Bool) → (m && followed (recordOf w x i)) ≡ b → cond b (trusted (viewIn w x) (stops# w) (recordOf w x i) k p) (goesFrom (viewIn w x) (stops# w) (recordOf w x i) k p) ≡ goesFrom (viewIn w x) (stops# w) (recordOf w x i) k p
+    go l true e =
+        let q = and-true m (followed (recordOf w x i)) e in
+        steady-goes (stops# w) (recordOf w x i) (q .1) (f (q .0) l) (viewIn w x) k p
+    go l false e = refl

@@ -2,10 +2,10 @@
 use mathlib.Core.Path.{_≡_, refl, ap, _∙_, sym}
 use mathlib.Core.List.{List, [], _∷_}
 use mathlib.Core.Bool.{Bool, true, false, cond, not, _&&_}
-use mathlib.Core.Option.{Option, none, some}
+use mathlib.Core.Option.{some}
 use Prim.Native.Nat.{ℕ, _+_, _-_, _*_, _^_, _≤_, _<_}
 use native.Mathlib.Omega.{arith}
-use lib.ListN.{length, getD, getElem?, drop, length-drop}
+use lib.ListN.{length, getD, drop, length-drop}
 use lib.Seq.{getD-drop, drop-drop}
 use lib.Dec.{eqb, leb, ltb}
 use borrow.Author.Tests.{lt-ltb, le-ltb, ne-eqb, eqb-true, not-true, not-false}
@@ -13,21 +13,20 @@ use Rattle.base.proofs.Laws.{tests, clash, by-ltb, by-leb}
 use Rattle.base.proofs.Lists.{length-map-upto}
 use Rattle.timetable.specs.Layout.{serviceHead, callSize}
 use Rattle.timetable.specs.Runs.{openingSound}
-use Rattle.timetable.specs.Table.{stops#, services#, calls#, callAt, openingAt, serviceAt, withStop, withStops, recordSound}
-use Rattle.timetable.specs.Run.{courseOn}
+use Rattle.timetable.specs.Table.{stops#, services#, calls#, callAt, openingAt, withStop}
 use Rattle.timetable.specs.declared.Call.{Call}
 use Rattle.timetable.specs.declared.Opening.{Opening}
-use Rattle.index.specs.Index.{servicesFrom, indexSize, recordPlaceIn, recordFrom, recordIn, serviceFrom, viewIn}
-use Rattle.index.specs.declared.ServiceRecord.{ServiceRecord}
-use Rattle.index.specs.declared.ServiceRecord.the-variants.{From, Refused}
+use Rattle.index.specs.Index.{servicesFrom, indexSize, recordPlaceIn, viewIn}
 use Rattle.spans.specs.Spans.{firstRun, endRun, spanOf}
 use Rattle.spans.specs.declared.Span.{Span}
 use Rattle.spans.proofs.Meaning.{once-before, once-end}
 use Rattle.spans.proofs.Laws.{end-none}
-use Rattle.board.specs.Board.{Departure, boardable, departureOf, runsFrom, callDepartures, leaves}
-use Rattle.board_runs.specs.Batch.{foundAt, departuresAt, Shelved, outside, Quiet, AtMost, MostFrom}
+use Rattle.board.specs.Board.{Departure, boardable, departureOf, runsFrom, callDepartures}
+use Rattle.board_runs.specs.Batch.{callGives, departuresIn, Shelved, outside, Quiet, AtMost, MostFrom}
+use Rattle.board_runs.specs.Inner.Plain.{goesIn, Opened}
 use Rattle.board_runs.proofs.Interval.{runs-in-a-row}
-use Rattle.board_runs.proofs.Needs.{call-there, call-none, call-within, opening-fine}
+use Rattle.board_runs.proofs.Given.{goes-ready, call-room, none-past, given-by}
+use Rattle.board_runs.proofs.Needs.{call-there, call-none}
 
 -- ---- how many runs leave a call
 
@@ -55,20 +54,11 @@ module _ (t u i : ℕ) (o : Opening) (p d : ℕ) (s : openingSound o ≡ true) w
 -- ---- a record that is not sound gives nothing, nor does a place past its calls; a call gives no more than its runs
 
 module _ (w x : List ℕ) (t u i p at : ℕ) (l : i < services# w) (e : at ≡ recordPlaceIn w x i) where
-  found : recordIn w x i ≡ recordFrom w at
-  unfolding recordIn
-  found = rw (lt-ltb i (services# w) l, ← e)
-
   pub record-few : (r : ℕ)
-      → (recordSound (stops# w) (drop at w) ≡ true → p < calls# (drop at w) → length (runsFrom t u i (openingAt (drop at w)) p (callAt (drop (serviceHead + callSize * p) (drop at w)) .departure)) ≤ r)
-      → (n k : ℕ) → length (departuresAt (viewIn w x) n k t u i p) ≤ r
-  unfolding departuresAt viewIn recordFrom serviceAt
-  record-few r q n k = rw found (by-sound (recordSound (stops# w) (drop at w)) refl)
+      → (Opened (drop at w) → p < calls# (drop at w) → length (runsFrom t u i (openingAt (drop at w)) p (callAt (drop (serviceHead + callSize * p) (drop at w)) .departure)) ≤ r)
+      → (m : Bool) (n k : ℕ) → length (departuresIn m w x n k t u i p) ≤ r
+  record-few r q m n k = rw (given-by w x n k t u i p l m, ← e) (by-goes (goesIn m (viewIn w x) (stops# w) (drop at w) k p) refl)
     where
-      by-call : (o : Option Call) → length (callDepartures n t u i (openingAt (drop at w)) p o) ≤ r → (b : Bool) → length (cond b (callDepartures n t u i (openingAt (drop at w)) p o) []) ≤ r
-      by-call o z true = z
-      by-call o z false = omega arith
-
       few-runs : (c : Call) → length (runsFrom t u i (openingAt (drop at w)) p (c .departure)) ≤ r → length (callDepartures n t u i (openingAt (drop at w)) p (some c)) ≤ r
       few-runs c z = by-boards (eqb (c .stop) n && boardable c)
         where
@@ -76,15 +66,15 @@ module _ (w x : List ℕ) (t u i p at : ℕ) (l : i < services# w) (e : at ≡ r
           by-boards true = z
           by-boards false = omega arith
 
-      there : recordSound (stops# w) (drop at w) ≡ true → length (callDepartures n t u i (openingAt (drop at w)) p (getElem? (withStops (viewIn w x .shown) (serviceAt (drop at w)) .calls) p)) ≤ r
-      there d =
-          by-ltb (λ b. length (callDepartures n t u i (openingAt (drop at w)) p (getElem? (withStops (viewIn w x .shown) (serviceAt (drop at w)) .calls) p)) ≤ r) p (calls# (drop at w))
-          (λ h. rw (call-there (viewIn w x .shown) (drop at w) p h) (few-runs (withStop (viewIn w x .shown) (callAt (drop (serviceHead + callSize * p) (drop at w)))) (q d h)))
+      there : Opened (drop at w) → length (callGives (viewIn w x) n t u i (drop at w) p) ≤ r
+      there o =
+          by-ltb (λ b. length (callGives (viewIn w x) n t u i (drop at w) p) ≤ r) p (calls# (drop at w))
+          (λ h. rw (call-there (viewIn w x .shown) (drop at w) p h) (few-runs (withStop (viewIn w x .shown) (callAt (drop (serviceHead + callSize * p) (drop at w)))) (q o h)))
           (λ h. rw (call-none (viewIn w x .shown) (drop at w) p h) (omega arith))
 
-      by-sound : (b : Bool) → recordSound (stops# w) (drop at w) ≡ b → length (foundAt (viewIn w x) n k t u i p (serviceFrom w (cond b (From at) (Refused 43)))) ≤ r
-      by-sound true d = by-call (getElem? (withStops (viewIn w x .shown) (serviceAt (drop at w)) .calls) p) (there d) (leaves (courseOn (viewIn w x) (withStops (viewIn w x .shown) (serviceAt (drop at w))) k) p)
-      by-sound false d = omega arith
+      by-goes : (b : Bool) → goesIn m (viewIn w x) (stops# w) (drop at w) k p ≡ b → length (cond b (callGives (viewIn w x) n t u i (drop at w) p) []) ≤ r
+      by-goes true d = there (goes-ready m (viewIn w x) (stops# w) (drop at w) k p d .opened)
+      by-goes false d = omega arith
 
 -- ---- the place of a record, as the index says; j is the service as a place
 
@@ -106,20 +96,19 @@ module _ (w x : List ℕ) (places i j : ℕ) (h : Shelved w x places) (a : j ≡
 -- ---- the first look
 
 module _ (w x : List ℕ) (places t u i p j : ℕ) (h : Shelved w x places) (a : j ≡ i) where
-  pub past-none : length x ≤ places + j → (n k : ℕ) → departuresAt (viewIn w x) n k t u i p ≡ []
-  unfolding departuresAt viewIn recordIn
-  past-none l n k = rw (le-ltb i (services# w) (shelf-past w x places i j h a l))
+  pub past-none : length x ≤ places + j → (m : Bool) (n k : ℕ) → departuresIn m w x n k t u i p ≡ []
+  past-none l m n k = none-past w x n k t u i p m (shelf-past w x places i j h a l)
 
   pub quiet-past : length x ≤ places + j → Quiet w x places t u i p true
-  quiet-past l = record { none = λ f n k. past-none l n k; there = λ f. clash (sym f); words = λ f. clash (sym f) }
+  quiet-past l = record { none = λ f m n k. past-none l m n k; there = λ f. clash (sym f); words = λ f. clash (sym f) }
 
   module _ (l : places + j < length x) (at : ℕ) (e : at ≡ getD x (places + j) 0) (end : ℕ) (q : end ≡ at + serviceHead + callSize * p + callSize) where
-    few-of : (r : ℕ) → (recordSound (stops# w) (drop at w) ≡ true → p < calls# (drop at w) → length (runsFrom t u i (openingAt (drop at w)) p (callAt (drop (serviceHead + callSize * p) (drop at w)) .departure)) ≤ r) → (n k : ℕ) → length (departuresAt (viewIn w x) n k t u i p) ≤ r
+    few-of : (r : ℕ) → (Opened (drop at w) → p < calls# (drop at w) → length (runsFrom t u i (openingAt (drop at w)) p (callAt (drop (serviceHead + callSize * p) (drop at w)) .departure)) ≤ r) → (m : Bool) (n k : ℕ) → length (departuresIn m w x n k t u i p) ≤ r
     few-of = record-few w x t u i p at (shelf-some w x places i j h a l) (shelf-place w x places i j h a l at e)
 
     pub quiet-short : length w < end → Quiet w x places t u i p true
     quiet-short m = record {
-      none = λ f n k. none-long _ (few-of 0 (λ b c. absurd (omega (arith, call-within (stops# w) (drop at w) b p c, length-drop at w, q))) n k);
+      none = λ f m′ n k. none-long _ (few-of 0 (λ b c. absurd (omega (arith, call-room (drop at w) p b c, length-drop at w, q))) m′ n k);
       there = λ f. clash (sym f);
       words = λ f. clash (sym f);
     }
@@ -129,7 +118,7 @@ module _ (w x : List ℕ) (places t u i p j : ℕ) (h : Shelved w x places) (a :
 
     pub quiet-told : (r : Bool) → end ≤ length w → r ≡ outside (getD w (end - 5) 0) (getD w (at + 4) 0) t u → Quiet w x places t u i p r
     quiet-told r m d = record {
-      none = λ f n k. none-long _ (few-of 0 (λ b c. runs-outside t u i (openingAt (drop at w)) p _ (opening-fine (stops# w) (drop at w) b) (told f)) n k);
+      none = λ f m′ n k. none-long _ (few-of 0 (λ b c. runs-outside t u i (openingAt (drop at w)) p _ (b .opening) (told f)) m′ n k);
       there = λ f. omega (arith, a, l);
       words = λ f. rw (← a, ← e) (omega (arith, q));
     }
@@ -156,7 +145,7 @@ pub ruleset quiets = (tests, shelf-fits, quiet-past, quiet-short, quiet-told, en
 -- ---- how many at most
 
 pub most-none : (w x : List ℕ) (places t u i p : ℕ) (b : Bool) → Quiet w x places t u i p b → b ≡ true → AtMost w x t u i p 0
-most-none w x places t u i p b g f = record { few = λ n k. omega (arith, ap length (g .none f n k)) }
+most-none w x places t u i p b g f = record { few = λ m n k. omega (arith, ap length (g .none f m n k)) }
 
 module _ (w x : List ℕ) (places t u i p j : ℕ) (h : Shelved w x places) (a : j ≡ i) (b : Bool) (g : Quiet w x places t u i p b) where
   pub most-place : b ≡ false → places + j < length x
@@ -178,8 +167,8 @@ module _ (w x : List ℕ) (places t u i p j : ℕ) (h : Shelved w x places) (a :
         few = record-few w x t u i p at (shelf-some w x places i j h a (most-place f)) (shelf-place w x places i j h a (most-place f) at e) r (λ b c. of-front (rw d at m) b);
       }
         where
-          of-front : MostFrom (drop at w) t u p r → recordSound (stops# w) (drop at w) ≡ true → length (runsFrom t u i (openingAt (drop at w)) p (callAt (drop (serviceHead + callSize * p) (drop at w)) .departure)) ≤ r
-          of-front m b = m .few (opening-fine (stops# w) (drop at w) b) i
+          of-front : MostFrom (drop at w) t u p r → Opened (drop at w) → length (runsFrom t u i (openingAt (drop at w)) p (callAt (drop (serviceHead + callSize * p) (drop at w)) .departure)) ≤ r
+          of-front m b = m .few (b .opening) i
 
 pub ruleset mosts = (tests, shelf-fits, most-none, most-place, most-within, most-words, most-told)
 

@@ -1,4 +1,5 @@
 pub mod Interval
+pub mod Given
 pub mod Needs
 pub mod Hidden
 pub mod Plain

@@ -15,30 +15,26 @@ use Rattle.base.proofs.Laws.{tests, by-ltb}
 use Rattle.base.proofs.Loops.{upto-next, upto-none}
 use Rattle.timetable.specs.Layout.{serviceHead, callSize, latestTime, mostDelay}
 use Rattle.timetable.specs.Runs.{hasRun, lateness, openingSound}
-use Rattle.timetable.specs.Table.{calls#, rowsIn, callAt, openingAt, serviceAt, withStop, withStops, sizesSound, recordSound}
+use Rattle.timetable.specs.Table.{calls#, rowsIn, callAt, openingAt, serviceAt, withStop, withStops}
 use Rattle.timetable.specs.View.{View}
-use Rattle.timetable.specs.Run.{courseOn}
 use Rattle.timetable.specs.declared.Call.{Call}
 use Rattle.timetable.specs.declared.Opening.{Opening}
 use Rattle.timetable.specs.declared.Course.{Course}
 use Rattle.timetable.specs.declared.Course.the-variants.{Along, NotRunning, Refused}
-use Rattle.table.proofs.Says.{record-says, record-sized, call-sound, call-says}
+use Rattle.table.proofs.Says.{sizes-say, call-says}
 use Rattle.words.specs.Words.{write}
 use Rattle.words.proofs.Laws.{write-none, write-turn, length-write}
-use Rattle.index.specs.Index.{recordIn, viewIn}
-use Rattle.index.specs.declared.ServiceRecord.{ServiceRecord}
-use Rattle.index.specs.declared.ServiceRecord.the-variants.{From, Refused as RecordRefused}
-use Rattle.index.proofs.Records.{record-refused, record-service, record-sound, record-within}
-use Rattle.course.specs.Inner.Rows.{shownBy}
-use Rattle.course.proofs.Laws.{on-shown}
+use Rattle.index.specs.Index.{viewIn}
 use Rattle.sort.specs.Rows.{boardRowWords}
 use Rattle.spans.specs.Spans.{runs#, spanOf}
 use Rattle.spans.specs.declared.Span.{Span}
 use Rattle.spans.proofs.Meaning.{has-below, end-runs}
-use Rattle.board.specs.Board.{Departure, boardable, departureOf, runsFrom, callDepartures, leaves, placeDepartures}
-use Rattle.board_runs.specs.Batch.{departuresAt, batchRows, Batched}
+use Rattle.board.specs.Board.{Departure, boardable, departureOf, runsFrom, callDepartures, leaves}
+use Rattle.board_runs.specs.Batch.{batchRows, Batched, callGives}
 use Rattle.board_runs.specs.declared.Batch.{Batch}
+use Rattle.board_runs.specs.Inner.Plain.{CallReady}
 use Rattle.board_runs.proofs.Interval.{runs-in-a-row}
+use Rattle.board_runs.proofs.Given.{call-room}
 
 -- ---- a batch
 
@@ -100,29 +96,20 @@ module _ (f : ℕ → ℕ) (s : List ℕ) (p : ℕ) where
   call-none h = row-none (withStop f) callAt callSize (calls# s) p (drop serviceHead s) h
 
 -- the words of a call are there
-module _ (stops : ℕ) (s : List ℕ) (e : recordSound stops s ≡ true) where
+module _ (stops : ℕ) (s : List ℕ) (p : ℕ) (e : CallReady stops s p) where
   pub head-there : 6 < length s
-  head-there = omega (arith, record-says stops s e .0 .head)
+  head-there = omega (arith, sizes-say s (e .opened .sized) .head)
 
   pub head-whole : 12 ≤ length s
-  head-whole = record-says stops s e .0 .head
+  head-whole = sizes-say s (e .opened .sized) .head
 
-  pub opening-fine : openingSound (openingAt s) ≡ true
-  opening-fine = record-says stops s e .1 .opening
-
-  pub sized : sizesSound s ≡ true
-  sized = record-sized stops s e
-
-  module _ (p : ℕ) (h : p < getD s 6 0) where
+  module _ (h : p < getD s 6 0) where
     pub call-within : 12 + 7 * p + 7 ≤ length s
-    call-within = omega (arith, record-says stops s e .0 .inside, mul-step p (calls# s) h)
-      where
-        mul-step : (p c : ℕ) → p < c → 7 * p + 7 ≤ 7 * c
-        mul-step p c h = omega arith
+    call-within = call-room s p (e .opened) h
 
     module _ (c : Call) (q : c ≡ callAt (drop (12 + 7 * p) s)) where
       says : (c .stop < stops) × (c .arrival ≤ latestTime) × (c .departure ≤ latestTime) × (c .flags ≤ 15)
-      says = call-says stops c (rw q (call-sound stops s e p h))
+      says = call-says stops c (rw q (e .call h))
 
       pub call-stop : c .stop < stops
       call-stop = says .0
@@ -134,7 +121,7 @@ module _ (w x s : List ℕ) (n t u i p : ℕ) where
   abbrev there : Option Call
   there = getElem? (withStops (viewIn w x .shown) (serviceAt s) .calls) p
 
-  pub call-past : (b : Batch) → getD s 6 0 ≤ p → Batched b [] → Batched b (callDepartures n t u i (openingAt s) p (getElem? (withStops (viewIn w x .shown) (serviceAt s) .calls) p))
+  pub call-past : (b : Batch) → getD s 6 0 ≤ p → Batched b [] → Batched b (callGives (viewIn w x) n t u i s p)
   call-past b h g = rw (call-none (viewIn w x .shown) s p h) g
 
   module _ (h : p < getD s 6 0) (c : Call) (q : c ≡ callAt (drop (12 + 7 * p) s)) (y : Bool)
@@ -142,14 +129,14 @@ module _ (w x s : List ℕ) (n t u i p : ℕ) where
     told : callDepartures n t u i (openingAt s) p (getElem? (withStops (viewIn w x .shown) (serviceAt s) .calls) p) ≡ cond y (runsFrom t u i (openingAt s) p (c .departure)) []
     told = ap (callDepartures n t u i (openingAt s) p) (call-there (viewIn w x .shown) s p h) ∙ rw (r, q)
 
-    pub call-off : (b : Batch) → not y ≡ true → Batched b [] → Batched b (callDepartures n t u i (openingAt s) p (getElem? (withStops (viewIn w x .shown) (serviceAt s) .calls) p))
+    pub call-off : (b : Batch) → not y ≡ true → Batched b [] → Batched b (callGives (viewIn w x) n t u i s p)
     call-off b k g = rw (told, not-true y k) g
 
-    pub call-on : (b : Batch) (o : Opening) → not y ≡ false → o ≡ openingAt s → Batched b (runsFrom t u i o p (c .departure)) → Batched b (callDepartures n t u i (openingAt s) p (getElem? (withStops (viewIn w x .shown) (serviceAt s) .calls) p))
+    pub call-on : (b : Batch) (o : Opening) → not y ≡ false → o ≡ openingAt s → Batched b (runsFrom t u i o p (c .departure)) → Batched b (callGives (viewIn w x) n t u i s p)
     call-on b o k d g = rw (told, not-false y k) (rw d at g)
 
-pub opening-is-fine : (stops : ℕ) (s : List ℕ) (o : Opening) → recordSound stops s ≡ true → o ≡ openingAt s → openingSound o ≡ true
-opening-is-fine stops s o e q = rw q (opening-fine stops s e)
+pub opening-is-fine : (stops : ℕ) (s : List ℕ) (p : ℕ) (o : Opening) → CallReady stops s p → o ≡ openingAt s → openingSound o ≡ true
+opening-is-fine stops s p o e q = rw q (e .opened .opening)
 
 pub ruleset calls = (tests, head-there, head-whole, opening-is-fine, call-within, call-stop, call-early, call-past, call-off, call-on)
 
@@ -179,35 +166,6 @@ module _ (v : View) (place flags n m : ℕ) (e : m ≡ v .shown place) where
   stop-same h = rw (← e, eq-eqb m n h)
 
 pub ruleset stops = (tests, stop-other, stop-same)
-
--- ---- a record, and a service
-
-module _ (v : View) (s : List ℕ) (n k t u i p : ℕ) (b : Batch) where
-  pub record-idle : leaves (courseOn v (serviceAt s) k) p ≡ false → Batched b [] → Batched b (placeDepartures v n k t u i (withStops (v .shown) (serviceAt s)) p)
-  unfolding shownBy serviceAt
-  record-idle e g = rw (ap (λ (c : Course). leaves c p) (on-shown v (serviceAt s) k) ∙ e) g
-
-module _ (v : View) (s : List ℕ) (n k t u i p : ℕ) (b : Batch) (g : Batched b (callDepartures n t u i (openingAt s) p (getElem? (withStops (v .shown) (serviceAt s) .calls) p))) where
-  abbrev Placed : Batch → Type 0
-  Placed b = Batched b (placeDepartures v n k t u i (withStops (v .shown) (serviceAt s)) p)
-
-  shown-course : courseOn v (withStops (v .shown) (serviceAt s)) k ≡ courseOn v (serviceAt s) k
-  unfolding shownBy
-  shown-course = on-shown v (serviceAt s) k
-
-  abbrev by : Bool → List Departure
-  by y = cond y (callDepartures n t u i (openingAt s) p (getElem? (withStops (v .shown) (serviceAt s) .calls) p)) []
-
-  placed-by : (y : Bool) → leaves (courseOn v (serviceAt s) k) p ≡ y → placeDepartures v n k t u i (withStops (v .shown) (serviceAt s)) p ≡ by y
-  unfolding serviceAt
-  placed-by y e = ap (λ (c : Course). cond (leaves c p) (callDepartures n t u i (openingAt s) p (getElem? (withStops (v .shown) (serviceAt s) .calls) p)) []) shown-course ∙ ap by e
-
-  module _ (c : Course) (y : Bool) (q : c ≡ courseOn v (serviceAt s) k) (r : y ≡ leaves c p) where
-    goes : leaves (courseOn v (serviceAt s) k) p ≡ y
-    goes = ap (λ (c : Course). leaves c p) (sym q) ∙ sym r
-
-    pub record-goes : not y ≡ false → Batched b (placeDepartures v n k t u i (withStops (v .shown) (serviceAt s)) p)
-    record-goes h = rw (placed-by y goes, not-false y h) g
 
 -- ---- how many, and their rows
 

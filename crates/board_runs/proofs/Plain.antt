@@ -1,4 +1,5 @@
--- What one look at a record says (`plain-says`): ranges that follow each other are sound, calls that pass are, and the times of any stretch stand. Assumes nothing.
+-- What one look at a record says (`plain-record`, `plain-fine`): ranges that follow each other are sound, calls that pass are, and the times of any stretch stand. Assumes
+-- nothing.
 use mathlib.Core.Path.{_≡_, refl, sym, ap, _∙_}
 use mathlib.Core.List.{List, [], _∷_}
 use mathlib.Core.Bool.{Bool, true, false, not, _&&_}
@@ -21,12 +22,15 @@ use Rattle.timetable.specs.Table.{rowsIn, callAt, legsAt, openingAt, calls#, ca
 use Rattle.timetable.specs.Run.{callsRefusal}
 use Rattle.timetable.specs.declared.Call.{Call}
 use Rattle.timetable.proofs.Rows.{one-row}
+use Rattle.table.specs.JustTable.{extrasSound}
 use Rattle.table.proofs.Says.{sizes-say, service-parts, head-word}
 use Rattle.cover.specs.Inner.Cover.{legsIn, begins, inTurn}
 use Rattle.course.specs.Inner.Run.{noted}
 use Rattle.course.specs.Inner.Rows.{timeFine, timesStand, laterStand, callsFrom}
 use Rattle.course.proofs.rows.Times.{turn-fine}
-use Rattle.board_runs.specs.Inner.Plain.{isNone, unrefused, opensPlain, passesPlain, endsPlain, twoPlain, fourPlain, laterPlain, callsPlain, Opened, DaysInTurn, PlainSays}
+use Rattle.board_runs.specs.Inner.Plain.{isNone, unrefused, opensPlain, passesPlain, endsPlain, twoPlain, fourPlain, laterPlain, callsPlain, DaysInTurn}
+use Rattle.board_runs.specs.Batch.{followed}
+use Rattle.board_runs.proofs.Given.{followed-days, followed-ranges}
 
 -- ---- ranges that follow each other up to the last call of c are sound
 
@@ -198,32 +202,47 @@ module _ (stops : ℕ) (s : List ℕ) (e : callsPlain stops s ≡ true) (h : 2 �
       let f = from-any stops s a (calls# s - 2 - a) (rw z at from-first) in
       rw (lt-ltb 0 n p, f .leaves) (later-stands stops (n - 1) (calls# s - 2 - a) (callAt (drop (serviceHead + callSize * a) s) .departure) (drop (serviceHead + callSize * (a + 1)) s) (omega arith) (f .rest))
 
--- ---- the needs of the look: t says whether the *G, which begin g, follow each other, x whether the other *A are sound, r whether the calls pass
+-- ---- a record that is followed, whose calls pass
 
-pub plain-no : (stops : ℕ) (s : List ℕ) → PlainSays stops s false
-plain-no stops s = record { sound = λ f. clash f; fine = λ f. clash f }
-
-module _ (stops : ℕ) (s g : List ℕ) (d : DaysInTurn s) (t : Bool) (q : g ≡ drop (categoryPlace s) s) (e : t ≡ inTurn 0 (calls# s - 1) (legsIn categorySize (categories# s) g)) (h : not t ≡ false)
-    (x : Bool) (f : x ≡ every (legsSound true (calls# s)) (rowsIn (legsAt 2) extraSize (extras# s) (drop (extraPlace s) s))) (m : not x ≡ false) where
+module _ (stops : ℕ) (s : List ℕ) (y : followed s ≡ true) (z : callsPlain stops s ≡ true) where
   two : 2 ≤ calls# s
-  two = sizes-say s (d .opened .sized) .calls-low
+  two = sizes-say s (followed-days s y .opened .sized) .calls-low
+
+  both-follow : (inTurn 0 (calls# s - 1) (legsIn categorySize (categories# s) (drop (categoryPlace s) s)) ≡ true) × (extrasSound s ≡ true)
+  both-follow = and-true (inTurn 0 (calls# s - 1) (legsIn categorySize (categories# s) (drop (categoryPlace s) s))) _ (followed-ranges s y)
 
   categories-sound : every (legsSound false (calls# s)) (rowsIn (legsAt 1) categorySize (categories# s) (drop (categoryPlace s) s)) ≡ true
-  categories-sound = turn-sound (calls# s) 0 (calls# s - 1) (rowsIn (legsAt 1) categorySize (categories# s) (drop (categoryPlace s) s)) (omega (arith, two)) (rw q at (sym e ∙ not-false t h))
+  categories-sound = turn-sound (calls# s) 0 (calls# s - 1) (rowsIn (legsAt 1) categorySize (categories# s) (drop (categoryPlace s) s)) (omega (arith, two)) (both-follow .0)
 
   days-sound : every (legsSound false (calls# s)) (rowsIn (legsAt 1) daySize (days# s) (drop (dayPlace s) s)) ≡ true
-  days-sound = turn-sound (calls# s) 0 (calls# s - 1) (rowsIn (legsAt 1) daySize (days# s) (drop (dayPlace s) s)) (omega (arith, two)) (d .follow)
+  days-sound = turn-sound (calls# s) 0 (calls# s - 1) (rowsIn (legsAt 1) daySize (days# s) (drop (dayPlace s) s)) (omega (arith, two)) (followed-days s y .follow)
 
-  all-sound : callsPlain stops s ≡ true → recordSound stops s ≡ true
+  -- it is sound
+  pub plain-record : recordSound stops s ≡ true
   unfolding recordSound
-  all-sound z = rw (d .opened .sized, service-parts stops s, d .opened .opening, plain-sound stops s z two, categories-sound, days-sound, sym f ∙ not-false x m)
+  plain-record =
+      let d = followed-days s y in
+      rw (d .opened .sized, service-parts stops s, d .opened .opening, plain-sound stops s z two, categories-sound, days-sound, both-follow .1)
 
-  all-fine : callsPlain stops s ≡ true → (a n : ℕ) → 0 < n → a + n < calls# s → unrefused s a n ≡ true
-  all-fine z a n l b =
-      ap isNone (sym (turn-fine s g a n b t q e h true (sym (plain-stands stops s z two a n l b)) refl))
+  -- and no call of any stretch is refused
+  pub plain-fine : (a n : ℕ) → 0 < n → a + n < calls# s → unrefused s a n ≡ true
+  plain-fine a n l b =
+      ap isNone (sym (turn-fine s (drop (categoryPlace s) s) a n b true refl (sym (both-follow .0)) refl true (sym (plain-stands stops s z two a n l b)) refl))
 
-  pub plain-yes : (r : Bool) → r ≡ callsPlain stops s → PlainSays stops s r
-  plain-yes r z = record { sound = λ y. all-sound (sym z ∙ y); fine = λ y. all-fine (sym z ∙ y) }
+-- ---- the needs of the look at the ranges: t says whether the *G, which begin g, follow each other
+
+module _ (s g : List ℕ) (d : DaysInTurn s) (t : Bool) (q : g ≡ drop (categoryPlace s) s) (e : t ≡ inTurn 0 (calls# s - 1) (legsIn categorySize (categories# s) g)) where
+  follow-is : (t && extrasSound s) ≡ followed s
+  unfolding followed
+  follow-is =
+      ap (λ (b : Bool). b && extrasSound s) (e ∙ ap (λ (r : List ℕ). inTurn 0 (calls# s - 1) (legsIn categorySize (categories# s) r)) q)
+      ∙ sym (rw (d .opened .sized, d .opened .opening, d .follow) refl)
+
+  pub follow-no : not t ≡ true → false ≡ followed s
+  follow-no h = sym (ap (λ (b : Bool). b && extrasSound s) (not-true t h)) ∙ follow-is
+
+  pub follow-by : not t ≡ false → (x : Bool) → x ≡ extrasSound s → x ≡ followed s
+  follow-by h x f = f ∙ sym (ap (λ (b : Bool). b && extrasSound s) (not-false t h)) ∙ follow-is
 
 module _ (s : List ℕ) (d : DaysInTurn s) where
   pub turn-sized : sizesSound s ≡ true
@@ -244,7 +263,7 @@ module _ (s : List ℕ) (d : DaysInTurn s) where
   pub turn-head : (i : ℕ) → i < serviceHead → i < length s
   turn-head = head-word s (d .opened .sized)
 
-pub ruleset look = (tests, plain-no, plain-yes, turn-sized, turn-room, categories-fit, turn-legs, turn-head)
+pub ruleset look = (tests, follow-no, follow-by, turn-sized, turn-room, categories-fit, turn-legs, turn-head)
 
 -- ---- of all calls; c is the first
 

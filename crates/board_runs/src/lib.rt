@@ -21,24 +21,24 @@ ghost use mathlib.Core.Path.{_≡_};
 ghost use mathlib.Core.List.{[], map};
 ghost use mathlib.Core.Bool.{true, _&&_};
 ghost use Prim.Native.Nat.{_+_, _-_, _*_, _≤_, _<_};
-ghost use lib.ListN.{length, getElem?, drop};
+ghost use lib.ListN.{length, drop};
 ghost use lib.Dec.{eqb, leb, ltb};
 ghost use Rattle.base.specs.Lists.{gathered, upto};
 ghost use Rattle.timetable.specs.Layout.{mostPeriodDays, serviceHead, callSize, latestTime};
 ghost use Rattle.timetable.specs.Runs.{openingSound};
-ghost use Rattle.timetable.specs.Table.{stops#, calls#, callAt, openingAt, serviceAt, withStops, sizesSound};
+ghost use Rattle.timetable.specs.Table.{stops#, calls#, callAt, openingAt, callSound, sizesSound};
 ghost use Rattle.timetable.specs.Table.{recordSound};
 ghost use Rattle.words.specs.Words.{write};
 ghost use Rattle.index.specs.Index.{viewIn};
 ghost use Rattle.index.specs.Inner.Ready.{Ready};
 ghost use Rattle.sort.specs.Rows.{boardRowSize, boardRowWords};
 ghost use Rattle.spans.specs.Spans.{runs#};
-ghost use Rattle.board.specs.Board.{boardable, departureOf, runsFrom, callDepartures, leaves};
-ghost use Rattle.board_runs.specs.Batch.{departuresAt, batchRows, Batched, Shelved, outside, Quiet, AtMost};
-ghost use Rattle.board_runs.specs.Batch.{MostFrom};
-ghost use Rattle.board_runs.specs.Inner.Plain.{recordDepartures, goesFrom, goesAlong, unrefused, opensPlain};
+ghost use Rattle.board.specs.Board.{boardable, departureOf, runsFrom, leaves};
+ghost use Rattle.board_runs.specs.Batch.{followed, callStands, callGives, departuresIn, batchRows, Batched, Shelved};
+ghost use Rattle.board_runs.specs.Batch.{outside, Quiet, AtMost, MostFrom};
+ghost use Rattle.board_runs.specs.Inner.Plain.{goesFrom, goesIn, alongIn, recordGives, unrefused, opensPlain};
 ghost use Rattle.board_runs.specs.Inner.Plain.{passesPlain, endsPlain, twoPlain, fourPlain, laterPlain};
-ghost use Rattle.board_runs.specs.Inner.Plain.{callsPlain, Opened, DaysInTurn, PlainSays};
+ghost use Rattle.board_runs.specs.Inner.Plain.{callsPlain, Opened, DaysInTurn, CallReady};
 
 // Departures from one place of a service's route: of the runs from `low` on and below `high`, where run 0 leaves at `departure`.
 pub struct Batch {
@@ -53,11 +53,12 @@ pub struct Batch {
 // ---- which runs
 
 // From place p of the i-th service, where that is at stop n, on day k of the period, within two minutes of the day; the places of the services begin at `places` of
-// the index.
+// the index. In a steady table the calls of a record are not looked at.
 pub fn runs_at(
     w: &[u32],
     x: &[u32],
     places: usize,
+    steady: bool,
     n: u32,
     k: u32,
     first: u32,
@@ -66,7 +67,7 @@ pub fn runs_at(
     p: u32,
 ) -> Batch
     requires { ⌜ Shelved (now w) (now x) places × (k < mostPeriodDays) ⌝ }
-    ensures { λ r. ⌜ Batched r (departuresAt (viewIn (now (w .entry)) (now (x .entry))) n k first last i p) ⌝ }
+    ensures { λ r. ⌜ Batched r (departuresIn steady (now (w .entry)) (now (x .entry)) n k first last i p) ⌝ }
 {
     let place = places + wide(i);
     if x.len() <= place {
@@ -76,7 +77,18 @@ pub fn runs_at(
     if w.len() < at {
         return no_runs();
     }
-    record_runs(w, x, index::words_from(w, at), n, k, first, last, i, p)
+    record_runs(
+        w,
+        x,
+        index::words_from(w, at),
+        steady,
+        n,
+        k,
+        first,
+        last,
+        i,
+        p,
+    )
 }
 
 // ---- a first look, before a record is checked and its course looked at; the places of the services begin at `places` of the index
@@ -171,6 +183,7 @@ fn record_runs(
     w: &[u32],
     x: &[u32],
     s: &[u32],
+    steady: bool,
     n: u32,
     k: u32,
     first: u32,
@@ -179,8 +192,8 @@ fn record_runs(
     p: u32,
 ) -> Batch
     requires { ⌜ Ready (now w) (now x) × (k < mostPeriodDays) ⌝ }
-    ensures { λ r. ⌜ Batched r (recordDepartures (viewIn (now (w .entry)) (now (x .entry))) (stops# (now (w .entry))) n
-        k first last i (now (s .entry)) p) ⌝ }
+    ensures { λ r. ⌜ Batched r (recordGives steady (viewIn (now (w .entry)) (now (x .entry))) (stops# (now (w .entry)))
+        n k first last i (now (s .entry)) p) ⌝ }
 {
     if !table::sizes_sound(s) {
         return no_runs();
@@ -188,7 +201,7 @@ fn record_runs(
     if !runs::opening_sound(table::opening_at(s)) {
         return no_runs();
     }
-    if !goes_from(w, x, s, k, p) {
+    if !goes_from(w, x, s, steady, k, p) {
         return no_runs();
     }
     call_runs(w, x, s, n, first, last, i, p)
@@ -197,11 +210,11 @@ fn record_runs(
 // ---- whether the record is sound, and the day's course goes on
 
 // From place p, by the operating-day ranges: where they follow each other the day's stretch is known before the calls are looked at.
-fn goes_from(w: &[u32], x: &[u32], s: &[u32], k: u32, p: u32) -> bool
+fn goes_from(w: &[u32], x: &[u32], s: &[u32], steady: bool, k: u32, p: u32) -> bool
     requires { ⌜ Ready (now w) (now x) × (k < mostPeriodDays) ⌝ }
     requires { ⌜ Opened (now s) ⌝ }
     ensures { λ r. ⌜ r ≡
-        goesFrom (viewIn (now (w .entry)) (now (x .entry))) (stops# (now (w .entry))) (now (s .entry)) k p ⌝ }
+        goesIn steady (viewIn (now (w .entry)) (now (x .entry))) (stops# (now (w .entry))) (now (s .entry)) k p ⌝ }
 {
     let v = legs::day_words(s);
     let n = s[DAYS_AT];
@@ -212,7 +225,7 @@ fn goes_from(w: &[u32], x: &[u32], s: &[u32], k: u32, p: u32) -> bool
     if !day.known {
         return false;
     }
-    goes_along(s, w[STOPS_AT], day.start, day.end, day.again, p)
+    goes_along(s, w[STOPS_AT], steady, day.start, day.end, day.again, p)
 }
 
 // Whatever its ranges.
@@ -228,10 +241,10 @@ fn goes_slowly(w: &[u32], x: &[u32], s: &[u32], k: u32, p: u32) -> bool
 }
 
 // Where the day's first stretch begins and ends, and where another begins.
-fn goes_along(s: &[u32], stops: u32, start: u32, end: u32, again: u32, p: u32) -> bool
+fn goes_along(s: &[u32], stops: u32, steady: bool, start: u32, end: u32, again: u32, p: u32) -> bool
     requires { ⌜ DaysInTurn (now s) ⌝ }
     requires { ⌜ (start ≤ end) × (end ≤ calls# (now s) - 1) ⌝ }
-    ensures { λ r. ⌜ r ≡ goesAlong stops (now (s .entry)) start end again p ⌝ }
+    ensures { λ r. ⌜ r ≡ alongIn steady stops (now (s .entry)) start end again p ⌝ }
 {
     if p < start {
         return false;
@@ -242,10 +255,39 @@ fn goes_along(s: &[u32], stops: u32, start: u32, end: u32, again: u32, p: u32) -
     if again < s[CALLS_AT] - 1 {
         return false;
     }
-    if is_plain(s, stops) {
+    if !ranges_follow(s) {
+        return stands(s, stops, start, end - start);
+    }
+    if steady {
+        return call_stands(s, stops, p);
+    }
+    if calls_plain(s, stops) {
         return true;
     }
     stands(s, stops, start, end - start)
+}
+
+// Whether the call at place p is sound.
+fn call_stands(s: &[u32], stops: u32, p: u32) -> bool
+    requires { ⌜ serviceHead + callSize * p + callSize ≤ length (now s) ⌝ }
+    ensures { λ r. ⌜ r ≡ callStands stops (now (s .entry)) p ⌝ }
+{
+    is_sound(call_of(s, p), stops)
+}
+
+fn is_sound(c: Call, stops: u32) -> bool
+    ensures { λ r. ⌜ r ≡ callSound stops c ⌝ }
+{
+    if stops <= c.stop {
+        return false;
+    }
+    if LATEST_TIME < c.arrival {
+        return false;
+    }
+    if LATEST_TIME < c.departure {
+        return false;
+    }
+    c.flags <= ALL_FLAGS
 }
 
 // Whether the record is sound, and no call of a stretch is refused.
@@ -263,18 +305,16 @@ fn stands(s: &[u32], stops: u32, start: u32, legs: u32) -> bool
 // ---- one look at a record as nearly all are: its ranges follow each other, both times of each call between the first and the last are stated, and no time falls. Then it is
 // sound, and no call of any stretch is refused.
 
-fn is_plain(s: &[u32], stops: u32) -> bool
+// The ranges but the operating days, which do.
+fn ranges_follow(s: &[u32]) -> bool
     requires { ⌜ DaysInTurn (now s) ⌝ }
-    ensures { λ r. ⌜ PlainSays stops (now (s .entry)) r ⌝ }
+    ensures { λ r. ⌜ r ≡ followed (now (s .entry)) ⌝ }
 {
     let g = rows::category_words(s);
     if !cover::in_turn(g, s[CATEGORIES_AT], CATEGORY_WORDS, s[CALLS_AT] - 1) {
         return false;
     }
-    if !table::extras_sound(s) {
-        return false;
-    }
-    calls_plain(s, stops)
+    table::extras_sound(s)
 }
 
 // Of the calls: the first has a departure, and its arrival is not bound by the order.
@@ -447,10 +487,9 @@ fn call_runs(
     p: u32,
 ) -> Batch
     requires { ⌜ Ready (now w) (now x) ⌝ }
-    requires { ⌜ recordSound (stops# (now w)) (now s) ≡ true ⌝ }
-    ensures { λ r. ⌜ Batched r (callDepartures n first last i (openingAt (now (s .entry))) p
-        (getElem? (withStops (viewIn (now (w .entry)) (now (x .entry)) .shown) (serviceAt (now (s .entry))) .calls)
-        p)) ⌝ }
+    requires { ⌜ CallReady (stops# (now w)) (now s) p ⌝ }
+    ensures { λ r. ⌜ Batched r
+        (callGives (viewIn (now (w .entry)) (now (x .entry))) n first last i (now (s .entry)) p) ⌝ }
 {
     if s[CALLS_AT] <= p {
         return no_runs();

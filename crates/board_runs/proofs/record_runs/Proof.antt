@@ -1,6 +1,6 @@
 use Rattle.base.proofs.Laws.{tests}
 use Rattle.index.specs.Index.{viewIn}
-use Rattle.board_runs.proofs.Goes.{one-record, record-opened, record-goes-sound}
+use Rattle.board_runs.proofs.Goes.{one-record, record-opened, record-ready}
 use Rattle.board_runs.proofs.record_runs.Statement.{statement}
 use Rattle.board_runs.proofs.record_runs.Tie as tie
 
@@ -40,7 +40,7 @@ returns-3 c = search one-record
 call-runs-requires : tie.Need-call-runs-requires
 call-runs-requires c κs =
     let given = c .before .before .before .before .before .before .before .before .before .before .args in
-    (search tests, record-goes-sound (viewIn (given .w .now) (given .x .now)) _ (given .k) (given .p) (given .s .now) _ (c .before .goes-from .ensures) (c .if3 .left))
+    (search tests, record-ready (given .steady) (viewIn (given .w .now) (given .x .now)) _ (given .k) (given .p) (given .s .now) _ (c .before .goes-from .ensures) (c .if3 .left))
 
 returns-4 : tie.Need-returns-4
 returns-4 c = search one-record

@@ -16,11 +16,8 @@ use Rattle.timetable.specs.declared.Call.{Call}
 use Rattle.cover.specs.Inner.Cover.{legsIn, inTurn}
 use Rattle.course.specs.Inner.Rows.{callsFrom}
 use Rattle.course.specs.Inner.Course.{stretchesCourse}
-use Rattle.board.specs.Board.{Departure, leaves, placeDepartures}
-
--- the departures from place p of the service whose record stands at the front of s; none where that is not sound, in a table with so many stops
-abbrev pub recordDepartures : View → ℕ → ℕ → ℕ → ℕ → ℕ → ℕ → List ℕ → ℕ → List Departure
-recordDepartures v stops n k t u i s p = cond (recordSound stops s) (placeDepartures v n k t u i (withStops (v .shown) (serviceAt s)) p) []
+use Rattle.board.specs.Board.{Departure, leaves}
+use Rattle.board_runs.specs.Batch.{daysFollow, followed, leftOn, callStands, trusted, callGives}
 
 -- no call is refused
 abbrev pub isNone : Option ℕ → Bool
@@ -37,6 +34,17 @@ goesFrom v stops s k p = recordSound stops s && leaves (courseOn v (serviceAt s)
 
 abbrev pub goesAlong : ℕ → List ℕ → ℕ → ℕ → ℕ → ℕ → Bool
 goesAlong stops s a b c p = recordSound stops s && leaves (stretchesCourse (serviceAt s) (calls# s - 1) a b c) p
+
+-- the same with the mark of a steady table: of a record that is followed, what its ranges say
+abbrev pub goesIn : Bool → View → ℕ → List ℕ → ℕ → ℕ → Bool
+goesIn m v stops s k p = cond (m && followed s) (trusted v stops s k p) (goesFrom v stops s k p)
+
+abbrev pub alongIn : Bool → ℕ → List ℕ → ℕ → ℕ → ℕ → ℕ → Bool
+alongIn m stops s a b c p = cond (m && followed s) (leftOn (calls# s - 1) a b c p && callStands stops s p) (goesAlong stops s a b c p)
+
+-- the departures from place p of the service whose record stands at the front of s, in a table with so many stops
+abbrev pub recordGives : Bool → View → ℕ → ℕ → ℕ → ℕ → ℕ → ℕ → List ℕ → ℕ → List Departure
+recordGives m v stops n k t u i s p = cond (goesIn m v stops s k p) (callGives v n t u i s p) []
 
 -- ---- the calls
 
@@ -83,9 +91,9 @@ pub record Opened (s : List ℕ) : Type 0 where
 -- and its operating-day ranges follow each other
 pub record DaysInTurn (s : List ℕ) : Type 0 where
   pub opened : Opened s
-  pub follow : inTurn 0 (calls# s - 1) (legsIn daySize (days# s) (drop (dayPlace s) s)) ≡ true
+  pub follow : daysFollow s ≡ true
 
--- where the answer is yes, the record is sound and no call of any stretch is refused
-pub record PlainSays (stops : ℕ) (s : List ℕ) (r : Bool) : Type 0 where
-  pub sound : r ≡ true → recordSound stops s ≡ true
-  pub fine : r ≡ true → (a n : ℕ) → 0 < n → a + n < calls# s → unrefused s a n ≡ true
+-- and the call at place p is sound, where there is one
+pub record CallReady (stops : ℕ) (s : List ℕ) (p : ℕ) : Type 0 where
+  pub opened : Opened s
+  pub call : p < calls# s → callStands stops s p ≡ true

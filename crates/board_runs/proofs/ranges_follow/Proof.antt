@@ -1,6 +1,6 @@
 use Rattle.board_runs.proofs.Plain.{look}
-use Rattle.board_runs.proofs.is_plain.Statement.{statement}
-use Rattle.board_runs.proofs.is_plain.Tie as tie
+use Rattle.board_runs.proofs.ranges_follow.Statement.{statement}
+use Rattle.board_runs.proofs.ranges_follow.Tie as tie
 
 category-words-requires : tie.Need-category-words-requires
 category-words-requires c κs = search look
@@ -26,14 +26,8 @@ extras-sound-requires c κs = search look
 returns-2 : tie.Need-returns-2
 returns-2 c = search look
 
-calls-plain-requires : tie.Need-calls-plain-requires
-calls-plain-requires c κs = search look
-
-returns-3 : tie.Need-returns-3
-returns-3 c = search look
-
-pub is-plain-spec : {M : Type 1} → statement M
-is-plain-spec =
+pub ranges-follow-spec : {M : Type 1} → statement M
+ranges-follow-spec =
     tie.close
     (tie.spec
     category-words-requires
@@ -43,6 +37,4 @@ is-plain-spec =
     in-turn-requires
     returns
     extras-sound-requires
-    returns-2
-    calls-plain-requires
-    returns-3)
+    returns-2)
