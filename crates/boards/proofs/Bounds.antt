@@ -1,33 +1,32 @@
 -- How many departures there can be: at most as many from a call as a service has runs. Assumes nothing.
 use mathlib.Core.Path.{_≡_, refl, ap, _∙_, sym}
 use mathlib.Core.List.{List, [], _∷_}
-use mathlib.Core.Bool.{Bool, true, false, cond, _&&_}
-use mathlib.Core.Option.{Option, none, some}
-use Prim.Native.Nat.{ℕ, _-_, _*_, _≤_}
+use mathlib.Core.Bool.{Bool, true, false}
+use Prim.Native.Nat.{ℕ, _+_, _-_, _*_, _≤_}
 use native.Mathlib.Nat.{mul-suc}
 use native.Mathlib.Omega.{arith}
-use lib.ListN.{length, getElem?, drop, length-append}
-use lib.Dec.{eqb}
+use lib.ListN.{length, drop, length-append}
 use Rattle.base.specs.Lists.{gathered}
 use Rattle.base.proofs.Lists.{length-map-upto}
-use Rattle.base.proofs.Laws.{clash}
+use Rattle.base.proofs.Laws.{clash, by-ltb}
 use Rattle.timetable.specs.Delivery.{Service}
+use Rattle.timetable.specs.Layout.{serviceHead, callSize}
 use Rattle.timetable.specs.Runs.{openingSound}
-use Rattle.timetable.specs.Table.{stops#, serviceAt, withStops}
-use Rattle.timetable.specs.View.{View, ServiceFound, noService, aService}
-use Rattle.timetable.specs.Run.{courseOn}
-use Rattle.timetable.specs.declared.Call.{Call}
+use Rattle.timetable.specs.Table.{stops#, services#, callAt, openingAt, serviceAt, withStops}
+use Rattle.timetable.specs.View.{ServiceFound, noService, aService}
 use Rattle.timetable.specs.declared.Opening.{Opening}
 use Rattle.table.proofs.Says.{record-says}
-use Rattle.index.specs.Index.{recordIn, viewIn}
+use Rattle.index.specs.Index.{recordPlaceIn, recordIn, viewIn}
 use Rattle.index.specs.declared.ServiceRecord.{ServiceRecord}
 use Rattle.index.specs.declared.ServiceRecord.the-variants.{From, Refused}
 use Rattle.index.proofs.Records.{record-refused, record-service, record-sound}
 use Rattle.spans.specs.Spans.{mostRuns, firstRun, endRun}
 use Rattle.spans.proofs.Meaning.{end-few}
-use Rattle.board.specs.Board.{boardable, departureOf, runsFrom, callDepartures, leaves, placeDepartures}
-use Rattle.board_runs.specs.Batch.{foundAt, departuresAt}
+use Rattle.board.specs.Board.{departureOf, runsFrom}
+use Rattle.board_runs.specs.Batch.{recordOf, departuresIn}
 use Rattle.board_runs.proofs.Interval.{runs-in-a-row}
+use Rattle.board_runs.proofs.Given.{none-past}
+use Rattle.board_runs.proofs.Hidden.{record-few}
 
 -- every service that words and an index show has an opening line as a table has it
 pub opening-shown : (w x : List ℕ) (i : ℕ) (s : Service) → viewIn w x .service i ≡ aService s → openingSound (s .opening) ≡ true
@@ -55,28 +54,11 @@ runs-few t u i o p d s =
     = ap length (sym (runs-in-a-row t u i o p d s)) ∙ length-map-upto (departureOf i o p d) (endRun o d u - firstRun o d t) (firstRun o d t) in
     omega (arith, e, end-few o s d u)
 
-place-few : (v : View) (n k t u i : ℕ) (s : Service) (p : ℕ) → openingSound (s .opening) ≡ true → length (placeDepartures v n k t u i s p) ≤ mostRuns
-place-few v n k t u i s p h = go (leaves (courseOn v s k) p)
-  where
-    call : (b : Bool) (c : Call) → length (cond b (runsFrom t u i (s .opening) p (c .departure)) []) ≤ mostRuns
-    call true c = runs-few t u i (s .opening) p (c .departure) h
-    call false c = omega arith
-
-    at : (c : Option Call) → length (callDepartures n t u i (s .opening) p c) ≤ mostRuns
-    at none = omega arith
-    at (some c) = call (eqb (c .stop) n && boardable c) c
-
-    go : (b : Bool) → length (cond b (callDepartures n t u i (s .opening) p (getElem? (s .calls) p)) []) ≤ mostRuns
-    go true = at (getElem? (s .calls) p)
-    go false = omega arith
-
-pub call-few : (w x : List ℕ) (n k t u i p : ℕ) → length (departuresAt (viewIn w x) n k t u i p) ≤ mostRuns
-unfolding departuresAt
-call-few w x n k t u i p = go (viewIn w x .service i) refl
-  where
-    go : (f : ServiceFound) → viewIn w x .service i ≡ f → length (foundAt (viewIn w x) n k t u i p f) ≤ mostRuns
-    go (noService number) e = omega arith
-    go (aService s) e = place-few (viewIn w x) n k t u i s p (opening-shown w x i s e)
+pub call-few : (m : Bool) (w x : List ℕ) (n k t u i p : ℕ) → length (departuresIn m w x n k t u i p) ≤ mostRuns
+call-few m w x n k t u i p =
+    by-ltb (λ (b : Bool). length (departuresIn m w x n k t u i p) ≤ mostRuns) i (services# w)
+    (λ l. record-few w x t u i p (recordPlaceIn w x i) l refl mostRuns (λ o h. runs-few t u i (openingAt (recordOf w x i)) p (callAt (drop (serviceHead + callSize * p) (recordOf w x i)) .departure) (o .opening)) m n k)
+    (λ l. rw (none-past w x n k t u i p m l) (omega arith))
 
 pub gathered-few : {X Y : Type 0} (f : X → List Y) (m : ℕ) → ((x : X) → length (f x) ≤ m) → (l : List X) → length (gathered f l) ≤ m * length l
 unfolding gathered

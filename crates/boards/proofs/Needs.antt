@@ -18,13 +18,12 @@ use Rattle.timetable.specs.Layout.{latestTime}
 use Rattle.timetable.specs.Load.{onto}
 use Rattle.timetable.specs.Runs.{openingSound}
 use Rattle.timetable.specs.Table.{stops#}
-use Rattle.timetable.specs.View.{View}
 use Rattle.timetable.proofs.Rows.{any, all-any, length-gathered}
 use Rattle.table.specs.JustTable.{headerSound}
 use Rattle.table.proofs.Says.{header-says, header-word}
 use Rattle.words.specs.Words.{write}
 use Rattle.words.proofs.Laws.{write-none, write-turn, write-front, length-write}
-use Rattle.index.specs.Index.{servicesFrom, stopsFrom, stopSection, sectionEnd, viewIn}
+use Rattle.index.specs.Index.{servicesFrom, stopsFrom, stopSection, sectionEnd}
 use Rattle.index.specs.Inner.Ready.{Ready}
 use Rattle.index.proofs.Sections.{sections-fit}
 use Rattle.sort.specs.Rows.{boardRowWords, sortedRows, inOrder}
@@ -35,19 +34,38 @@ use Rattle.spans.specs.Spans.{runs#, mostRuns}
 use Rattle.board.specs.Board.{Departure, departureOf}
 use Rattle.board.specs.Question.{board, boardedBy, boardInto}
 use Rattle.board.specs.declared.BoardAnswer.the-variants.{Listed, Refused}
-use Rattle.board_runs.specs.Batch.{departuresAt, batchRows, Batched, Shelved, Quiet, AtMost}
+use Rattle.board_runs.specs.Batch.{departuresIn, batchRows, Batched, Shelved, Quiet, AtMost}
 use Rattle.board_runs.specs.declared.Batch.{Batch}
 use Rattle.board_runs.proofs.Hidden.{none-long}
 use Rattle.stop_calls.specs.StopCalls.{entries#, entryWord, callsBy, Lent, leftAt, On}
 use Rattle.stop_calls.specs.declared.Cursor.{Cursor}
-use Rattle.boards.specs.ByWords.{entryDepartures, departuresBy, boardBy, Lends, Along, leftDepartures, Calm, Few, oneIf, Behind, Entry, KeptFrom, Kept, Told, Keeping, PuttingKept, Putting, most}
+use Rattle.boards.specs.ByWords.{steadyIn, entryDepartures, departuresBy, boardBy, Lends, Along, leftDepartures, Calm, Few, oneIf, Behind, Entry, KeptFrom, Kept, Told, Keeping, PuttingKept, Putting, most}
 use Rattle.boards.proofs.Bounds.{call-few, gathered-few}
 
 -- ---- one call
 
-pub batch-is : (v : View) (s e n k t u i p : ℕ) (y : List ℕ) (b : Batch) → i ≡ entryWord s y 1 e → p ≡ entryWord s y 3 e → Batched b (departuresAt v n k t u i p) → Batched b (entryDepartures v s y n k t u e)
+pub batch-is : (w x : List ℕ) (s e n k t u i p : ℕ) (y : List ℕ) (b : Batch) (m : Bool) → m ≡ steadyIn s y → i ≡ entryWord s y 1 e → p ≡ entryWord s y 3 e → Batched b (departuresIn m w x n k t u i p) → Batched b (entryDepartures w x s y n k t u e)
 unfolding entryDepartures
-batch-is v s e n k t u i p y b a c g = rw (a, c) at g
+batch-is w x s e n k t u i p y b m q a c g = rw (q, a, c) at g
+
+-- the mark; j is the number of stops as a place
+module _ (s j : ℕ) (y : List ℕ) (q : j ≡ s) where
+  pub steady-none : length y ≤ j → false ≡ steadyIn s y
+  unfolding steadyIn
+  steady-none h = sym (rw (le-ltb s (length y) (omega (arith, q))) refl)
+
+  module _ (h : j < length y) where
+    pub steady-some : 1 ≤ length y
+    steady-some = omega arith
+
+    pub steady-last : length y - 1 < length y
+    steady-last = omega arith
+
+    pub steady-told : eqb (getD y (length y - 1) 0) 1 ≡ steadyIn s y
+    unfolding steadyIn
+    steady-told = sym (rw (lt-ltb s (length y) (omega (arith, q))) refl)
+
+pub ruleset marks = (tests, steady-none, steady-some, steady-last, steady-told)
 
 pub shelved-ready : (w x : List ℕ) (places : ℕ) → Shelved w x places → Ready w x
 shelved-ready w x places h = h .ready
@@ -55,22 +73,22 @@ shelved-ready w x places h = h .ready
 module _ (w x : List ℕ) (places s e t u i p : ℕ) (y : List ℕ) (a : i ≡ entryWord s y 1 e) (c : p ≡ entryWord s y 3 e) where
   pub calm-is : (r : Bool) → Quiet w x places t u i p r → Calm w x s y t u e r
   unfolding entryDepartures
-  calm-is r g = record { none = λ f n k. rw (← a, ← c) (g .none f n k) }
+  calm-is r g = record { none = λ f n k. rw (← a, ← c) (g .none f (steadyIn s y) n k) }
 
 pub few-is : (w x : List ℕ) (s e t u i p r : ℕ) (y : List ℕ) → i ≡ entryWord s y 1 e → p ≡ entryWord s y 3 e → AtMost w x t u i p r → Few w x s y t u e r
 unfolding entryDepartures
-few-is w x s e t u i p r y a c g = record { few = λ n k. rw (← a, ← c) (g .few n k) }
+few-is w x s e t u i p r y a c g = record { few = λ n k. rw (← a, ← c) (g .few (steadyIn s y) n k) }
 
 pub ruleset looks = (tests, calm-is, few-is)
 
 module _ (w x : List ℕ) (s e n k t u : ℕ) (y : List ℕ) (r : Bool) (g : Calm w x s y t u e r) (f : r ≡ true) where
-  pub calm-count : 0 ≡ length (entryDepartures (viewIn w x) s y n k t u e)
+  pub calm-count : 0 ≡ length (entryDepartures w x s y n k t u e)
   calm-count = sym (ap length (g .none f n k))
 
-  pub calm-end : (to : ℕ) → to ≡ to + 4 * length (entryDepartures (viewIn w x) s y n k t u e)
+  pub calm-end : (to : ℕ) → to ≡ to + 4 * length (entryDepartures w x s y n k t u e)
   calm-end to = omega (arith, calm-count)
 
-  pub calm-words : (l : List ℕ) (to : ℕ) → l ≡ write l to (gathered boardRowWords (entryDepartures (viewIn w x) s y n k t u e))
+  pub calm-words : (l : List ℕ) (to : ℕ) → l ≡ write l to (gathered boardRowWords (entryDepartures w x s y n k t u e))
   unfolding gathered
   calm-words l to = sym (write-none l to) ∙ sym (ap (λ (es : List Departure). write l to (gathered boardRowWords es)) (g .none f n k))
 
@@ -127,7 +145,7 @@ module _ (w x y : List ℕ) (end n from stop k t u : ℕ) where
   left c = leftDepartures w x y end n from stop k t u c
 
   abbrev given : ℕ → List Departure
-  given e = entryDepartures (viewIn w x) n y stop k t u e
+  given e = entryDepartures w x n y stop k t u e
 
   pub left-none : (c : Cursor) → c .call ≡ 0 → leftDepartures w x y end n from stop k t u c ≡ []
   unfolding leftDepartures leftAt gathered
@@ -136,7 +154,7 @@ module _ (w x y : List ℕ) (end n from stop k t u : ℕ) where
   module _ (c c′ : Cursor) (q : leftAt w x y end n from stop c ≡ c .call ∷ leftAt w x y end n from stop c′) where
     split : left c ≡ given (c .call) ++ left c′
     unfolding leftDepartures gathered
-    split = ap (gathered (entryDepartures (viewIn w x) n y stop k t u)) q
+    split = ap (gathered (entryDepartures w x n y stop k t u)) q
 
     long : length (left c) ≡ length (given (c .call)) + length (left c′)
     long = ap length split ∙ length-append (given (c .call)) (left c′)
@@ -144,14 +162,14 @@ module _ (w x y : List ℕ) (end n from stop k t u : ℕ) where
     pub left-less : length (leftAt w x y end n from stop c′) < length (leftAt w x y end n from stop c)
     left-less = rw q (omega arith)
 
-    pub left-count : (total d m : ℕ) → d ≡ length (entryDepartures (viewIn w x) n y stop k t u (c .call)) → total + length (leftDepartures w x y end n from stop k t u c) ≡ m → total + d + length (leftDepartures w x y end n from stop k t u c′) ≡ m
+    pub left-count : (total d m : ℕ) → d ≡ length (entryDepartures w x n y stop k t u (c .call)) → total + length (leftDepartures w x y end n from stop k t u c) ≡ m → total + d + length (leftDepartures w x y end n from stop k t u c′) ≡ m
     left-count total d m e h = omega (arith, long, e, h)
 
     module _ (l₀ : List ℕ) (c₀ : Cursor) (l : List ℕ) (to : ℕ) (g : Putting w x y end n from stop k t u l₀ c₀ l c to) where
       fits : to + 4 * length (given (c .call)) ≤ length l
       fits = omega (arith, long, g .count, g .room, g .long)
 
-      pub put-turn : (l′ : List ℕ) (to′ : ℕ) → l′ ≡ write l to (gathered boardRowWords (entryDepartures (viewIn w x) n y stop k t u (c .call))) → to′ ≡ to + 4 * length (entryDepartures (viewIn w x) n y stop k t u (c .call)) → On y n c′
+      pub put-turn : (l′ : List ℕ) (to′ : ℕ) → l′ ≡ write l to (gathered boardRowWords (entryDepartures w x n y stop k t u (c .call))) → to′ ≡ to + 4 * length (entryDepartures w x n y stop k t u (c .call)) → On y n c′
           → Putting w x y end n from stop k t u l₀ c₀ l′ c′ to′
       put-turn l′ to′ d e o = record {
         on = o;
@@ -165,16 +183,16 @@ module _ (w x y : List ℕ) (end n from stop k t u : ℕ) where
       }
 
   -- before the cursor has moved: what a call gives is a part of what is left
-  pub left-part : (c : Cursor) → On y n c → (c .call ≡ 0 → ⊥) → length (entryDepartures (viewIn w x) n y stop k t u (c .call)) ≤ length (leftDepartures w x y end n from stop k t u c)
+  pub left-part : (c : Cursor) → On y n c → (c .call ≡ 0 → ⊥) → length (entryDepartures w x n y stop k t u (c .call)) ≤ length (leftDepartures w x y end n from stop k t u c)
   unfolding leftDepartures leftAt gathered
   left-part c o z = rw (borrow.Author.Tests.ne-eqb (c .call) 0 z) (head (c .left) (o .more z))
     where
-      head : (m : ℕ) → 0 < m → length (entryDepartures (viewIn w x) n y stop k t u (c .call)) ≤ length (gathered (entryDepartures (viewIn w x) n y stop k t u) (take m (c .call ∷ Rattle.stop_calls.specs.StopCalls.callsAfter w x y end n from stop (c .call) (c .stop))))
+      head : (m : ℕ) → 0 < m → length (entryDepartures w x n y stop k t u (c .call)) ≤ length (gathered (entryDepartures w x n y stop k t u) (take m (c .call ∷ Rattle.stop_calls.specs.StopCalls.callsAfter w x y end n from stop (c .call) (c .stop))))
       head zero h = absurd (omega arith)
-      head (suc m) h = omega (arith, length-append (entryDepartures (viewIn w x) n y stop k t u (c .call)) (gathered (entryDepartures (viewIn w x) n y stop k t u) (take m (Rattle.stop_calls.specs.StopCalls.callsAfter w x y end n from stop (c .call) (c .stop)))))
+      head (suc m) h = omega (arith, length-append (entryDepartures w x n y stop k t u (c .call)) (gathered (entryDepartures w x n y stop k t u) (take m (Rattle.stop_calls.specs.StopCalls.callsAfter w x y end n from stop (c .call) (c .stop)))))
 
   module _ (c : Cursor) (o : On y n c) (z : c .call ≡ 0 → ⊥) where
-    pub left-fits : (total d m : ℕ) → d ≡ length (entryDepartures (viewIn w x) n y stop k t u (c .call)) → total + length (leftDepartures w x y end n from stop k t u c) ≡ m → m ≤ most → total + d < 2 ^ 64
+    pub left-fits : (total d m : ℕ) → d ≡ length (entryDepartures w x n y stop k t u (c .call)) → total + length (leftDepartures w x y end n from stop k t u c) ≡ m → m ≤ most → total + d < 2 ^ 64
     left-fits total d m e h b = omega (arith, e, h, b, left-part c o z)
 
   pub left-total : (c : Cursor) (total m : ℕ) → c .call ≡ 0 → total + length (leftDepartures w x y end n from stop k t u c) ≡ m → total ≡ m
@@ -184,7 +202,7 @@ module _ (w x y : List ℕ) (end n from stop k t u : ℕ) where
   put-first c l o h = record { on = o; long = refl; count = omega arith; room = h; words = refl }
 
   module _ (l₀ : List ℕ) (c₀ : Cursor) (l : List ℕ) (c : Cursor) (to : ℕ) (g : Putting w x y end n from stop k t u l₀ c₀ l c to) where
-    pub put-room : (c .call ≡ 0 → ⊥) → to + 4 * length (entryDepartures (viewIn w x) n y stop k t u (c .call)) ≤ length l
+    pub put-room : (c .call ≡ 0 → ⊥) → to + 4 * length (entryDepartures w x n y stop k t u (c .call)) ≤ length l
     put-room z = omega (arith, g .count, g .room, g .long, left-part c (g .on) z)
 
     pub put-on : On y n c
@@ -240,7 +258,7 @@ module _ (w x y : List ℕ) (end n from stop t u : ℕ) (c r : Cursor) where
     pub behind-again : (r′ : Cursor) → leftAt w x y end n from stop r ≡ r .call ∷ leftAt w x y end n from stop r′ → On y n r′ → (b : Bool) → Calm w x n y t u (r .call) b → not b ≡ false → Behind w x y end n from stop t u c r′
     behind-again r′ q o b f e = record {
       on = o;
-      rest = λ k. g .rest k ∙ ap (λ (es : List Departure). entryDepartures (viewIn w x) n y stop k t u (c .call) ++ es) (split w x y end n from stop k t u r r′ q ∙ ap (λ (es : List Departure). es ++ leftDepartures w x y end n from stop k t u r′) (f .none (not-false b e) stop k));
+      rest = λ k. g .rest k ∙ ap (λ (es : List Departure). entryDepartures w x n y stop k t u (c .call) ++ es) (split w x y end n from stop k t u r r′ q ∙ ap (λ (es : List Departure). es ++ leftDepartures w x y end n from stop k t u r′) (f .none (not-false b e) stop k));
       less = omega (arith, g .less, ap length q);
     }
 
@@ -263,20 +281,20 @@ module _ (w x y : List ℕ) (end n from stop t u : ℕ) (c₀ : Cursor) (rows : 
 
     pub keep-done : c .call ≡ 0 → KeptFrom w x y end n from stop t u c₀ rows kept m
     keep-done z = record {
-      calls = λ h k. sym (append-nil (gathered (entryDepartures (viewIn w x) n y stop k t u) (take m kept))) ∙ ap (λ (es : List Departure). gathered (entryDepartures (viewIn w x) n y stop k t u) (take m kept) ++ es) (sym (left-none w x y end n from stop k t u c z)) ∙ g .all k;
+      calls = λ h k. sym (append-nil (gathered (entryDepartures w x n y stop k t u) (take m kept))) ∙ ap (λ (es : List Departure). gathered (entryDepartures w x n y stop k t u) (take m kept) ++ es) (sym (left-none w x y end n from stop k t u c z)) ∙ g .all k;
       room = λ h k. omega (arith, g .room k, ap length (left-none w x y end n from stop k t u c z));
       each = λ h. g .each;
     }
 
     module _ (c′ : Cursor) (q : Behind w x y end n from stop t u c c′) (most : ℕ) (f : Few w x n y t u (c .call) most) (a : most ≤ left) (h : m < length kept) (z : c .call ≡ 0 → ⊥) where
-      rest : (k : ℕ) → leftDepartures w x y end n from stop k t u c ≡ entryDepartures (viewIn w x) n y stop k t u (c .call) ++ leftDepartures w x y end n from stop k t u c′
+      rest : (k : ℕ) → leftDepartures w x y end n from stop k t u c ≡ entryDepartures w x n y stop k t u (c .call) ++ leftDepartures w x y end n from stop k t u c′
       rest k = q .rest k
 
       o : On y n c′
       o = q .on
 
       lower : (k : ℕ) → length (leftDepartures w x y end n from stop k t u c₀) + (left - most) ≤ length (leftDepartures w x y end n from stop k t u c′) + rows
-      lower k = omega (arith, g .room k, ap length (rest k), length-append (entryDepartures (viewIn w x) n y stop k t u (c .call)) (leftDepartures w x y end n from stop k t u c′), f .few stop k)
+      lower k = omega (arith, g .room k, ap length (rest k), length-append (entryDepartures w x n y stop k t u (c .call)) (leftDepartures w x y end n from stop k t u c′), f .few stop k)
 
       kept-before : (j : ℕ) → j < m → Entry n y (getD (set kept m (c .call)) j 0)
       kept-before j l = rw (getD-set-other kept m j (c .call) 0 (λ d. absurd (omega (arith, d)))) (g .each j l)
@@ -298,9 +316,9 @@ module _ (w x y : List ℕ) (end n from stop t u : ℕ) (c₀ : Cursor) (rows : 
             on = o;
             within = simp length-set (omega arith);
             all = λ k.
-                let none : entryDepartures (viewIn w x) n y stop k t u (c .call) ≡ [] = none-long (entryDepartures (viewIn w x) n y stop k t u (c .call)) (omega (arith, f .few stop k, e)) in
-                (λ j. gathered (entryDepartures (viewIn w x) n y stop k t u) (take-set-le m kept m (c .call) (omega arith) j) ++ leftDepartures w x y end n from stop k t u c′)
-                ∙ ap (λ (es : List Departure). gathered (entryDepartures (viewIn w x) n y stop k t u) (take m kept) ++ es) (sym (rest k ∙ ap (λ (es : List Departure). es ++ leftDepartures w x y end n from stop k t u c′) none)) ∙ g .all k;
+                let none : entryDepartures w x n y stop k t u (c .call) ≡ [] = none-long (entryDepartures w x n y stop k t u (c .call)) (omega (arith, f .few stop k, e)) in
+                (λ j. gathered (entryDepartures w x n y stop k t u) (take-set-le m kept m (c .call) (omega arith) j) ++ leftDepartures w x y end n from stop k t u c′)
+                ∙ ap (λ (es : List Departure). gathered (entryDepartures w x n y stop k t u) (take m kept) ++ es) (sym (rest k ∙ ap (λ (es : List Departure). es ++ leftDepartures w x y end n from stop k t u c′) none)) ∙ g .all k;
             room = lower;
             each = kept-before;
           })
@@ -311,11 +329,11 @@ module _ (w x y : List ℕ) (end n from stop t u : ℕ) (c₀ : Cursor) (rows : 
         on = o;
         within = simp length-set (omega arith);
         all = λ k.
-            (λ j. gathered (entryDepartures (viewIn w x) n y stop k t u) (front-more kept m (c .call) h j) ++ leftDepartures w x y end n from stop k t u c′)
-            ∙ ap (λ (es : List Departure). es ++ leftDepartures w x y end n from stop k t u c′) (gathered-append (entryDepartures (viewIn w x) n y stop k t u) (take m kept) (c .call ∷ []))
-            ∙ append-assoc (gathered (entryDepartures (viewIn w x) n y stop k t u) (take m kept)) (entryDepartures (viewIn w x) n y stop k t u (c .call) ++ []) (leftDepartures w x y end n from stop k t u c′)
-            ∙ ap (λ (es : List Departure). gathered (entryDepartures (viewIn w x) n y stop k t u) (take m kept) ++ (es ++ leftDepartures w x y end n from stop k t u c′)) (append-nil (entryDepartures (viewIn w x) n y stop k t u (c .call)))
-            ∙ ap (λ (es : List Departure). gathered (entryDepartures (viewIn w x) n y stop k t u) (take m kept) ++ es) (sym (rest k)) ∙ g .all k;
+            (λ j. gathered (entryDepartures w x n y stop k t u) (front-more kept m (c .call) h j) ++ leftDepartures w x y end n from stop k t u c′)
+            ∙ ap (λ (es : List Departure). es ++ leftDepartures w x y end n from stop k t u c′) (gathered-append (entryDepartures w x n y stop k t u) (take m kept) (c .call ∷ []))
+            ∙ append-assoc (gathered (entryDepartures w x n y stop k t u) (take m kept)) (entryDepartures w x n y stop k t u (c .call) ++ []) (leftDepartures w x y end n from stop k t u c′)
+            ∙ ap (λ (es : List Departure). gathered (entryDepartures w x n y stop k t u) (take m kept) ++ (es ++ leftDepartures w x y end n from stop k t u c′)) (append-nil (entryDepartures w x n y stop k t u (c .call)))
+            ∙ ap (λ (es : List Departure). gathered (entryDepartures w x n y stop k t u) (take m kept) ++ es) (sym (rest k)) ∙ g .all k;
         room = lower;
         each = kept-each;
       }
@@ -333,10 +351,10 @@ pub ruleset keeps = (tests, on-some, behind-less, along-heads, keep-first, keep-
 
 module _ (w x y : List ℕ) (stop k t u : ℕ) (kept : List ℕ) (m : ℕ) (h : Told w x y stop k t u kept m) where
   abbrev kept-gives : ℕ → List Departure
-  kept-gives e = entryDepartures (viewIn w x) (stops# w) y stop k t u e
+  kept-gives e = entryDepartures w x (stops# w) y stop k t u e
 
   abbrev later : ℕ → List Departure
-  later j = gathered (entryDepartures (viewIn w x) (stops# w) y stop k t u) (drop j (take m kept))
+  later j = gathered (entryDepartures w x (stops# w) y stop k t u) (drop j (take m kept))
 
   front-long : length (take m kept) ≡ m
   front-long = length-take-le m kept (h .within)
@@ -361,29 +379,29 @@ module _ (w x y : List ℕ) (stop k t u : ℕ) (kept : List ℕ) (m : ℕ) (h : 
     unfolding gathered
     told-last a =
         let none : drop j (take m kept) ≡ [] = drop-of-length-le (take m kept) {i = j} (omega (arith, front-long)) in
-        let z : length (later j) ≡ 0 = ap (λ (r : List ℕ). length (gathered (entryDepartures (viewIn w x) (stops# w) y stop k t u) r)) none in
+        let z : length (later j) ≡ 0 = ap (λ (r : List ℕ). length (gathered (entryDepartures w x (stops# w) y stop k t u) r)) none in
         omega (arith, g .count, z)
 
     pub told-end : m ≤ j → l ≡ write l₀ 0 (gathered boardRowWords (departuresBy w x y stop k t u))
     unfolding gathered
     told-end a =
         let none : drop j (take m kept) ≡ [] = drop-of-length-le (take m kept) {i = j} (omega (arith, front-long)) in
-        sym (write-none l to) ∙ ap (λ (r : List ℕ). write l to (gathered boardRowWords (gathered (entryDepartures (viewIn w x) (stops# w) y stop k t u) r))) (sym none) ∙ g .words
+        sym (write-none l to) ∙ ap (λ (r : List ℕ). write l to (gathered boardRowWords (gathered (entryDepartures w x (stops# w) y stop k t u) r))) (sym none) ∙ g .words
 
     module _ (a : j < m) (b : 4 * length (departuresBy w x y stop k t u) ≤ length l₀) where
       next : later j ≡ kept-gives (getD kept j 0) ++ later (j + 1)
       unfolding gathered
       next =
-          ap (gathered (entryDepartures (viewIn w x) (stops# w) y stop k t u))
+          ap (gathered (entryDepartures w x (stops# w) y stop k t u))
           (drop-cons (take m kept) j 0 (omega (arith, front-long)) ∙ (λ i. getD-take m kept j 0 a i ∷ drop (sym (add-one j) i) (take m kept)))
 
       kept-long : length (later j) ≡ length (kept-gives (getD kept j 0)) + length (later (j + 1))
       kept-long = ap length next ∙ length-append (kept-gives (getD kept j 0)) (later (j + 1))
 
-      pub told-room : to + 4 * length (entryDepartures (viewIn w x) (stops# w) y stop k t u (getD kept j 0)) ≤ length l
+      pub told-room : to + 4 * length (entryDepartures w x (stops# w) y stop k t u (getD kept j 0)) ≤ length l
       told-room = omega (arith, kept-long, g .count, g .long)
 
-      pub told-turn : (l′ : List ℕ) (to′ : ℕ) → l′ ≡ write l to (gathered boardRowWords (entryDepartures (viewIn w x) (stops# w) y stop k t u (getD kept j 0))) → to′ ≡ to + 4 * length (entryDepartures (viewIn w x) (stops# w) y stop k t u (getD kept j 0))
+      pub told-turn : (l′ : List ℕ) (to′ : ℕ) → l′ ≡ write l to (gathered boardRowWords (entryDepartures w x (stops# w) y stop k t u (getD kept j 0))) → to′ ≡ to + 4 * length (entryDepartures w x (stops# w) y stop k t u (getD kept j 0))
           → PuttingKept w x y stop k t u kept m l₀ l′ (j + 1) to′
       told-turn l′ to′ d e = record {
         long = ap length d ∙ length-write l to (gathered boardRowWords (kept-gives (getD kept j 0))) (omega (arith, told-room, words-long (kept-gives (getD kept j 0)))) ∙ g .long;
@@ -464,7 +482,7 @@ module _ (w x y : List ℕ) (end s from n k t u : ℕ) (c : Cursor) (a : end ≡
     (m : ℕ) (z : m ≡ getD w 0 0) (q : leftAt w x y end s from n c ≡ take m (callsBy w x y end s from n)) where
   pub whole-is : leftDepartures w x y end s from n k t u c ≡ departuresBy w x y n k t u
   unfolding leftDepartures departuresBy
-  whole-is = ap (gathered (entryDepartures (viewIn w x) s y n k t u)) q ∙ rw (z, a, b, d)
+  whole-is = ap (gathered (entryDepartures w x s y n k t u)) q ∙ rw (z, a, b, d)
 
   pub whole-few : m < 4294967296 → length (leftDepartures w x y end s from n k t u c) ≤ most
   unfolding leftDepartures entryDepartures
@@ -472,10 +490,10 @@ module _ (w x y : List ℕ) (end s from n k t u : ℕ) (c : Cursor) (a : end ≡
       let j : length (leftAt w x y end s from n c) ≤ 4294967296 = omega (arith, ap length q, length-take m (callsBy w x y end s from n), h) in
       let o : mostRuns ≤ mostRuns = omega arith in
       let p : mostRuns * length (leftAt w x y end s from n c) ≤ mostRuns * 4294967296 = mul-le-mul o j in
-      omega (arith, p, gathered-few (entryDepartures (viewIn w x) s y n k t u) mostRuns few (leftAt w x y end s from n c))
+      omega (arith, p, gathered-few (entryDepartures w x s y n k t u) mostRuns few (leftAt w x y end s from n c))
     where
-      few : (e : ℕ) → length (entryDepartures (viewIn w x) s y n k t u e) ≤ mostRuns
-      few e = call-few w x n k t u (entryWord s y 1 e) (entryWord s y 3 e)
+      few : (e : ℕ) → length (entryDepartures w x s y n k t u e) ≤ mostRuns
+      few e = call-few (steadyIn s y) w x n k t u (entryWord s y 1 e) (entryWord s y 3 e)
 
   pub whole-count : (r : ℕ) → r ≡ length (leftDepartures w x y end s from n k t u c) → r ≡ length (departuresBy w x y n k t u)
   whole-count r e = e ∙ ap length whole-is
@@ -495,7 +513,7 @@ module _ (w x y : List ℕ) (end s from n k t u : ℕ) (c : Cursor) (a : end ≡
 pub whole-kept : (w x y : List ℕ) (end s from n t u : ℕ) (c : Cursor) → end ≡ sectionEnd (stopSection w) → s ≡ getD w 4 0 → from ≡ stopsFrom w → (m : ℕ) → m ≡ getD w 0 0
     → leftAt w x y end s from n c ≡ take m (callsBy w x y end s from n) → (rows : ℕ) (kept : List ℕ) (r : ℕ) → KeptFrom w x y end s from n t u c rows kept r → Kept w x y n t u rows kept r
 whole-kept w x y end s from n t u c a b d m z q rows kept r g = record {
-  calls = λ h k. ap (λ (s : ℕ). gathered (entryDepartures (viewIn w x) s y n k t u) (take r kept)) (sym b) ∙ g .calls h k ∙ whole-is w x y end s from n k t u c a b d m z q;
+  calls = λ h k. ap (λ (s : ℕ). gathered (entryDepartures w x s y n k t u) (take r kept)) (sym b) ∙ g .calls h k ∙ whole-is w x y end s from n k t u c a b d m z q;
   room = λ h k. omega (arith, g .room h k, ap length (whole-is w x y end s from n k t u c a b d m z q));
   each = λ h j l. rw b at (g .each h j l);
 }

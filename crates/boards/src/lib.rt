@@ -18,13 +18,13 @@ ghost use Rattle.base.specs.Lists.{gathered};
 ghost use Rattle.timetable.specs.Layout.{mostPeriodDays};
 ghost use Rattle.table.specs.JustTable.{headerSound};
 ghost use Rattle.words.specs.Words.{write};
-ghost use Rattle.index.specs.Index.{stopsFrom, stopSection, sectionEnd, viewIn};
+ghost use Rattle.index.specs.Index.{stopsFrom, stopSection, sectionEnd};
 ghost use Rattle.index.specs.Inner.Ready.{Ready};
 ghost use Rattle.sort.specs.Rows.{boardRowSize, boardRowWords};
 ghost use Rattle.board.specs.Question.{board, boardedBy, boardInto};
 ghost use Rattle.board_runs.specs.Batch.{Batched, Shelved};
 ghost use Rattle.stop_calls.specs.StopCalls.{entries#, On};
-ghost use Rattle.boards.specs.ByWords.{entryDepartures, departuresBy, boardBy, Lends, Along, leftDepartures};
+ghost use Rattle.boards.specs.ByWords.{steadyIn, entryDepartures, departuresBy, boardBy, Lends, Along, leftDepartures};
 ghost use Rattle.boards.specs.ByWords.{Calm, Few, oneIf, Behind, KeptFrom, Kept, Told, most};
 
 // The board of stop number n on day k of the period, within two minutes of the day: 29 with the words needed, and the list then stays.
@@ -382,7 +382,7 @@ fn count_call(
     requires { ⌜ Shelved (now w) (now x) places × (k < mostPeriodDays) ⌝ }
     requires { ⌜ (s ≤ length (now y)) × (0 < e) × (e ≤ entries# s (now y)) ⌝ }
     ensures { λ r. ⌜ r ≡
-        length (entryDepartures (viewIn (now (w .entry)) (now (x .entry))) s (now (y .entry)) n k first last e) ⌝ }
+        length (entryDepartures (now (w .entry)) (now (x .entry)) s (now (y .entry)) n k first last e) ⌝ }
 {
     if gives_none(w, x, y, s, places, first, last, e) {
         return 0;
@@ -406,12 +406,22 @@ fn call_batch(
 ) -> Batch
     requires { ⌜ Shelved (now w) (now x) places × (k < mostPeriodDays) ⌝ }
     requires { ⌜ (s ≤ length (now y)) × (0 < e) × (e ≤ entries# s (now y)) ⌝ }
-    ensures { λ r. ⌜ Batched r (entryDepartures (viewIn (now (w .entry)) (now (x .entry))) s (now (y .entry)) n k first
+    ensures { λ r. ⌜ Batched r (entryDepartures (now (w .entry)) (now (x .entry)) s (now (y .entry)) n k first
         last e) ⌝ }
 {
     let i = stop_calls::entry_word(y, s, 1, e);
     let p = stop_calls::entry_word(y, s, 3, e);
-    board_runs::runs_at(w, x, places, n, k, first, last, i, p)
+    board_runs::runs_at(w, x, places, steady_in(y, s), n, k, first, last, i, p)
+}
+
+// Whether the words of the calls, beside so many stops, mark the table as steady: then no record's calls are looked at.
+fn steady_in(y: &[u32], s: u32) -> bool
+    ensures { λ r. ⌜ r ≡ steadyIn s (now (y .entry)) ⌝ }
+{
+    if y.len() <= table::size(s) {
+        return false;
+    }
+    y[y.len() - 1] == 1
 }
 
 // ---- written
@@ -494,12 +504,12 @@ fn put_call(
 ) -> usize
     requires { ⌜ Shelved (now w) (now x) places × (k < mostPeriodDays) ⌝ }
     requires { ⌜ (s ≤ length (now y)) × (0 < e) × (e ≤ entries# s (now y)) ⌝ }
-    requires { ⌜ to + boardRowSize * length (entryDepartures (viewIn (now w) (now x)) s (now y) n k first last e) ≤
+    requires { ⌜ to + boardRowSize * length (entryDepartures (now w) (now x) s (now y) n k first last e) ≤
         length (now list) ⌝ }
     ensures end { λ r. ⌜ r ≡ to + boardRowSize * length
-        (entryDepartures (viewIn (now (w .entry)) (now (x .entry))) s (now (y .entry)) n k first last e) ⌝ }
+        (entryDepartures (now (w .entry)) (now (x .entry)) s (now (y .entry)) n k first last e) ⌝ }
     ensures words { λ _. ⌜ now (list .exit) ≡ write (now (list .entry)) to
-        (gathered boardRowWords (entryDepartures (viewIn (now (w .entry)) (now (x .entry))) s (now (y .entry)) n k first
+        (gathered boardRowWords (entryDepartures (now (w .entry)) (now (x .entry)) s (now (y .entry)) n k first
         last e)) ⌝ }
 {
     if gives_none(w, x, y, s, places, first, last, e) {
@@ -525,12 +535,12 @@ fn put_rows(
 ) -> usize
     requires { ⌜ Shelved (now w) (now x) places × (k < mostPeriodDays) ⌝ }
     requires { ⌜ (s ≤ length (now y)) × (0 < e) × (e ≤ entries# s (now y)) ⌝ }
-    requires { ⌜ to + boardRowSize * length (entryDepartures (viewIn (now w) (now x)) s (now y) n k first last e) ≤
+    requires { ⌜ to + boardRowSize * length (entryDepartures (now w) (now x) s (now y) n k first last e) ≤
         length (now list) ⌝ }
     ensures end { λ r. ⌜ r ≡ to + boardRowSize * length
-        (entryDepartures (viewIn (now (w .entry)) (now (x .entry))) s (now (y .entry)) n k first last e) ⌝ }
+        (entryDepartures (now (w .entry)) (now (x .entry)) s (now (y .entry)) n k first last e) ⌝ }
     ensures words { λ _. ⌜ now (list .exit) ≡ write (now (list .entry)) to
-        (gathered boardRowWords (entryDepartures (viewIn (now (w .entry)) (now (x .entry))) s (now (y .entry)) n k first
+        (gathered boardRowWords (entryDepartures (now (w .entry)) (now (x .entry)) s (now (y .entry)) n k first
         last e)) ⌝ }
 {
     let b = call_batch(w, x, y, s, places, n, k, first, last, e);

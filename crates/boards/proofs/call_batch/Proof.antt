@@ -8,6 +8,9 @@ entry-word-requires c κs = search one
 entry-word-requires-2 : tie.Need-entry-word-requires-2
 entry-word-requires-2 c κs = search one
 
+steady-in-requires : tie.Need-steady-in-requires
+steady-in-requires c κs = search one
+
 runs-at-requires : tie.Need-runs-at-requires
 runs-at-requires c κs = search one
 
@@ -16,4 +19,10 @@ returns c = search one
 
 pub call-batch-spec : {M : Type 1} → statement M
 call-batch-spec =
-    tie.close (tie.spec entry-word-requires entry-word-requires-2 runs-at-requires returns)
+    tie.close
+    (tie.spec
+    entry-word-requires
+    entry-word-requires-2
+    steady-in-requires
+    runs-at-requires
+    returns)
