@@ -1,4 +1,5 @@
 pub mod Gather
+pub mod Steady
 pub mod Own
 pub mod Table
 pub mod Walks

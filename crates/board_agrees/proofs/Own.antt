@@ -1,16 +1,18 @@
--- By a table's own index a board is the board of the table (`own-board`). Assumes nothing.
+-- By a table's own index a board is the board of the table (`own-board`): `y` are the words of its calls and a mark m, which is 1 only where the calls of every service pass.
+-- Assumes nothing.
 use mathlib.Core.Path.{_≡_, refl, ap, _∙_, sym, fun-ext}
 use mathlib.Core.List.{List, [], _∷_, _++_, List·Permᴰ, List·Permᴰ·trans}
 use mathlib.Core.Bool.{Bool, true, false, cond}
 use mathlib.Core.Option.{Option}
 use Prim.Native.Nat.{ℕ, zero, suc, _+_, _-_, _*_, _≤_, _<_}
 use native.Mathlib.Omega.{arith}
-use lib.ListN.{length, getD, take, drop, length-append, length-map}
-use lib.Seq.{drop-drop, drop-at, getD-drop, take-all}
-use lib.Dec.{eqb}
-use borrow.Author.Tests.{eq-eqb, ne-eqb, le-leb, lt-ltb}
+use lib.ListN.{length, getD, take, drop, length-append, length-map, List·getD-append}
+use lib.Seq.{drop-drop, drop-at, getD-drop, getD-at, take-all}
+use lib.Dec.{eqb, ltb}
+use borrow.Author.Tests.{eq-eqb, ne-eqb, eqb-true, le-leb, lt-ltb}
 use Rattle.base.specs.Lists.{All, nil, cons, gathered, below}
 use Rattle.base.proofs.Laws.{by-eqb}
+use Rattle.base.proofs.Loops.{and-true}
 use Rattle.timetable.specs.Delivery.{Service}
 use Rattle.timetable.specs.Layout.{stopSize, serviceHead, callSize}
 use Rattle.timetable.specs.Table.{usedWords, stops#, services#, calls#, callAt, rowsIn, serviceAt, withStop, withStops, resolved, stopNumberAt, tableOf}
@@ -37,15 +39,19 @@ use Rattle.sort.specs.Rows.{notAfter}
 use Rattle.sort.proofs.Meaning.{perm-sorted}
 use Rattle.sort.proofs.Order.{row-order}
 use Rattle.board.specs.Board.{Departure, callDepartures, leaves, serviceDepartures, boardOf}
-use Rattle.board_runs.specs.Batch.{foundAt, departuresAt}
+use Rattle.board_runs.specs.Batch.{foundAt, departuresAt, recordOf}
+use Rattle.board_runs.specs.Inner.Plain.{callsPlain}
+use Rattle.board_runs.proofs.Goes.{steady-same}
 use Rattle.board_runs.proofs.Needs.{call-there}
 use Rattle.stop_calls.specs.StopCalls.{chained, entries#, entryWord, callsOn, stopsBy, callsBy}
-use Rattle.boards.specs.ByWords.{departuresBy, boardBy}
+use Rattle.boards.specs.ByWords.{steadyIn, departuresBy, boardBy}
 use Rattle.boards.specs.ByWords as B
 use Rattle.boards.proofs.Bounds.{gathered-few}
+use Rattle.board_agrees.proofs.Steady.{place-own}
 use Rattle.board_agrees.proofs.Gather.{passing, chained-right, passing-each, gathered-map, gathered-twice, gathered-same, all-upto, all-at, gathered-perm, gathered-swap, perm-length, none-of, pick}
 
-module _ (w x y : List ℕ) (h : JustTable w) (ex : x ≡ indexOf w) (ey : y ≡ callIndexOf w) where
+module _ (w x y : List ℕ) (m : ℕ) (h : JustTable w) (ex : x ≡ indexOf w) (ey : y ≡ callIndexOf w ++ (m ∷ []))
+    (st : m ≡ 1 → (i : ℕ) → i < services# w → callsPlain (stops# w) (drop (servicePlace w i) w) ≡ true) where
   abbrev end : ℕ
   end = sectionEnd (stopSection w)
 
@@ -67,17 +73,33 @@ module _ (w x y : List ℕ) (h : JustTable w) (ex : x ≡ indexOf w) (ey : y ≡
         ∙ chained-right (hasKey w (sectionEnd (stopSection w)) stopSize n) (nextBy w x (sectionEnd (stopSection w)) stopSize (stopsFrom w) n) (stops# w) (stops# w)
         (λ e z l q. next-agrees w x rest (sectionEnd (stopSection w)) stopSize (stops# w) (stopsFrom w) stop-chains n e z l q) (omega arith)
 
+  -- ---- the words of the calls, and the mark
+
+  length-marked : length y ≡ stops# w + 4 * allCalls w + 1
+  length-marked = ap length ey ∙ length-append (callIndexOf w) (m ∷ []) ∙ omega (arith, index-long w)
+
+  word-own : (j : ℕ) → j < stops# w + 4 * allCalls w → getD y j 0 ≡ getD (callIndexOf w) j 0
+  word-own j l = ap (λ (z : List ℕ). getD z j 0) ey ∙ List·getD-append (callIndexOf w) (m ∷ []) 0 j (omega (arith, index-long w))
+
+  mark-own : getD y (length y - 1) 0 ≡ m
+  mark-own = ap (λ (z : List ℕ). getD z (length y - 1) 0) ey ∙ getD-at (callIndexOf w) m [] 0 (length y - 1) (omega (arith, length-marked, index-long w))
+
+  -- where the mark is read as steady, every record is
+  steady-own : steadyIn (stops# w) y ≡ true → (i : ℕ) → i < services# w → callsPlain (stops# w) (recordOf w x i) ≡ true
+  unfolding steadyIn
+  steady-own e i l =
+      let q : m ≡ 1 = sym mark-own ∙ eqb-true (getD y (length y - 1) 0) 1 (and-true (ltb (stops# w) (length y)) _ e .1) in
+      ap (λ (p : ℕ). callsPlain (stops# w) (drop p w)) (place-own w x ex i l) ∙ st q i l
+
   -- ---- the calls at a stop
 
   entries-are : entries# (stops# w) y ≡ allCalls w
   unfolding entries#
-  entries-are =
-      let l : length y ≡ stops# w + 4 * allCalls w = ap length ey ∙ index-long w in
-      omega (arith, l)
+  entries-are = omega (arith, length-marked)
 
   entry-word : (k e : ℕ) → 0 < e → e ≤ allCalls w → k < 4 → entryWord (stops# w) y k e ≡ getD (entryOf w e) k 0
   unfolding entryWord
-  entry-word k e z l m = word-held w y ey e k z l m
+  entry-word k e z l g = word-own (stops# w + 4 * (e - 1) + k) (omega arith) ∙ word-held w (callIndexOf w) refl e k z l g
 
   before-is : (b e : ℕ) → 0 < e → e ≤ allCalls w → atStop w b e ≡ true → entryWord (stops# w) y 0 e ≡ greatest (atStop w b) (e - 1)
   unfolding entryOf entryBy lastAt
@@ -86,7 +108,7 @@ module _ (w x y : List ℕ) (h : JustTable w) (ex : x ≡ indexOf w) (ey : y ≡
   calls-are : (s : ℕ) → 0 < s → s ≤ stops# w → callsOn (stops# w) y s ≡ passing (atStop w (stops# w - s)) (allCalls w)
   unfolding callsOn lastAt
   calls-are s z l =
-      let head : getD y (stops# w - s) 0 ≡ greatest (atStop w (stops# w - s)) (allCalls w) = head-held w y ey (stops# w - s) (omega arith) in
+      let head : getD y (stops# w - s) 0 ≡ greatest (atStop w (stops# w - s)) (allCalls w) = word-own (stops# w - s) (omega arith) ∙ head-held w (callIndexOf w) refl (stops# w - s) (omega arith) in
       rw (entries-are, head)
       (chained-right (atStop w (stops# w - s)) (entryWord (stops# w) y 0) (allCalls w) (allCalls w) (λ e a c q. before-is (stops# w - s) e a c q) (omega arith))
 
@@ -212,17 +234,19 @@ module _ (w x y : List ℕ) (h : JustTable w) (ex : x ≡ indexOf w) (ey : y ≡
         either false = refl
 
     -- an entry gives what its call gives
-    entry-given : (e : ℕ) → 0 < e → e ≤ allCalls w → B.entryDepartures (viewOf (tableOf w)) (stops# w) y n k t u e ≡ given (callOf w e)
+    entry-given : (e : ℕ) → 0 < e → e ≤ allCalls w → B.entryDepartures w x (stops# w) y n k t u e ≡ given (callOf w e)
     unfolding B.entryDepartures entryOf entryBy
-    entry-given e z l = λ j. departuresAt (viewOf (tableOf w)) n k t u (entry-word 1 e z l (omega arith) j) (entry-word 3 e z l (omega arith) j)
+    entry-given e z l =
+        steady-same (steadyIn (stops# w) y) w x n k t u (entryWord (stops# w) y 1 e) (entryWord (stops# w) y 3 e) (λ q. steady-own q (entryWord (stops# w) y 1 e))
+        ∙ (λ j. departuresAt (view-agrees w x h ex j) n k t u (entry-word 1 e z l (omega arith) j) (entry-word 3 e z l (omega arith) j))
 
-    listed-given : (b m : ℕ) → m ≤ allCalls w → gathered (B.entryDepartures (viewOf (tableOf w)) (stops# w) y n k t u) (passing (atStop w b) m) ≡ gathered given (listedTo w b m)
+    listed-given : (b m : ℕ) → m ≤ allCalls w → gathered (B.entryDepartures w x (stops# w) y n k t u) (passing (atStop w b) m) ≡ gathered given (listedTo w b m)
     unfolding passing listedTo gathered
     listed-given b zero l = refl
     listed-given b (suc m) l = go (atStop w b (suc m)) (listed-given b m (omega arith))
       where
-        go : (s : Bool) → gathered (B.entryDepartures (viewOf (tableOf w)) (stops# w) y n k t u) (passing (atStop w b) m) ≡ gathered given (listedTo w b m)
-            → gathered (B.entryDepartures (viewOf (tableOf w)) (stops# w) y n k t u) (cond s (suc m ∷ passing (atStop w b) m) (passing (atStop w b) m)) ≡ gathered given (cond s (callOf w (suc m) ∷ listedTo w b m) (listedTo w b m))
+        go : (s : Bool) → gathered (B.entryDepartures w x (stops# w) y n k t u) (passing (atStop w b) m) ≡ gathered given (listedTo w b m)
+            → gathered (B.entryDepartures w x (stops# w) y n k t u) (cond s (suc m ∷ passing (atStop w b) m) (passing (atStop w b) m)) ≡ gathered given (cond s (callOf w (suc m) ∷ listedTo w b m) (listedTo w b m))
         go true i = λ j. entry-given (suc m) (omega arith) l j ++ i j
         go false i = i
 
@@ -246,11 +270,10 @@ module _ (w x y : List ℕ) (h : JustTable w) (ex : x ≡ indexOf w) (ey : y ≡
     pub own-departures : List·Permᴰ (departuresBy w x y n k t u) (gathered (serviceDepartures (viewOf (tableOf w)) n k t u) (below (services# w)))
     unfolding departuresBy
     own-departures =
-        let a : gathered (B.entryDepartures (viewIn w x) (stops# w) y n k t u) (take (usedWords w) (callsBy w x y (sectionEnd (stopSection w)) (stops# w) (stopsFrom w) n))
+        let a : gathered (B.entryDepartures w x (stops# w) y n k t u) (take (usedWords w) (callsBy w x y (sectionEnd (stopSection w)) (stops# w) (stopsFrom w) n))
         ≡ gathered (λ (s : ℕ). gathered given (listedAt w (stops# w - s))) (passing (numbered n) (stops# w))
-        = ap (λ (z : View). gathered (B.entryDepartures z (stops# w) y n k t u) (take (usedWords w) (callsBy w x y (sectionEnd (stopSection w)) (stops# w) (stopsFrom w) n))) (view-agrees w x h ex)
-        ∙ ap (gathered (B.entryDepartures (viewOf (tableOf w)) (stops# w) y n k t u)) (take-all (usedWords w) (callsBy w x y (sectionEnd (stopSection w)) (stops# w) (stopsFrom w) n) (few n) ∙ calls-same n)
-        ∙ gathered-twice (B.entryDepartures (viewOf (tableOf w)) (stops# w) y n k t u) (λ (s : ℕ). passing (atStop w (stops# w - s)) (allCalls w)) (passing (numbered n) (stops# w))
+        = ap (gathered (B.entryDepartures w x (stops# w) y n k t u)) (take-all (usedWords w) (callsBy w x y (sectionEnd (stopSection w)) (stops# w) (stopsFrom w) n) (few n) ∙ calls-same n)
+        ∙ gathered-twice (B.entryDepartures w x (stops# w) y n k t u) (λ (s : ℕ). passing (atStop w (stops# w - s)) (allCalls w)) (passing (numbered n) (stops# w))
         ∙ ap (λ (f : ℕ → List Departure). gathered f (passing (numbered n) (stops# w))) (fun-ext (λ s. listed-given (stops# w - s) (allCalls w) (omega arith))) in
         rw (a, ← services-given) (all-calls n given (λ c p l e. off-given c p l e))
 

@@ -1,5 +1,5 @@
 -- The board that the contracts cite is a board by its definition: for the view of any words (`shown-board`) and of a table (`table-board`). And whatever the words of the
--- calls: what a quick board lists is a departure (`by-only`). Assumes nothing.
+-- calls, where their mark is true: what a quick board lists is a departure (`by-only`). Assumes nothing.
 use mathlib.Core.Path.{_≡_, refl, ap}
 use mathlib.Core.List.{List, [], _∷_}
 use mathlib.Core.Logic.{⊎-elim}
@@ -21,8 +21,10 @@ use Rattle.board.specs.Board.{Departure, Among, IsDeparture, IsBoard, boardOf}
 use Rattle.board.proofs.Among.{among-either}
 use Rattle.board.proofs.Ascending.{among-sorted}
 use Rattle.board.proofs.Meaning.{Served, place-among, offered-departure, board-is}
-use Rattle.board_runs.specs.Batch.{foundAt, departuresAt}
-use Rattle.boards.specs.ByWords.{departuresBy, boardBy}
+use Rattle.board_runs.specs.Batch.{foundAt, departuresAt, recordOf, departuresIn}
+use Rattle.board_runs.specs.Inner.Plain.{callsPlain}
+use Rattle.board_runs.proofs.Goes.{steady-same}
+use Rattle.boards.specs.ByWords.{steadyIn, departuresBy, boardBy}
 use Rattle.boards.specs.ByWords as B
 use Rattle.boards.proofs.Bounds.{opening-shown}
 
@@ -69,9 +71,12 @@ at-departure w x n k t u i p e h = go (viewIn w x .service i) refl h
         offered-departure (viewIn w x) n k t u i (services# w) e (served-shown w x)
         (record { service = s; found = q; place = p; placed = place-among (viewIn w x) n k t u i s p e m })
 
--- what a quick board lists is a departure of what words and look-ups show: the words of the calls can hide one, or list one twice, and can invent none
-pub by-only : (w x y : List ℕ) (n k t u : ℕ) (e : Departure) → Among e (boardBy w x y n k t u) → IsDeparture (viewIn w x) n k t u e
+-- what a quick board lists is a departure of what words and look-ups show, unless the words of the calls mark them as steady and they are not: those words can hide one, or list
+-- one twice, and can invent none
+pub by-only : (w x y : List ℕ) (n k t u : ℕ) (e : Departure) → (steadyIn (stops# w) y ≡ true → (i : ℕ) → i < services# w → callsPlain (stops# w) (recordOf w x i) ≡ true)
+    → Among e (boardBy w x y n k t u) → IsDeparture (viewIn w x) n k t u e
 unfolding boardBy departuresBy B.entryDepartures
-by-only w x y n k t u e h =
-    let g = gathered-from (λ (c : ℕ). departuresAt (viewIn w x) n k t u (entryWord (stops# w) y 1 c) (entryWord (stops# w) y 3 c)) (take (usedWords w) (callsBy w x y (sectionEnd (stopSection w)) (stops# w) (stopsFrom w) n)) e (among-sorted e (departuresBy w x y n k t u) h) in
-    at-departure w x n k t u (entryWord (stops# w) y 1 (g .which)) (entryWord (stops# w) y 3 (g .which)) e (g .one)
+by-only w x y n k t u e s h =
+    let g = gathered-from (λ (c : ℕ). departuresIn (steadyIn (stops# w) y) w x n k t u (entryWord (stops# w) y 1 c) (entryWord (stops# w) y 3 c)) (take (usedWords w) (callsBy w x y (sectionEnd (stopSection w)) (stops# w) (stopsFrom w) n)) e (among-sorted e (departuresBy w x y n k t u) h) in
+    let q = steady-same (steadyIn (stops# w) y) w x n k t u (entryWord (stops# w) y 1 (g .which)) (entryWord (stops# w) y 3 (g .which)) (λ z. s z (entryWord (stops# w) y 1 (g .which))) in
+    at-departure w x n k t u (entryWord (stops# w) y 1 (g .which)) (entryWord (stops# w) y 3 (g .which)) e (rw q at (g .one))
