@@ -40,18 +40,19 @@ use Rattle.sort.proofs.Meaning.{perm-sorted}
 use Rattle.sort.proofs.Order.{row-order}
 use Rattle.board.specs.Board.{Departure, callDepartures, leaves, serviceDepartures, boardOf}
 use Rattle.board_runs.specs.Batch.{foundAt, departuresAt, recordOf}
-use Rattle.board_runs.specs.Inner.Plain.{callsPlain}
+use Rattle.table.specs.Steady.{callsSteady}
 use Rattle.board_runs.proofs.Goes.{steady-same}
 use Rattle.board_runs.proofs.Needs.{call-there}
 use Rattle.stop_calls.specs.StopCalls.{chained, entries#, entryWord, callsOn, stopsBy, callsBy}
 use Rattle.boards.specs.ByWords.{steadyIn, departuresBy, boardBy}
 use Rattle.boards.specs.ByWords as B
 use Rattle.boards.proofs.Bounds.{gathered-few}
-use Rattle.board_agrees.proofs.Steady.{place-own}
+use Rattle.whole_index.specs.Whole.{steadyMark, markedCalls}
+use Rattle.board_agrees.proofs.Steady.{marked-steady, place-own}
 use Rattle.board_agrees.proofs.Gather.{passing, chained-right, passing-each, gathered-map, gathered-twice, gathered-same, all-upto, all-at, gathered-perm, gathered-swap, perm-length, none-of, pick}
 
 module _ (w x y : List ℕ) (m : ℕ) (h : JustTable w) (ex : x ≡ indexOf w) (ey : y ≡ callIndexOf w ++ (m ∷ []))
-    (st : m ≡ 1 → (i : ℕ) → i < services# w → callsPlain (stops# w) (drop (servicePlace w i) w) ≡ true) where
+    (st : m ≡ 1 → (i : ℕ) → i < services# w → callsSteady (stops# w) (drop (servicePlace w i) w) ≡ true) where
   abbrev end : ℕ
   end = sectionEnd (stopSection w)
 
@@ -85,11 +86,11 @@ module _ (w x y : List ℕ) (m : ℕ) (h : JustTable w) (ex : x ≡ indexOf w) (
   mark-own = ap (λ (z : List ℕ). getD z (length y - 1) 0) ey ∙ getD-at (callIndexOf w) m [] 0 (length y - 1) (omega (arith, length-marked, index-long w))
 
   -- where the mark is read as steady, every record is
-  steady-own : steadyIn (stops# w) y ≡ true → (i : ℕ) → i < services# w → callsPlain (stops# w) (recordOf w x i) ≡ true
+  steady-own : steadyIn (stops# w) y ≡ true → (i : ℕ) → i < services# w → callsSteady (stops# w) (recordOf w x i) ≡ true
   unfolding steadyIn
   steady-own e i l =
       let q : m ≡ 1 = sym mark-own ∙ eqb-true (getD y (length y - 1) 0) 1 (and-true (ltb (stops# w) (length y)) _ e .1) in
-      ap (λ (p : ℕ). callsPlain (stops# w) (drop p w)) (place-own w x ex i l) ∙ st q i l
+      ap (λ (p : ℕ). callsSteady (stops# w) (drop p w)) (place-own w x ex i l) ∙ st q i l
 
   -- ---- the calls at a stop
 
@@ -280,3 +281,8 @@ module _ (w x y : List ℕ) (m : ℕ) (h : JustTable w) (ex : x ≡ indexOf w) (
     pub own-board : boardBy w x y n k t u ≡ boardOf (viewOf (tableOf w)) (services# w) n k t u
     unfolding boardBy boardOf
     own-board = perm-sorted notAfter row-order own-departures
+
+-- the same by the calls and the mark of its own index
+pub own-marked : (w x y : List ℕ) → JustTable w → x ≡ indexOf w → y ≡ markedCalls w → (n k t u : ℕ) → boardBy w x y n k t u ≡ boardOf (viewOf (tableOf w)) (services# w) n k t u
+unfolding markedCalls
+own-marked w x y h ex ey n k t u = own-board w x y (steadyMark w) h ex ey (λ e. marked-steady w h e) n k t u

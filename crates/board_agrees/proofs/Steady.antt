@@ -1,4 +1,4 @@
--- What the mark of a steady table says of its records, one by one, as its index has their places (`all-steady`, `place-own`). Assumes nothing.
+-- What the mark of a steady table says of its records, one by one, as its index has their places (`marked-steady`, `place-own`). Assumes nothing.
 use mathlib.Core.Path.{_≡_, refl, ap, _∙_, sym}
 use mathlib.Core.List.{List, [], _∷_, _++_}
 use mathlib.Core.Bool.{Bool, true, false, cond, _&&_}
@@ -13,22 +13,28 @@ use Rattle.table.proofs.Records.{first-word}
 use Rattle.lookups.specs.Lookups.{recordPlace, servicePlace}
 use Rattle.index.specs.Index.{stopsFrom, interchangesFrom, classesFrom, servicesFrom, fieldSection, stopSection, interchangeSection, classSection, chainsOf, placesFrom, placesOf, indexOf, recordPlaceIn}
 use Rattle.index.proofs.Agrees.{length-of}
-use Rattle.board_runs.specs.Inner.Plain.{callsPlain}
+use Rattle.table.specs.JustTable.{JustTable}
+use Rattle.table.specs.Steady.{callsSteady, recordsSteady, steady}
+use Rattle.table.proofs.JustTable.{just-used}
+use Rattle.whole_index.specs.Whole.{steadyMark}
 
--- ---- `all` says of v records, one after the other, that the calls of each pass
+-- ---- v records, one after the other, of which the calls are steady
 
-module _ (stops : ℕ) (all : ℕ → List ℕ → Bool) (step : (v : ℕ) (u : List ℕ) → all (suc v) u ≡ (callsPlain stops u && all v (drop (wordCountIn u) u))) where
-  pub each-steady : (w : List ℕ) (v p i : ℕ) → i < v → all v (drop p w) ≡ true → callsPlain stops (drop (recordPlace w p i) w) ≡ true
-  unfolding recordPlace
-  each-steady w zero p i h e = absurd (omega arith)
-  each-steady w (suc v) p zero h e = and-true (callsPlain stops (drop p w)) _ (sym (step v (drop p w)) ∙ e) .0
-  each-steady w (suc v) p (suc i) h e =
-      let r : all v (drop (wordCountIn (drop p w)) (drop p w)) ≡ true = and-true (callsPlain stops (drop p w)) _ (sym (step v (drop p w)) ∙ e) .1 in
-      let q : drop (wordCountIn (drop p w)) (drop p w) ≡ drop (p + getD w p 0) w = ap (λ (k : ℕ). drop k (drop p w)) (first-word w p) ∙ drop-drop (getD w p 0) p w in
-      each-steady w v (p + getD w p 0) i (omega arith) (rw q at r)
+each-steady : (stops : ℕ) (w : List ℕ) (v p i : ℕ) → i < v → recordsSteady stops v (drop p w) ≡ true → callsSteady stops (drop (recordPlace w p i) w) ≡ true
+unfolding recordPlace recordsSteady
+each-steady stops w zero p i h e = absurd (omega arith)
+each-steady stops w (suc v) p zero h e = and-true (callsSteady stops (drop p w)) _ e .0
+each-steady stops w (suc v) p (suc i) h e =
+    let r : recordsSteady stops v (drop (wordCountIn (drop p w)) (drop p w)) ≡ true = and-true (callsSteady stops (drop p w)) _ e .1 in
+    let q : drop (wordCountIn (drop p w)) (drop p w) ≡ drop (p + getD w p 0) w = ap (λ (k : ℕ). drop k (drop p w)) (first-word w p) ∙ drop-drop (getD w p 0) p w in
+    each-steady stops w v (p + getD w p 0) i (omega arith) (rw q at r)
 
-  pub all-steady : (w : List ℕ) → all (services# w) (drop (servicesPlace w) w) ≡ true → (i : ℕ) → i < services# w → callsPlain stops (drop (servicePlace w i) w) ≡ true
-  all-steady w e i h = each-steady w (services# w) (servicesPlace w) i h e
+pub marked-steady : (w : List ℕ) → JustTable w → steadyMark w ≡ 1 → (i : ℕ) → i < services# w → callsSteady (stops# w) (drop (servicePlace w i) w) ≡ true
+marked-steady w j e i h = each-steady (stops# w) w (services# w) (servicesPlace w) i h (rw (just-used w j) at (yes (steady w) e))
+  where
+    yes : (b : Bool) → cond b 1 0 ≡ 1 → b ≡ true
+    yes true q = refl
+    yes false q = absurd (omega (arith, q))
 
 -- ---- a table's own index has the place of each record
 

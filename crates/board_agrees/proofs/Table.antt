@@ -22,7 +22,7 @@ use Rattle.board.proofs.Among.{among-either}
 use Rattle.board.proofs.Ascending.{among-sorted}
 use Rattle.board.proofs.Meaning.{Served, place-among, offered-departure, board-is}
 use Rattle.board_runs.specs.Batch.{foundAt, departuresAt, recordOf, departuresIn}
-use Rattle.board_runs.specs.Inner.Plain.{callsPlain}
+use Rattle.table.specs.Steady.{callsSteady}
 use Rattle.board_runs.proofs.Goes.{steady-same}
 use Rattle.boards.specs.ByWords.{steadyIn, departuresBy, boardBy}
 use Rattle.boards.specs.ByWords as B
@@ -73,7 +73,7 @@ at-departure w x n k t u i p e h = go (viewIn w x .service i) refl h
 
 -- what a quick board lists is a departure of what words and look-ups show, unless the words of the calls mark them as steady and they are not: those words can hide one, or list
 -- one twice, and can invent none
-pub by-only : (w x y : List ℕ) (n k t u : ℕ) (e : Departure) → (steadyIn (stops# w) y ≡ true → (i : ℕ) → i < services# w → callsPlain (stops# w) (recordOf w x i) ≡ true)
+pub by-only : (w x y : List ℕ) (n k t u : ℕ) (e : Departure) → (steadyIn (stops# w) y ≡ true → (i : ℕ) → i < services# w → callsSteady (stops# w) (recordOf w x i) ≡ true)
     → Among e (boardBy w x y n k t u) → IsDeparture (viewIn w x) n k t u e
 unfolding boardBy departuresBy B.entryDepartures
 by-only w x y n k t u e s h =

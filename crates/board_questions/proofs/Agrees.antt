@@ -20,13 +20,13 @@ use Rattle.index.specs.Index.{indexSize, indexOf, headed, viewIn}
 use Rattle.index.specs.Quick.{indexLong, lookupsOf}
 use Rattle.index.proofs.Agrees.{view-agrees}
 use Rattle.index.proofs.Quick.{length-index}
-use Rattle.calls.specs.Calls.{allCalls, callIndexOf}
-use Rattle.calls.proofs.Words.{index-long}
-use Rattle.whole_index.specs.Whole.{wholeIndexOf}
+use Rattle.calls.specs.Calls.{allCalls}
+use Rattle.whole_index.specs.Whole.{markedCalls, wholeIndexOf}
+use Rattle.whole_index.proofs.Whole.{marked-long}
 use Rattle.board.specs.Board.{boardOf}
 use Rattle.board.specs.Question.{refused, board, boardOn, boardIn, boardAsked}
 use Rattle.boards.specs.ByWords.{boardBy}
-use Rattle.board_agrees.proofs.Own.{own-board}
+use Rattle.board_agrees.proofs.Own.{own-marked}
 use Rattle.board_questions.specs.Quick.{boardByDay, boardByWords, callsPart, boardQuick}
 
 pub own-index : (w x : List ℕ) → x ≡ wholeIndexOf w → same x (wholeIndexOf w) ≡ true
@@ -42,22 +42,22 @@ module _ (w x : List ℕ) (t : isTable w ≡ true) (e : x ≡ wholeIndexOf (used
   table-headed : headed w ≡ true
   table-headed = rw (le-leb headerSize (length w) (omega (arith, table-says w t .used-low, table-says w t .used-high)), table-parts w t .header)
 
-  whole-length : length x ≡ indexSize (used w) + stops# (used w) + 4 * allCalls (used w)
+  whole-length : length x ≡ indexSize (used w) + stops# (used w) + 4 * allCalls (used w) + 1
   unfolding wholeIndexOf
-  whole-length = ap length e ∙ length-append (indexOf (used w)) (callIndexOf (used w)) ∙ omega (arith, length-index (used w), index-long (used w))
+  whole-length = ap length e ∙ length-append (indexOf (used w)) (markedCalls (used w)) ∙ omega (arith, length-index (used w), marked-long (used w))
 
   whole-long : indexLong (used w) (length x) ≡ true
   whole-long =
-      let r : (length x - (indexSize (used w) + stops# (used w))) % 4 ≡ 0 = omega (arith, whole-length) in
+      let r : (length x - (indexSize (used w) + stops# (used w))) % 4 ≡ 1 = omega (arith, whole-length) in
       rw (le-leb (indexSize (used w) + stops# (used w)) (length x) (omega (arith, whole-length)), r)
 
   front : lookupsOf (used w) x ≡ indexOf (used w)
   unfolding wholeIndexOf
-  front = ap (take (indexSize (used w))) e ∙ take-at (indexOf (used w)) (callIndexOf (used w)) (indexSize (used w)) (length-index (used w))
+  front = ap (take (indexSize (used w))) e ∙ take-at (indexOf (used w)) (markedCalls (used w)) (indexSize (used w)) (length-index (used w))
 
-  back : callsPart (used w) x ≡ callIndexOf (used w)
+  back : callsPart (used w) x ≡ markedCalls (used w)
   unfolding wholeIndexOf
-  back = ap (drop (indexSize (used w))) e ∙ drop-at (indexOf (used w)) (callIndexOf (used w)) (indexSize (used w)) (length-index (used w))
+  back = ap (drop (indexSize (used w))) e ∙ drop-at (indexOf (used w)) (markedCalls (used w)) (indexSize (used w)) (length-index (used w))
 
   views : viewIn (used w) (lookupsOf (used w) x) ≡ viewOf (tableOf w)
   views = view-agrees (used w) (lookupsOf (used w) x) just front ∙ ap viewOf (used-same w t)
@@ -70,7 +70,7 @@ module _ (w x : List ℕ) (t : isTable w ≡ true) (e : x ≡ wholeIndexOf (used
     on-day (undated number) = refl
     on-day (dated k) =
         let b : boardBy (used w) (lookupsOf (used w) x) (callsPart (used w) x) n k t₁ u₁ ≡ boardOf (viewOf (tableOf w)) (services# w) n k t₁ u₁
-        = own-board (used w) (lookupsOf (used w) x) (callsPart (used w) x) just front back n k t₁ u₁ ∙ ap (λ (v : View). boardOf v (services# (used w)) n k t₁ u₁) (ap viewOf (used-same w t)) ∙ ap (λ (s : ℕ). boardOf (viewOf (tableOf w)) s n k t₁ u₁) services in
+        = own-marked (used w) (lookupsOf (used w) x) (callsPart (used w) x) just front back n k t₁ u₁ ∙ ap (λ (v : View). boardOf v (services# (used w)) n k t₁ u₁) (ap viewOf (used-same w t)) ∙ ap (λ (s : ℕ). boardOf (viewOf (tableOf w)) s n k t₁ u₁) services in
         ap (λ (v : View). cond (v .stop n) (board (boardBy (used w) (lookupsOf (used w) x) (callsPart (used w) x) n k t₁ u₁)) (refused 27)) views
         ∙ ap (λ es. cond (viewOf (tableOf w) .stop n) (board es) (refused 27)) b
 

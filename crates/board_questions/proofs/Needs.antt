@@ -16,7 +16,7 @@ use Rattle.timetable.specs.Table.{usedWords, stops#, services#, used, tableOf, 
 use Rattle.timetable.specs.View.{View, viewOf}
 use Rattle.table.specs.JustTable.{JustTable, headerSound}
 use Rattle.table.proofs.Says.{table-says}
-use Rattle.table.proofs.Records.{rest-from}
+use Rattle.table.proofs.Records.{rest-from, table-told}
 use Rattle.table.proofs.JustTable.{just-header, used-just}
 use Rattle.chain_check.specs.Tally.{same}
 use Rattle.chain_check.proofs.Needs.{same-is}
@@ -30,15 +30,15 @@ use Rattle.index.specs.Quick.{indexLong, lookupsOf, quickRefusal}
 use Rattle.index.proofs.Agrees.{view-plain}
 use Rattle.index.proofs.Shows.{day-low}
 use Rattle.index.proofs.Quick.{asked-refused, asked-on, plain-table, quick-headed, quick-head, quick-long, quick-ready, length-index}
-use Rattle.calls.specs.Calls.{callIndexOf, callIndexSize}
-use Rattle.calls.proofs.Words.{index-long}
-use Rattle.whole_index.specs.Whole.{wholeIndexOf}
+use Rattle.whole_index.specs.Whole.{markedCalls, markedSize, wholeIndexOf}
+use Rattle.whole_index.proofs.Whole.{marked-long}
+use Rattle.whole_index.proofs.Answers.{is-steady}
 use Rattle.board.specs.Board.{boardOf}
 use Rattle.board.specs.Question.{BoardFound, refused, board, boardOn, boardIn, boardAsked, boardedBy, boardInto}
 use Rattle.board.specs.declared.BoardAnswer.{BoardAnswer}
 use Rattle.board.specs.declared.BoardAnswer.the-variants.{Refused}
 use Rattle.boards.specs.ByWords.{boardBy, Lends}
-use Rattle.board_agrees.proofs.Own.{own-board}
+use Rattle.board_agrees.proofs.Own.{own-marked}
 use Rattle.board_questions.specs.Quick.{boardByDay, boardByWords, callsPart, boardQuick}
 
 -- ---- any words
@@ -81,7 +81,7 @@ module _ (w x : List ℕ) (n day month year t u : ℕ) where
       pub plain-rows : (l l′ : List ℕ) → l′ ≡ boardInto (boardIn (viewIn v z) (services# v) (same x (wholeIndexOf v)) n day month year t u) l → l′ ≡ boardInto (boardAsked w (same x (wholeIndexOf (used w))) n day month year t u) l
       plain-rows l l′ g = g ∙ ap (λ (f : BoardFound). boardInto f l) plain-is
 
-pub ruleset plains = (tests, plain-table, plain-refused, plain-stays, plain-just, plain-answer, plain-rows)
+pub ruleset plains = (tests, table-told, is-steady, plain-table, plain-refused, plain-stays, plain-just, plain-answer, plain-rows)
 
 -- ---- the date
 
@@ -153,15 +153,15 @@ pub ruleset stops = (tests, just-ready, stop-refused, stop-stays, index-refused,
 module _ (w x : List ℕ) (h : JustTable w) (e : x ≡ wholeIndexOf w) where
   first-part : take (indexSize w) x ≡ indexOf w
   unfolding wholeIndexOf
-  first-part = ap (take (indexSize w)) e ∙ take-at (indexOf w) (callIndexOf w) (indexSize w) (length-index w)
+  first-part = ap (take (indexSize w)) e ∙ take-at (indexOf w) (markedCalls w) (indexSize w) (length-index w)
 
-  last-part : drop (indexSize w) x ≡ callIndexOf w
+  last-part : drop (indexSize w) x ≡ markedCalls w
   unfolding wholeIndexOf
-  last-part = ap (drop (indexSize w)) e ∙ drop-at (indexOf w) (callIndexOf w) (indexSize w) (length-index w)
+  last-part = ap (drop (indexSize w)) e ∙ drop-at (indexOf w) (markedCalls w) (indexSize w) (length-index w)
 
-  whole-long : length x ≡ indexSize w + callIndexSize w
+  whole-long : length x ≡ indexSize w + markedSize w
   unfolding wholeIndexOf
-  whole-long = ap length e ∙ length-append (indexOf w) (callIndexOf w) ∙ omega (arith, length-index w, index-long w)
+  whole-long = ap length e ∙ length-append (indexOf w) (markedCalls w) ∙ omega (arith, length-index w, marked-long w)
 
   pub just-head : headerSound w ≡ true
   just-head = just-header w h
@@ -177,22 +177,22 @@ module _ (w x : List ℕ) (h : JustTable w) (e : x ≡ wholeIndexOf w) where
       is-first : p ≡ indexOf w
       is-first = f ∙ rw (sub-zero a, q) first-part
 
-      is-last : y ≡ callIndexOf w
+      is-last : y ≡ markedCalls w
       is-last = g ∙ rest-from x a a refl ∙ rw q last-part
 
       pub own-lends : Lends w p y
       own-lends = record {
         ready = record { head = just-header w h; ends = h .ends; sized = λ o. ap length is-first ∙ length-index w };
         long = ap length is-first ∙ length-index w;
-        heads = omega (arith, ap length is-last, index-long w);
+        heads = omega (arith, ap length is-last, marked-long w);
       }
 
       module _ (n k t u : ℕ) where
         pub own-answer : (r : BoardAnswer) (m : ℕ) → r ≡ boardedBy (board (boardBy w p y n k t u)) m → r ≡ boardedBy (board (boardOf (viewOf (tableOf w)) (services# w) n k t u)) m
-        own-answer r m s = s ∙ ap (λ (es : List _). boardedBy (board es) m) (own-board w p y h is-first is-last n k t u)
+        own-answer r m s = s ∙ ap (λ (es : List _). boardedBy (board es) m) (own-marked w p y h is-first is-last n k t u)
 
         pub own-rows : (l l′ : List ℕ) → l′ ≡ boardInto (board (boardBy w p y n k t u)) l → l′ ≡ boardInto (board (boardOf (viewOf (tableOf w)) (services# w) n k t u)) l
-        own-rows l l′ s = s ∙ ap (λ (es : List _). boardInto (board es) l) (own-board w p y h is-first is-last n k t u)
+        own-rows l l′ s = s ∙ ap (λ (es : List _). boardInto (board es) l) (own-marked w p y h is-first is-last n k t u)
 
 pub ruleset owns = (tests, just-head, part-within, part-scaled, own-lends, own-answer, own-rows)
 

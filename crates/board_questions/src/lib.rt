@@ -9,6 +9,7 @@ ghost use lib.ListN.{length};
 ghost use Rattle.timetable.specs.Layout.{mostPeriodDays};
 ghost use Rattle.timetable.specs.Questions.{dated};
 ghost use Rattle.table.specs.JustTable.{JustTable, headerSound};
+ghost use Rattle.table.specs.Steady.{steady};
 ghost use Rattle.index.specs.Quick.{indexLong};
 ghost use Rattle.whole_index.specs.Whole.{wholeIndexOf};
 ghost use Rattle.board.specs.Question.{boardedBy, boardInto};
@@ -35,7 +36,8 @@ pub fn ask_board(
     ensures rows { λ _. ⌜ now (list .exit) ≡ boardInto
         (boardChecked (now (w .entry)) (now (x .entry)) stop day month year first last) (now (list .entry)) ⌝ }
 {
-    if !table::is_table(w) {
+    let seen = table::look_at(w);
+    if !seen.table {
         return BoardAnswer::Refused {
             number: 21,
             needed: 0,
@@ -43,6 +45,7 @@ pub fn ask_board(
     }
     board_of(
         table::used_words(w),
+        seen.steady,
         &w[0..0],
         x,
         stop,
@@ -55,9 +58,10 @@ pub fn ask_board(
     )
 }
 
-// Of just a table, its date and stop looked up without an index (`z` is empty).
+// Of just a table, where it is known whether its calls are steady, its date and stop looked up without an index (`z` is empty).
 fn board_of(
     w: &[u32],
+    is_steady: bool,
     z: &[u32],
     x: &[u32],
     stop: u32,
@@ -69,6 +73,7 @@ fn board_of(
     list: &mut [u32],
 ) -> BoardAnswer
     requires { ⌜ JustTable (now w) × (length (now z) ≡ 0) ⌝ }
+    requires { ⌜ «is_steady» ≡ steady (now w) ⌝ }
     ensures answer { λ r. ⌜ r ≡ boardedBy
         (boardDated (now (w .entry)) (now (z .entry)) (now (x .entry)) stop day month year first last)
         (length (now (list .entry))) ⌝ }
@@ -79,13 +84,14 @@ fn board_of(
     let on = index::dated(w, z, day, month, year);
     match on {
         PeriodDay::Refused(number) => BoardAnswer::Refused { number, needed: 0 },
-        PeriodDay::On(k) => board_on(w, z, x, stop, k, first, last, list),
+        PeriodDay::On(k) => board_on(w, is_steady, z, x, stop, k, first, last, list),
     }
 }
 
 // On day k of the period.
 fn board_on(
     w: &[u32],
+    is_steady: bool,
     z: &[u32],
     x: &[u32],
     stop: u32,
@@ -95,6 +101,7 @@ fn board_on(
     list: &mut [u32],
 ) -> BoardAnswer
     requires { ⌜ JustTable (now w) × (length (now z) ≡ 0) ⌝ }
+    requires { ⌜ «is_steady» ≡ steady (now w) ⌝ }
     requires { ⌜ k < mostPeriodDays ⌝ }
     ensures answer { λ r. ⌜ r ≡ boardedBy
         (boardOnDay (now (w .entry)) (now (z .entry)) (now (x .entry)) stop first last (dated k))
@@ -109,7 +116,7 @@ fn board_on(
             needed: 0,
         };
     }
-    if !index_check::is_index(w, x) {
+    if !index_check::is_index(w, is_steady, x) {
         return BoardAnswer::Refused {
             number: 43,
             needed: 0,

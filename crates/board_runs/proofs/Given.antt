@@ -23,7 +23,7 @@ use Rattle.course.specs.Inner.Rows.{shownBy}
 use Rattle.course.proofs.Laws.{on-shown}
 use Rattle.board.specs.Board.{Departure, leaves, placeDepartures}
 use Rattle.board_runs.specs.Batch.{foundAt, departuresAt, daysFollow, rangesFollow, followed, callStands, saysLeft, trusted, callGives, recordOf, departuresIn}
-use Rattle.board_runs.specs.Inner.Plain.{goesFrom, goesIn, recordGives, Opened, DaysInTurn, CallReady}
+use Rattle.board_runs.specs.Inner.Goes.{goesFrom, goesIn, recordGives, Opened, DaysInTurn, CallReady}
 
 and-none : (b : Bool) → (b && false) ≡ false
 and-none true = refl

@@ -19,6 +19,7 @@ use Rattle.timetable.specs.Run.{callsRefusal, courseBy, stretchCourse, courseOn
 use Rattle.timetable.specs.declared.Opening.{Opening}
 use Rattle.timetable.specs.declared.Course.{Course}
 use Rattle.timetable.specs.declared.Course.the-variants.{Along, NotRunning, Refused}
+use Rattle.table.specs.Steady.{callsSteady}
 use Rattle.table.proofs.Says.{sizes-say, head-word, header-word, record-sized, call-sound}
 use Rattle.cover.specs.Inner.Cover.{legsIn, inTurn}
 use Rattle.index.specs.Index.{viewIn}
@@ -34,7 +35,7 @@ use Rattle.course.proofs.Turn.{turn-31, turn-order, turn-within, turn-day}
 use Rattle.board.specs.Board.{leaves}
 use Rattle.board_runs.specs.Batch.{daysFollow, followed, leftOn, callStands, saysLeft, trusted, callGives, departuresAt, recordOf, departuresIn, Batched, Shelved}
 use Rattle.board_runs.specs.declared.Batch.{Batch}
-use Rattle.board_runs.specs.Inner.Plain.{goesFrom, goesAlong, goesIn, alongIn, recordGives, isNone, unrefused, callsPlain, Opened, DaysInTurn, CallReady}
+use Rattle.board_runs.specs.Inner.Goes.{goesFrom, goesAlong, goesIn, alongIn, recordGives, isNone, unrefused, Opened, DaysInTurn, CallReady}
 use Rattle.board_runs.proofs.Given.{followed-days, goes-ready, goes-none, call-room, unmarked, none-past, given-by}
 use Rattle.board_runs.proofs.Plain.{plain-record, plain-fine}
 use Rattle.board_runs.proofs.Hidden.{past-none, shelf-fits, shelf-some, shelf-place}
@@ -114,7 +115,7 @@ module _ (stops : ℕ) (s : List ℕ) (a b c p : ℕ) where
         one = rw (begins, le-ltb c (calls# s - 1) l) (along-leaves s a (b - a) p (omega arith) h (omega arith))
 
         -- by what calls that pass say
-        plainly : followed s ≡ true → callsPlain stops s ≡ true → goesAlong stops s a b c p ≡ true
+        plainly : followed s ≡ true → callsSteady stops s ≡ true → goesAlong stops s a b c p ≡ true
         plainly y z = rw (plain-record stops s y z, one, plain-fine stops s y z a (b - a) (omega arith) (omega arith))
 
         -- y says whether the ranges follow
@@ -127,7 +128,7 @@ module _ (stops : ℕ) (s : List ℕ) (a b c p : ℕ) where
           pub along-steady : not y ≡ false → m ≡ true → (r : Bool) → r ≡ callStands stops s p → r ≡ alongIn m stops s a b c p
           along-steady n d r e = e ∙ sym (rw (d, sym f ∙ not-false y n, le-leb a p h, lt-ltb p b g, le-leb (calls# s - 1) c l) refl)
 
-          pub along-plain : not y ≡ false → m ≡ false → (r : Bool) → r ≡ callsPlain stops s → r ≡ true → true ≡ alongIn m stops s a b c p
+          pub along-plain : not y ≡ false → m ≡ false → (r : Bool) → r ≡ callsSteady stops s → r ≡ true → true ≡ alongIn m stops s a b c p
           along-plain n d r e v = sym (rw d (plainly (sym f ∙ not-false y n) (sym e ∙ v)))
 
         pub along-by : (m : Bool) → m ≡ false → (r : Bool) → r ≡ (recordSound stops s && unrefused s a (b - a)) → r ≡ alongIn m stops s a b c p
@@ -280,7 +281,7 @@ pub ruleset services = (tests, shelf-fits, service-past, service-out, service-in
 
 -- ---- where the calls of a record pass, the mark changes nothing
 
-module _ (stops : ℕ) (s : List ℕ) (y : followed s ≡ true) (z : callsPlain stops s ≡ true) where
+module _ (stops : ℕ) (s : List ℕ) (y : followed s ≡ true) (z : callsSteady stops s ≡ true) where
   steady-along : (a b c p : ℕ) → a ≤ b → b ≤ calls# s - 1 → (leftOn (calls# s - 1) a b c p && callStands stops s p) ≡ goesAlong stops s a b c p
   steady-along a b c p o i =
       by-leb (λ (t : Bool). ((t && (ltb p b && leb (calls# s - 1) c)) && callStands stops s p) ≡ goesAlong stops s a b c p) a p
@@ -318,7 +319,7 @@ module _ (stops : ℕ) (s : List ℕ) (y : followed s ≡ true) (z : callsPlain 
             sym (rw y at t) ∙ goes-31 v stops s u k p true day opened refl turns refl refl false n
 
 -- of words and an index whose records pass where they are marked so
-pub steady-same : (m : Bool) (w x : List ℕ) (n k t u i p : ℕ) → (m ≡ true → i < services# w → callsPlain (stops# w) (recordOf w x i) ≡ true) → departuresIn m w x n k t u i p ≡ departuresAt (viewIn w x) n k t u i p
+pub steady-same : (m : Bool) (w x : List ℕ) (n k t u i p : ℕ) → (m ≡ true → i < services# w → callsSteady (stops# w) (recordOf w x i) ≡ true) → departuresIn m w x n k t u i p ≡ departuresAt (viewIn w x) n k t u i p
 steady-same m w x n k t u i p f =
     by-ltb (λ (b : Bool). departuresIn m w x n k t u i p ≡ departuresIn false w x n k t u i p) i (services# w)
     (λ l. given-by w x n k t u i p l m ∙ ap (λ (b : Bool). cond b (callGives (viewIn w x) n t u i (recordOf w x i) p) []) (go l (m && followed (recordOf w x i)) refl) ∙ sym (given-by w x n k t u i p l false))

@@ -23,7 +23,7 @@ use Rattle.spans.proofs.Meaning.{once-before, once-end}
 use Rattle.spans.proofs.Laws.{end-none}
 use Rattle.board.specs.Board.{Departure, boardable, departureOf, runsFrom, callDepartures}
 use Rattle.board_runs.specs.Batch.{callGives, departuresIn, Shelved, outside, Quiet, AtMost, MostFrom}
-use Rattle.board_runs.specs.Inner.Plain.{goesIn, Opened}
+use Rattle.board_runs.specs.Inner.Goes.{goesIn, Opened}
 use Rattle.board_runs.proofs.Interval.{runs-in-a-row}
 use Rattle.board_runs.proofs.Given.{goes-ready, call-room, none-past, given-by}
 use Rattle.board_runs.proofs.Needs.{call-there, call-none}

@@ -32,7 +32,7 @@ use Rattle.spans.proofs.Meaning.{has-below, end-runs}
 use Rattle.board.specs.Board.{Departure, boardable, departureOf, runsFrom, callDepartures, leaves}
 use Rattle.board_runs.specs.Batch.{batchRows, Batched, callGives}
 use Rattle.board_runs.specs.declared.Batch.{Batch}
-use Rattle.board_runs.specs.Inner.Plain.{CallReady}
+use Rattle.board_runs.specs.Inner.Goes.{CallReady}
 use Rattle.board_runs.proofs.Interval.{runs-in-a-row}
 use Rattle.board_runs.proofs.Given.{call-room}
 

@@ -3,7 +3,6 @@
 use course::legs;
 use course::rows;
 use sort::ROW_WORDS;
-use timetable::ALL_FLAGS;
 use timetable::CALL_WORDS;
 use timetable::CALLS_AT;
 use timetable::CATEGORIES_AT;
@@ -12,7 +11,6 @@ use timetable::Call;
 use timetable::Course;
 use timetable::DAYS_AT;
 use timetable::DAYS_WORDS;
-use timetable::LATEST_TIME;
 use timetable::Opening;
 use timetable::REPEATS_AT;
 use timetable::SERVICE_WORDS;
@@ -26,7 +24,7 @@ ghost use lib.Dec.{eqb, leb, ltb};
 ghost use Rattle.base.specs.Lists.{gathered, upto};
 ghost use Rattle.timetable.specs.Layout.{mostPeriodDays, serviceHead, callSize, latestTime};
 ghost use Rattle.timetable.specs.Runs.{openingSound};
-ghost use Rattle.timetable.specs.Table.{stops#, calls#, callAt, openingAt, callSound, sizesSound};
+ghost use Rattle.timetable.specs.Table.{stops#, calls#, callAt, openingAt, sizesSound};
 ghost use Rattle.timetable.specs.Table.{recordSound};
 ghost use Rattle.words.specs.Words.{write};
 ghost use Rattle.index.specs.Index.{viewIn};
@@ -36,9 +34,8 @@ ghost use Rattle.spans.specs.Spans.{runs#};
 ghost use Rattle.board.specs.Board.{boardable, departureOf, runsFrom, leaves};
 ghost use Rattle.board_runs.specs.Batch.{followed, callStands, callGives, departuresIn, batchRows, Batched, Shelved};
 ghost use Rattle.board_runs.specs.Batch.{outside, Quiet, AtMost, MostFrom};
-ghost use Rattle.board_runs.specs.Inner.Plain.{goesFrom, goesIn, alongIn, recordGives, unrefused, opensPlain};
-ghost use Rattle.board_runs.specs.Inner.Plain.{passesPlain, endsPlain, twoPlain, fourPlain, laterPlain};
-ghost use Rattle.board_runs.specs.Inner.Plain.{callsPlain, Opened, DaysInTurn, CallReady};
+ghost use Rattle.board_runs.specs.Inner.Goes.{goesFrom, goesIn, alongIn, recordGives, unrefused};
+ghost use Rattle.board_runs.specs.Inner.Goes.{Opened, DaysInTurn, CallReady};
 
 // Departures from one place of a service's route: of the runs from `low` on and below `high`, where run 0 leaves at `departure`.
 pub struct Batch {
@@ -261,9 +258,6 @@ fn goes_along(s: &[u32], stops: u32, steady: bool, start: u32, end: u32, again: 
     if steady {
         return call_stands(s, stops, p);
     }
-    if calls_plain(s, stops) {
-        return true;
-    }
     stands(s, stops, start, end - start)
 }
 
@@ -272,22 +266,7 @@ fn call_stands(s: &[u32], stops: u32, p: u32) -> bool
     requires { ⌜ serviceHead + callSize * p + callSize ≤ length (now s) ⌝ }
     ensures { λ r. ⌜ r ≡ callStands stops (now (s .entry)) p ⌝ }
 {
-    is_sound(call_of(s, p), stops)
-}
-
-fn is_sound(c: Call, stops: u32) -> bool
-    ensures { λ r. ⌜ r ≡ callSound stops c ⌝ }
-{
-    if stops <= c.stop {
-        return false;
-    }
-    if LATEST_TIME < c.arrival {
-        return false;
-    }
-    if LATEST_TIME < c.departure {
-        return false;
-    }
-    c.flags <= ALL_FLAGS
+    table::call_sound(call_of(s, p), stops)
 }
 
 // Whether the record is sound, and no call of a stretch is refused.
@@ -302,8 +281,7 @@ fn stands(s: &[u32], stops: u32, start: u32, legs: u32) -> bool
     rows::calls_refusal(s, start, legs) == 0
 }
 
-// ---- one look at a record as nearly all are: its ranges follow each other, both times of each call between the first and the last are stated, and no time falls. Then it is
-// sound, and no call of any stretch is refused.
+// ---- whether the ranges of a record follow each other, as nearly always they do
 
 // The ranges but the operating days, which do.
 fn ranges_follow(s: &[u32]) -> bool
@@ -315,141 +293,6 @@ fn ranges_follow(s: &[u32]) -> bool
         return false;
     }
     table::extras_sound(s)
-}
-
-// Of the calls: the first has a departure, and its arrival is not bound by the order.
-fn calls_plain(s: &[u32], stops: u32) -> bool
-    requires { ⌜ sizesSound (now s) ≡ true ⌝ }
-    ensures { λ r. ⌜ r ≡ callsPlain stops (now (s .entry)) ⌝ }
-{
-    let first = timetable::call_at(s, SERVICE_WORDS);
-    if !opens(first, stops) {
-        return false;
-    }
-    later_plain(s, stops, s[CALLS_AT] - 2, first.departure)
-}
-
-// Of the calls after the first, which leaves at `departure`: `left` calls between, and the last. Four calls a turn: most of a board's instructions go here.
-fn later_plain(s: &[u32], stops: u32, left: u32, departure: u32) -> bool
-    requires { ⌜ serviceHead + callSize * (left + 2) ≤ length (now s) ⌝ }
-    ensures { λ r. ⌜ r ≡ laterPlain stops left departure (drop (serviceHead + callSize) (now (s .entry))) ⌝ }
-{
-    let mut p = SERVICE_WORDS + CALL_WORDS;
-    let mut k = left;
-    let mut before = departure;
-    while 3 < k {
-        if !four_pass(s, p, stops, before) {
-            return false;
-        }
-        before = s[p + FOURTH_DEPARTURE];
-        p += 4 * CALL_WORDS;
-        k -= 4;
-    }
-    few_plain(s, p, stops, k, before)
-}
-
-// How far behind a call the departures of the second and the fourth from it on stand.
-const SECOND_DEPARTURE: usize = CALL_WORDS + 2;
-
-const FOURTH_DEPARTURE: usize = 3 * CALL_WORDS + 2;
-
-// Of those from a place on.
-fn few_plain(s: &[u32], from: usize, stops: u32, left: u32, departure: u32) -> bool
-    requires { ⌜ from + callSize * (left + 1) ≤ length (now s) ⌝ }
-    ensures { λ r. ⌜ r ≡ laterPlain stops left departure (drop from (now (s .entry))) ⌝ }
-{
-    let mut p = from;
-    let mut k = left;
-    let mut before = departure;
-    while 0 < k {
-        let call = timetable::call_at(s, p);
-        if !passes(call, stops, before) {
-            return false;
-        }
-        before = call.departure;
-        p += CALL_WORDS;
-        k -= 1;
-    }
-    ends(timetable::call_at(s, p), stops, before)
-}
-
-// Four calls between.
-fn four_pass(s: &[u32], p: usize, stops: u32, before: u32) -> bool
-    requires { ⌜ p + 28 ≤ length (now s) ⌝ }
-    ensures { λ r. ⌜ r ≡ fourPlain stops before (drop p (now (s .entry))) ⌝ }
-{
-    if !two_pass(s, p, stops, before) {
-        return false;
-    }
-    two_pass(s, p + 2 * CALL_WORDS, stops, s[p + SECOND_DEPARTURE])
-}
-
-fn two_pass(s: &[u32], p: usize, stops: u32, before: u32) -> bool
-    requires { ⌜ p + 14 ≤ length (now s) ⌝ }
-    ensures { λ r. ⌜ r ≡ twoPlain stops before (drop p (now (s .entry))) ⌝ }
-{
-    let call = timetable::call_at(s, p);
-    if !passes(call, stops, before) {
-        return false;
-    }
-    passes(timetable::call_at(s, p + CALL_WORDS), stops, call.departure)
-}
-
-// The first call.
-fn opens(c: Call, stops: u32) -> bool
-    ensures { λ r. ⌜ r ≡ opensPlain stops c ⌝ }
-{
-    if stops <= c.stop {
-        return false;
-    }
-    if LATEST_TIME < c.arrival {
-        return false;
-    }
-    if ALL_FLAGS < c.flags {
-        return false;
-    }
-    c.flags / 2 % 2 == 1
-}
-
-// A call between: since times do not fall, only the last has to be compared with the latest.
-fn passes(c: Call, stops: u32, before: u32) -> bool
-    ensures { λ r. ⌜ r ≡ passesPlain stops before c ⌝ }
-{
-    if stops <= c.stop {
-        return false;
-    }
-    if c.arrival < before {
-        return false;
-    }
-    if c.departure < c.arrival {
-        return false;
-    }
-    if ALL_FLAGS < c.flags {
-        return false;
-    }
-    c.flags % 4 == 3
-}
-
-// The last call: its departure is not bound by the order.
-fn ends(c: Call, stops: u32, before: u32) -> bool
-    ensures { λ r. ⌜ r ≡ endsPlain stops before c ⌝ }
-{
-    if stops <= c.stop {
-        return false;
-    }
-    if c.arrival < before {
-        return false;
-    }
-    if LATEST_TIME < c.arrival {
-        return false;
-    }
-    if LATEST_TIME < c.departure {
-        return false;
-    }
-    if ALL_FLAGS < c.flags {
-        return false;
-    }
-    c.flags % 2 == 1
 }
 
 // Whether a course goes on from place p of the route.

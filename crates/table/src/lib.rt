@@ -449,7 +449,7 @@ fn calls_sound(w: &[u32], at: usize, n: u32, stops: u32) -> bool
 }
 
 // "21 additionally refuses a place not below S" (document 02, No. 10).
-fn call_sound(c: Call, stops: u32) -> bool
+pub fn call_sound(c: Call, stops: u32) -> bool
     ensures { λ r. ⌜ r ≡ callSound stops c ⌝ }
 {
     if stops <= c.stop {

@@ -2,8 +2,8 @@ use Rattle.board_questions.proofs.Needs.{plains}
 use Rattle.board_questions.proofs.ask_board.Statement.{statement}
 use Rattle.board_questions.proofs.ask_board.Tie as tie
 
-is-table-requires : tie.Need-is-table-requires
-is-table-requires c κs = search plains
+look-at-requires : tie.Need-look-at-requires
+look-at-requires c κs = search plains
 
 returns : tie.Need-returns
 returns c = search plains
@@ -33,7 +33,7 @@ pub ask-board-spec : {M : Type 1} → statement M
 ask-board-spec =
     tie.close
     (tie.spec
-    is-table-requires
+    look-at-requires
     returns
     used-words-requires
     sub-board-of

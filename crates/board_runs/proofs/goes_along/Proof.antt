@@ -35,20 +35,14 @@ call-stands-requires c κs = search along
 returns-5 : tie.Need-returns-5
 returns-5 c = search along
 
-calls-plain-requires : tie.Need-calls-plain-requires
-calls-plain-requires c κs = search along
-
-returns-6 : tie.Need-returns-6
-returns-6 c = search along
-
 sub-stands-2 : tie.Need-sub-stands-2
 sub-stands-2 c = search along
 
 stands-requires-2 : tie.Need-stands-requires-2
 stands-requires-2 c κs = search along
 
-returns-7 : tie.Need-returns-7
-returns-7 c = search along
+returns-6 : tie.Need-returns-6
+returns-6 c = search along
 
 pub goes-along-spec : {M : Type 1} → statement M
 goes-along-spec =
@@ -65,8 +59,6 @@ goes-along-spec =
     returns-4
     call-stands-requires
     returns-5
-    calls-plain-requires
-    returns-6
     sub-stands-2
     stands-requires-2
-    returns-7)
+    returns-6)

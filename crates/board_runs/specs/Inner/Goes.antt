@@ -1,19 +1,13 @@
--- A record as nearly all are, looked at once: its ranges follow each other, both times of each call between the first and the last are stated, and no time falls. Assumes
--- nothing.
-use Prim.Native.Nat.{ℕ, zero, suc, _+_, _-_, _/_, _%_, _<_}
+-- Whether the day's course of a service goes on from a place of its route, by its record alone. Assumes nothing.
+use Prim.Native.Nat.{ℕ, _+_, _-_, _<_}
 use mathlib.Core.Path.{_≡_}
 use mathlib.Core.List.{List, []}
 use mathlib.Core.Bool.{Bool, true, false, cond, _&&_}
 use mathlib.Core.Option.{Option, none, some}
-use lib.ListN.{drop}
-use lib.Dec.{eqb, ltb, leb}
-use Rattle.timetable.specs.Layout.{serviceHead, callSize, daySize, latestTime, allFlags}
 use Rattle.timetable.specs.Runs.{openingSound}
-use Rattle.timetable.specs.Table.{callAt, openingAt, calls#, days#, dayPlace, serviceAt, withStops, sizesSound, recordSound}
+use Rattle.timetable.specs.Table.{openingAt, calls#, serviceAt, sizesSound, recordSound}
 use Rattle.timetable.specs.View.{View}
 use Rattle.timetable.specs.Run.{callsRefusal, courseOn}
-use Rattle.timetable.specs.declared.Call.{Call}
-use Rattle.cover.specs.Inner.Cover.{legsIn, inTurn}
 use Rattle.course.specs.Inner.Rows.{callsFrom}
 use Rattle.course.specs.Inner.Course.{stretchesCourse}
 use Rattle.board.specs.Board.{Departure, leaves}
@@ -45,41 +39,6 @@ alongIn m stops s a b c p = cond (m && followed s) (leftOn (calls# s - 1) a b c 
 -- the departures from place p of the service whose record stands at the front of s, in a table with so many stops
 abbrev pub recordGives : Bool → View → ℕ → ℕ → ℕ → ℕ → ℕ → ℕ → List ℕ → ℕ → List Departure
 recordGives m v stops n k t u i s p = cond (goesIn m v stops s k p) (callGives v n t u i s p) []
-
--- ---- the calls
-
--- the first: its arrival is not bound by the order
-abbrev pub opensPlain : ℕ → Call → Bool
-opensPlain stops c = ltb (c .stop) stops && (leb (c .arrival) latestTime && (leb (c .flags) allFlags && eqb (c .flags / 2 % 2) 1))
-
--- one between, after a time
-abbrev pub passesPlain : ℕ → ℕ → Call → Bool
-passesPlain stops before c =
-    ltb (c .stop) stops && (leb before (c .arrival) && (leb (c .arrival) (c .departure) && (leb (c .flags) allFlags && eqb (c .flags % 4) 3)))
-
--- two of them, and four, as words hold them
-unfoldable pub twoPlain : ℕ → ℕ → List ℕ → Bool
-twoPlain stops before w = passesPlain stops before (callAt w) && passesPlain stops (callAt w .departure) (callAt (drop callSize w))
-
-unfoldable pub fourPlain : ℕ → ℕ → List ℕ → Bool
-fourPlain stops before w = twoPlain stops before w && twoPlain stops (callAt (drop callSize w) .departure) (drop 14 w)
-
--- the last: its departure is not bound by the order
-abbrev pub endsPlain : ℕ → ℕ → Call → Bool
-endsPlain stops before c =
-    ltb (c .stop) stops
-    && (leb before (c .arrival) && (leb (c .arrival) latestTime && (leb (c .departure) latestTime && (leb (c .flags) allFlags && eqb (c .flags % 2) 1))))
-
--- m between and the last, as words hold them
-unfoldable pub laterPlain : ℕ → ℕ → ℕ → List ℕ → Bool
-laterPlain stops zero before w = endsPlain stops before (callAt w)
-laterPlain stops (suc m) before w = passesPlain stops before (callAt w) && laterPlain stops m (callAt w .departure) (drop callSize w)
-
--- all of a record
-abbrev pub callsPlain : ℕ → List ℕ → Bool
-callsPlain stops s =
-    opensPlain stops (callAt (drop serviceHead s))
-    && laterPlain stops (calls# s - 2) (callAt (drop serviceHead s) .departure) (drop (serviceHead + callSize) s)
 
 -- ---- for contracts
 
