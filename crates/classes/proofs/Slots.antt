@@ -4,8 +4,8 @@ use mathlib.Core.Path.{_≡_, refl, ap, sym, subst, _∙_}
 use mathlib.Core.List.{List, [], _∷_, _++_, append-nil}
 use mathlib.Core.Logic.{_⊎_, inl, inr, ⊎-elim}
 use mathlib.Core.Bool.{Bool, true, false, cond, not, _&&_, _||_}
-use Prim.Native.Nat.{ℕ, _+_, _-_, _*_, _/_, _%_, _^_, _≤_, _<_}
-use native.Mathlib.Nat.{mod-lt, eq-or-lt-of-le, mul-le-mul}
+use Prim.Native.Nat.{ℕ, _+_, _-_, _*_, _/_, _^_, _≤_, _<_}
+use native.Mathlib.Nat.{eq-or-lt-of-le}
 use native.Mathlib.Omega.{arith}
 use lib.ListN.{length, getD, take, drop, set, replicate, length-take, length-drop, length-set, length-replicate, getD-replicate, drop-of-length-le, List·getD-eq-default}
 use lib.Seq.{take-all, getD-take, getD-drop, getD-set-same, getD-set-other}
@@ -14,7 +14,7 @@ use borrow.Author.Tests.{eq-eqb, eqb-true, not-true, not-false, lt-ltb, le-ltb}
 use Rattle.base.specs.Lists.{every, some-of}
 use Rattle.base.proofs.Laws.{tests, apart, clash, or-false, by-ltb, by-eqb}
 use Rattle.base.proofs.Lists.{gathered-append}
-use Rattle.columns.specs.Columns.{padTo, columns, column, count, number}
+use Rattle.columns.specs.Columns.{padTo, columns, count, number}
 use Rattle.lines.specs.Lines.{Line, pieces, noCR, numbered, linesFrom, linesOf, skipped, cutAt}
 use Rattle.lines.specs.declared.Cut.{Cut}
 use Rattle.lines.proofs.Laws.{cutting, lines-none, walk}
@@ -23,7 +23,7 @@ use Rattle.forms.specs.Columns.{classColumns}
 use Rattle.forms.specs.declared.Form.{Form}
 use Rattle.forms.specs.declared.Form.the-variants.{Fits, Broken as BrokenForm}
 use Rattle.forms.proofs.Laws.{row-holds}
-use Rattle.map.proofs.Finds.{bucket-inside}
+use Rattle.chains.specs.Chains.{bucketOf}
 use Rattle.timetable.specs.Layout.{mostFileBytes, helperHead}
 use Rattle.timetable.specs.Delivery.{CategoryClass}
 use Rattle.timetable.specs.Files.{skip, listed, held-in, heldBy, classOf, hasClass}
@@ -39,22 +39,9 @@ use Rattle.classes.proofs.Lines.{some-append, sound-split, sound-first,
 
 -- ---- a code's slots
 
-pub slot-fits : (x words : ℕ) → words < 4294967296 → x % 4294967296 * (words - words / 8 - 1) < 2 ^ 64
-slot-fits x words h =
-    let l : x % 4294967296 < 4294967296 = mod-lt x (omega arith) in
-    let k : x % 4294967296 ≤ 4294967295 = omega arith in
-    let q : x % 4294967296 * (words - words / 8 - 1) ≤ 4294967295 * 4294967295 = mul-le-mul {m₁ = words - words / 8 - 1} {m₂ = 4294967295} k (omega arith) in
-    omega arith
-
-pub slot-inside : (words code : ℕ) → helperHead ≤ words → 1 + code * 2654435761 % 4294967296 * (words - words / 8 - 1) / 4294967296 < words
-slot-inside words code h = let l = bucket-inside (words - words / 8 - 1) code (omega arith) in omega (arith, l)
-
-pub slot-small : (words code : ℕ) → helperHead ≤ words → words < 4294967296 → 1 + code * 2654435761 % 4294967296 * (words - words / 8 - 1) / 4294967296 < 2 ^ 64
-slot-small words code h l = omega (arith, slot-inside words code h)
-
-pub slot-first : (words code : ℕ) → 1 + code * 2654435761 % 4294967296 * (words - words / 8 - 1) / 4294967296 ≡ firstSlot words code
+pub slot-first : (words code b : ℕ) → b ≡ bucketOf (words - words / 8 - 1) code → 1 + b ≡ firstSlot words code
 unfolding firstSlot
-slot-first words code = refl
+slot-first words code b e = rw e
 
 first-on : (words code : ℕ) → 0 < firstSlot words code
 unfolding firstSlot
@@ -73,7 +60,7 @@ end-le : (words code : ℕ) → endSlot words code ≤ words
 unfolding endSlot
 end-le words code = by-ltb (λ t. cond t (firstSlot words code + 512) words ≤ words) (firstSlot words code + 512) words (λ h. omega arith) (λ h. omega arith)
 
-pub ruleset slotting = (tests, slot-fits, slot-inside, slot-small, slot-first, end-near, end-all)
+pub ruleset slotting = (tests, slot-first, end-near, end-all)
 
 -- ---- the first of them that is free, for `search trying`
 

@@ -437,14 +437,13 @@ fn free_slot(index: &[u32], code: u32) -> usize
     i
 }
 
-// A code's first slot: among the first seven eighths of the words, by the high part of a product, so that codes alike are spread as others are.
+// A code's first slot: its bucket among the first seven eighths of the words.
 fn first_slot(words: usize, code: u32) -> usize
     requires { ⌜ (helperHead ≤ words) × (words < 4294967296) ⌝ }
     ensures { λ r. ⌜ r ≡ firstSlot words code ⌝ }
     ensures { λ r. ⌜ r < words ⌝ }
 {
-    let spread = code as usize * 2654435761 % 4294967296;
-    1 + spread * (words - words / 8 - 1) / 4294967296
+    1 + chains::bucket(words - words / 8 - 1, code)
 }
 
 // The place behind the last: some hundreds, so that no look-up is long.

@@ -1,7 +1,7 @@
 -- The index of ZUGART's lines in lent words. The first word is a place in the file: the lines from there on are not in the index. The others are slots: a
 -- slot holds one more than the place where a line starts, or 0. A code's line stands in one of the code's own slots, and all of them before that one are
 -- taken. Nobody has to believe this file: what is answered by the index is promised over the file itself. Assumes nothing.
-use Prim.Native.Nat.{ℕ, _+_, _-_, _*_, _/_, _%_, _≤_, _<_}
+use Prim.Native.Nat.{ℕ, _+_, _-_, _/_, _≤_, _<_}
 use mathlib.Core.Path.{_≡_}
 use mathlib.Core.List.{List, _++_}
 use mathlib.Core.Bool.{Bool, true, false, cond, not, _&&_}
@@ -9,6 +9,7 @@ use lib.ListN.{length, getD, drop, set}
 use lib.Dec.{eqb, ltb}
 use Rattle.columns.specs.LineFields.{classCode}
 use Rattle.lines.specs.Lines.{linesOf, linesFrom, skipped}
+use Rattle.chains.specs.Chains.{bucketOf}
 use Rattle.timetable.specs.Layout.{mostFileBytes, helperHead}
 use Rattle.timetable.specs.Files.{held-in, classOf, hasClass}
 use Rattle.timetable.specs.Plan.{threeBytes}
@@ -23,7 +24,7 @@ holdsCode code text = eqb (threeBytes (classCode .from) text) code && not (skipp
 -- ---- a code's slots, of so many words: the first of them, and the place behind the last
 
 unfoldable pub firstSlot : ℕ → ℕ → ℕ
-firstSlot words code = 1 + code * 2654435761 % 4294967296 * (words - words / 8 - 1) / 4294967296
+firstSlot words code = 1 + bucketOf (words - words / 8 - 1) code
 
 unfoldable pub endSlot : ℕ → ℕ → ℕ
 endSlot words code = cond (ltb (firstSlot words code + 512) words) (firstSlot words code + 512) words
