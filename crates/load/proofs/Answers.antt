@@ -1,4 +1,4 @@
--- What `load` and `load_drafting` answer and leave, for `search refusing` and `search loading`: n is the file that is too long, r the room for the maps, d
+-- What `load` and `load_drafting` answer and leave, for `search refusing` and `search loading`: n is the file that is too long, r the helper words needed, d
 -- what the checks say of the files, t the table and h the helper words lent. Assumes nothing.
 use mathlib.Core.Path.{_≡_, refl, sym, ap, _∙_}
 use mathlib.Core.List.{List, _++_}
@@ -27,14 +27,14 @@ use Rattle.plan_words.proofs.Within.{head-none, plan-sound}
 use Rattle.table_words.specs.Inner.Words.{headerWords, bodyWords, SectionsSound}
 use Rattle.table_words.specs.declared.Header.{Header}
 use Rattle.load.specs.Inner.Delivered.{longIn, headerOf, deliveredBy, answered, left}
-use Rattle.load.specs.Inner.Helper.{roomOf}
-use Rattle.load.specs.declared.Room.{Room}
+use Rattle.load.specs.Inner.Helper.{neededOf}
+use Rattle.load.specs.declared.Needed.{Needed}
 use Rattle.load.specs.declared.Delivered.{Delivered}
 use Rattle.sections.proofs.Sound.{fields-sound, stops-sound, interchanges-sound, classes-sound}
 use Rattle.load.specs.declared.Delivered.the-variants.{Holds, Refused}
 use Rattle.load.proofs.Table.{words-needed, words-used, table-is}
 use Rattle.load.proofs.Files.{too-long, none-too-long, all-short, sections-none, plan-none}
-use Rattle.load.proofs.Helper.{room-small}
+use Rattle.load.proofs.Helper.{needed-small}
 
 module _ (e b s u p z : List ℕ) (n : ℕ) (k : n ≡ longIn (length e) (length b) (length s) (length u) (length z) (length p)) where
   abbrev files : Files
@@ -58,13 +58,13 @@ module _ (e b s u p z : List ℕ) (n : ℕ) (k : n ≡ longIn (length e) (length
     unfolding helped
     long-helper = rw (too-long e b s u p z n k y) refl
 
-  module _ (y : n ≡ 0) (r : Room) (q : r ≡ roomOf b s u) where
+  module _ (y : n ≡ 0) (r : Needed) (q : r ≡ neededOf b s u) where
     words-are : r .words ≡ helperNeeded files
     unfolding helperNeeded
-    words-are = ap (λ (x : Room). x .words) q
+    words-are = ap (λ (x : Needed). x .words) q
 
     pub words-fit : r .words < 4294967296
-    words-fit = room-small b s u r q (all-short e b s u p z n k y .bitfeld) (all-short e b s u p z n k y .bahnhof) (all-short e b s u p z n k y .umsteigb)
+    words-fit = needed-small b s u r q (all-short e b s u p z n k y .bitfeld) (all-short e b s u p z n k y .bahnhof) (all-short e b s u p z n k y .umsteigb)
 
     -- ---- 51
 

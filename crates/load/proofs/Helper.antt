@@ -1,4 +1,4 @@
--- The helper words: their room, and the parts of them that the maps and the index take. Assumes nothing.
+-- The helper words: how many are needed, and the parts of them that the maps and the index take. Assumes nothing.
 use mathlib.Core.Path.{_≡_, refl, sym, ap, subst, _∙_}
 use mathlib.Core.List.{List, _++_, append-nil}
 use Prim.Native.Nat.{ℕ, _+_, _*_, _-_, _^_, _≤_, _<_}
@@ -19,29 +19,29 @@ use Rattle.sections.specs.declared.Section.the-variants.{BitFields, Stops}
 use Rattle.reading.specs.Inner.Maps.{FieldMap, StopMap, ClassIndex}
 use Rattle.table_words.specs.declared.Header.{Header}
 use Rattle.load.specs.Inner.Delivered.{refusedIn}
-use Rattle.load.specs.Inner.Helper.{Short, roomOf, Emptied, LentAt, IndexLent, FieldsAfter, StopsAfter, IndexAfter, StopsStand}
+use Rattle.load.specs.Inner.Helper.{Short, neededOf, Emptied, LentAt, IndexLent, FieldsAfter, StopsAfter, IndexAfter, StopsStand}
 use Rattle.load.specs.declared.Delivered.{Delivered}
 use Rattle.load.specs.declared.Delivered.the-variants.{Holds as AllHold}
-use Rattle.load.specs.declared.Room.{Room}
+use Rattle.load.specs.declared.Needed.{Needed}
 
--- ---- the room
+-- ---- how many are needed
 
-module _ (b s u : List ℕ) (r : Room) (q : r ≡ roomOf b s u) where
+module _ (b s u : List ℕ) (r : Needed) (q : r ≡ neededOf b s u) where
   words-are : r .words ≡ helperHead + helperLine * (length (linesOf b) + length (linesOf s) + length (linesOf u))
-  words-are = ap (λ (x : Room). x .words) q
+  words-are = ap (λ (x : Needed). x .words) q
 
   fields-are : r .fields ≡ helperLine * length (linesOf b)
-  fields-are = ap (λ (x : Room). x .fields) q
+  fields-are = ap (λ (x : Needed). x .fields) q
 
   stops-are : r .stops ≡ helperLine * length (linesOf s)
-  stops-are = ap (λ (x : Room). x .stops) q
+  stops-are = ap (λ (x : Needed). x .stops) q
 
-  pub room-small : length b ≤ mostFileBytes → length s ≤ mostFileBytes → length u ≤ mostFileBytes → r .words < 4294967296
-  room-small x y z = omega (arith, words-are, lines-le 1 0 b, lines-le 1 0 s, lines-le 1 0 u)
+  pub needed-small : length b ≤ mostFileBytes → length s ≤ mostFileBytes → length u ≤ mostFileBytes → r .words < 4294967296
+  needed-small x y z = omega (arith, words-are, lines-le 1 0 b, lines-le 1 0 s, lines-le 1 0 u)
 
-pub room-counted : (b s u : List ℕ) (x y z : ℕ) → x ≡ length (linesOf b) → y ≡ length (linesOf s) → z ≡ length (linesOf u)
-    → _≡_ {A = Room} (record { fields = helperLine * x; stops = helperLine * y; words = helperHead + helperLine * (x + y + z) }) (roomOf b s u)
-room-counted b s u x y z i j k = rw (i, j, k) refl
+pub needed-counted : (b s u : List ℕ) (x y z : ℕ) → x ≡ length (linesOf b) → y ≡ length (linesOf s) → z ≡ length (linesOf u)
+    → _≡_ {A = Needed} (record { fields = helperLine * x; stops = helperLine * y; words = helperHead + helperLine * (x + y + z) }) (neededOf b s u)
+needed-counted b s u x y z i j k = rw (i, j, k) refl
 
 -- ---- words that are all 0
 
@@ -192,12 +192,12 @@ index-after z r at words m m′ h l a =
 
 -- ---- from file to file
 
-module _ (e b s u p z : List ℕ) (r : Room) (m : List ℕ) (h : Short e b s u p z) (q : Emptied b s u r m) where
+module _ (e b s u p z : List ℕ) (r : Needed) (m : List ℕ) (h : Short e b s u p z) (q : Emptied b s u r m) where
   size : length m ≡ r .words
   size = ap length (q .words) ∙ length-replicate {A = ℕ} (r .words) 0
 
   small : r .words < 4294967296
-  small = room-small b s u r (q .is) (h .bitfeld) (h .bahnhof) (h .umsteigb)
+  small = needed-small b s u r (q .is) (h .bitfeld) (h .bahnhof) (h .umsteigb)
 
   pub lent-fields : LentAt b 0 (r .fields) m
   lent-fields =
@@ -303,7 +303,7 @@ pub ruleset standing = (tests, stand-inside, stand-fits, stand-bytes, stand-map)
 
 -- ---- lent, used and given back: h is lent, h₁ cleared
 
-module _ (b s u : List ℕ) (r : Room) (q : r ≡ roomOf b s u) (h h₁ : List ℕ) (e : h₁ ≡ replicate (r .words) 0 ++ drop (r .words) h) where
+module _ (b s u : List ℕ) (r : Needed) (q : r ≡ neededOf b s u) (h h₁ : List ℕ) (e : h₁ ≡ replicate (r .words) 0 ++ drop (r .words) h) where
   pub emptied : Emptied b s u r (take (r .words - 0) h₁)
   emptied = record {
     is = q;

@@ -30,7 +30,7 @@ ghost use Rattle.draft.specs.Inner.Draft.{callsLent, rangesLent};
 ghost use Rattle.reading.specs.Inner.Maps.{FieldMap, StopMap, ClassIndex};
 ghost use Rattle.reading.specs.Inner.Services.{blockWords, mostPlanWords};
 ghost use Rattle.load.specs.Inner.Delivered.{longIn, headerBy, headerOf, refusedIn, deliveredBy, answered, left};
-ghost use Rattle.load.specs.Inner.Helper.{Short, roomOf, Emptied, LentAt, IndexLent, FieldsAfter, StopsAfter};
+ghost use Rattle.load.specs.Inner.Helper.{Short, neededOf, Emptied, LentAt, IndexLent, FieldsAfter, StopsAfter};
 ghost use Rattle.load.specs.Inner.Helper.{IndexAfter, StopsStand};
 
 // What the checks of the files say: the header of the table, or the first offence and its file.
@@ -76,14 +76,14 @@ pub fn load(
             needed: 0,
         };
     }
-    let room = room_for(bitfeld, bahnhof, umsteigb);
-    if helper.len() < room.words {
+    let needed = helper_needed(bitfeld, bahnhof, umsteigb);
+    if helper.len() < needed.words {
         return Loaded::Refused {
             number: 51,
             file: 0,
             line: 0,
             column: 0,
-            needed: room.words as u32,
+            needed: needed.words as u32,
         };
     }
     load_lent(
@@ -93,7 +93,7 @@ pub fn load(
         umsteigb,
         fplan,
         zugart,
-        room,
+        needed,
         table,
         helper,
     )
@@ -102,21 +102,21 @@ pub fn load(
 // ---- the helper words
 
 // What the maps take of them: the words for the lines of BITFELD and of BAHNHOF; and all words needed.
-struct Room {
+struct Needed {
     pub fields: usize,
     pub stops: usize,
     pub words: usize,
 }
 
-fn room_for(bitfeld: &[u8], bahnhof: &[u8], umsteigb: &[u8]) -> Room
+fn helper_needed(bitfeld: &[u8], bahnhof: &[u8], umsteigb: &[u8]) -> Needed
     requires { ⌜ (length (now bitfeld) ≤ mostFileBytes) × (length (now bahnhof) ≤ mostFileBytes)
         × (length (now umsteigb) ≤ mostFileBytes) ⌝ }
-    ensures { λ r. ⌜ r ≡ roomOf (now (bitfeld .entry)) (now (bahnhof .entry)) (now (umsteigb .entry)) ⌝ }
+    ensures { λ r. ⌜ r ≡ neededOf (now (bitfeld .entry)) (now (bahnhof .entry)) (now (umsteigb .entry)) ⌝ }
 {
     let fields = reader::lines_in(bitfeld) as usize;
     let stops = reader::lines_in(bahnhof) as usize;
     let interchanges = reader::lines_in(umsteigb) as usize;
-    Room {
+    Needed {
         fields: HELPER_LINE_WORDS * fields,
         stops: HELPER_LINE_WORDS * stops,
         words: HELPER_HEAD_WORDS + HELPER_LINE_WORDS * (fields + stops + interchanges),
@@ -131,22 +131,22 @@ fn load_lent(
     umsteigb: &[u8],
     fplan: &[u8],
     zugart: &[u8],
-    room: Room,
+    needed: Needed,
     table: &mut [u32],
     helper: &mut [u32],
 ) -> Loaded
     requires { ⌜ Short (now eckdaten) (now bitfeld) (now bahnhof) (now umsteigb) (now fplan) (now zugart) ⌝ }
-    requires { ⌜ room ≡ roomOf (now bitfeld) (now bahnhof) (now umsteigb) ⌝ }
-    requires { ⌜ room .words ≤ length (now helper) ⌝ }
+    requires { ⌜ needed ≡ neededOf (now bitfeld) (now bahnhof) (now umsteigb) ⌝ }
+    requires { ⌜ needed .words ≤ length (now helper) ⌝ }
     ensures { λ r. ⌜ r ≡ answered
         (filesOf (now (eckdaten .entry)) (now (bitfeld .entry)) (now (bahnhof .entry)) (now (umsteigb .entry)) (now (fplan .entry)) (now (zugart .entry)))
         (length (now (table .entry))) ⌝ }
     ensures { λ _. ⌜ now (table .exit) ≡ left
         (filesOf (now (eckdaten .entry)) (now (bitfeld .entry)) (now (bahnhof .entry)) (now (umsteigb .entry)) (now (fplan .entry)) (now (zugart .entry)))
         (now (table .entry)) ⌝ }
-    ensures { λ _. ⌜ now (helper .exit) ≡ replicate (room .words) 0 ++ drop (room .words) (now (helper .entry)) ⌝ }
+    ensures { λ _. ⌜ now (helper .exit) ≡ replicate (needed .words) 0 ++ drop (needed .words) (now (helper .entry)) ⌝ }
 {
-    let words = room.words;
+    let words = needed.words;
     map::clear(helper, words);
     let loaded = load_mapped(
         eckdaten,
@@ -155,11 +155,11 @@ fn load_lent(
         umsteigb,
         fplan,
         zugart,
-        room,
+        needed,
         table,
         &mut helper[0..words],
     );
-    map::clear(helper, room.words);
+    map::clear(helper, needed.words);
     loaded
 }
 
@@ -171,12 +171,12 @@ fn load_mapped(
     umsteigb: &[u8],
     fplan: &[u8],
     zugart: &[u8],
-    room: Room,
+    needed: Needed,
     table: &mut [u32],
     m: &mut [u32],
 ) -> Loaded
     requires { ⌜ Short (now eckdaten) (now bitfeld) (now bahnhof) (now umsteigb) (now fplan) (now zugart) ⌝ }
-    requires { ⌜ Emptied (now bitfeld) (now bahnhof) (now umsteigb) room (now m) ⌝ }
+    requires { ⌜ Emptied (now bitfeld) (now bahnhof) (now umsteigb) needed (now m) ⌝ }
     ensures { λ r. ⌜ r ≡ answered
         (filesOf (now (eckdaten .entry)) (now (bitfeld .entry)) (now (bahnhof .entry)) (now (umsteigb .entry)) (now (fplan .entry)) (now (zugart .entry)))
         (length (now (table .entry))) ⌝ }
@@ -193,7 +193,7 @@ fn load_mapped(
         umsteigb,
         fplan,
         zugart,
-        room,
+        needed,
         table,
         m,
         &mut calls,
@@ -209,14 +209,14 @@ fn load_drafting(
     umsteigb: &[u8],
     fplan: &[u8],
     zugart: &[u8],
-    room: Room,
+    needed: Needed,
     table: &mut [u32],
     m: &mut [u32],
     calls: &mut [u32],
     ranges: &mut [u32],
 ) -> Loaded
     requires { ⌜ Short (now eckdaten) (now bitfeld) (now bahnhof) (now umsteigb) (now fplan) (now zugart) ⌝ }
-    requires { ⌜ Emptied (now bitfeld) (now bahnhof) (now umsteigb) room (now m) ⌝ }
+    requires { ⌜ Emptied (now bitfeld) (now bahnhof) (now umsteigb) needed (now m) ⌝ }
     requires { ⌜ (callsLent ≤ length (now calls)) × (rangesLent ≤ length (now ranges)) ⌝ }
     ensures { λ r. ⌜ r ≡ answered
         (filesOf (now (eckdaten .entry)) (now (bitfeld .entry)) (now (bahnhof .entry)) (now (umsteigb .entry)) (now (fplan .entry)) (now (zugart .entry)))
@@ -232,7 +232,7 @@ fn load_drafting(
         umsteigb,
         fplan,
         zugart,
-        room,
+        needed,
         m,
         calls,
         ranges,
@@ -256,8 +256,8 @@ fn load_drafting(
                     needed: used,
                 };
             }
-            let at = room.fields;
-            let end = at + room.stops;
+            let at = needed.fields;
+            let end = at + needed.stops;
             table_words::put_table(
                 header,
                 bitfeld,
@@ -285,13 +285,13 @@ fn check_delivery(
     umsteigb: &[u8],
     fplan: &[u8],
     zugart: &[u8],
-    room: Room,
+    needed: Needed,
     m: &mut [u32],
     calls: &mut [u32],
     ranges: &mut [u32],
 ) -> Delivered
     requires { ⌜ Short (now eckdaten) (now bitfeld) (now bahnhof) (now umsteigb) (now fplan) (now zugart) ⌝ }
-    requires { ⌜ Emptied (now bitfeld) (now bahnhof) (now umsteigb) room (now m) ⌝ }
+    requires { ⌜ Emptied (now bitfeld) (now bahnhof) (now umsteigb) needed (now m) ⌝ }
     requires { ⌜ (callsLent ≤ length (now calls)) × (rangesLent ≤ length (now ranges)) ⌝ }
     ensures { λ r. ⌜ r ≡ deliveredBy
         (contentOffence
@@ -301,25 +301,25 @@ fn check_delivery(
         (delivered
         (filesOf (now (eckdaten .entry)) (now (bitfeld .entry)) (now (bahnhof .entry)) (now (umsteigb .entry)) (now (fplan .entry))
         (now (zugart .entry))))) ⌝ }
-    ensures { λ r. ⌜ StopsStand (now (bahnhof .entry)) (room .fields) (room .stops) r (now (m .exit)) ⌝ }
+    ensures { λ r. ⌜ StopsStand (now (bahnhof .entry)) (needed .fields) (needed .stops) r (now (m .exit)) ⌝ }
 {
     let period = period::check_period(eckdaten);
     let Checked::Holds(start, days) = period else {
         return refused(1, period);
     };
-    let field_section = fields_in(bitfeld, days, m, room.fields);
+    let field_section = fields_in(bitfeld, days, m, needed.fields);
     let Checked::Holds(fields, _) = field_section else {
         return refused(2, field_section);
     };
-    let stop_section = stops_in(bahnhof, m, room.fields, room.stops);
+    let stop_section = stops_in(bahnhof, m, needed.fields, needed.stops);
     let Checked::Holds(stops, _) = stop_section else {
         return refused(3, stop_section);
     };
-    let interchange_section = interchanges_in(umsteigb, bahnhof, m, room.fields, room.stops);
+    let interchange_section = interchanges_in(umsteigb, bahnhof, m, needed.fields, needed.stops);
     let Checked::Holds(interchanges, _) = interchange_section else {
         return refused(4, interchange_section);
     };
-    let class_section = classes_in(zugart, m, room.fields, room.stops);
+    let class_section = classes_in(zugart, m, needed.fields, needed.stops);
     let Checked::Holds(classes, _) = class_section else {
         return refused(6, class_section);
     };
@@ -330,7 +330,7 @@ fn check_delivery(
         zugart,
         days,
         m,
-        room,
+        needed,
         calls,
         ranges,
     );
@@ -410,24 +410,27 @@ fn plan_by(
     zugart: &[u8],
     days: u32,
     m: &[u32],
-    room: Room,
+    needed: Needed,
     calls: &mut [u32],
     ranges: &mut [u32],
 ) -> Checked
     requires { ⌜ (length (now fplan) ≤ mostFileBytes) × (days ≤ mostPeriodDays)
-        × (room .fields + room .stops + helperHead ≤ length (now m)) ⌝ }
-    requires { ⌜ FieldMap (now bitfeld) (take (room .fields) (now m)) × StopMap (now bahnhof) (take (room .stops) (drop (room .fields) (now m))) ×
-        ClassIndex (now zugart) (drop (room .fields + room .stops) (now m)) ⌝ }
+        × (needed .fields + needed .stops + helperHead ≤ length (now m)) ⌝ }
+    requires { ⌜ FieldMap (now bitfeld) (take (needed .fields) (now m)) ×
+        StopMap (now bahnhof) (take (needed .stops) (drop (needed .fields) (now m))) ×
+        ClassIndex (now zugart) (drop (needed .fields + needed .stops) (now m)) ⌝ }
     requires { ⌜ (callsLent ≤ length (now calls)) × (rangesLent ≤ length (now ranges)) ⌝ }
     ensures { λ r. ⌜ r ≡ checkedBy
-        (planFirst (bitFieldsIn (now (bitfeld .entry))) (stopsIn (now (bahnhof .entry))) (classesIn (now (zugart .entry))) days
-        (linesOf (now (fplan .entry)))) (length (blocks (linesOf (now (fplan .entry))))) (length (blockWords (blocks (linesOf (now (fplan .entry)))))) ⌝ }
+        (planFirst (bitFieldsIn (now (bitfeld .entry))) (stopsIn (now (bahnhof .entry)))
+        (classesIn (now (zugart .entry))) days (linesOf (now (fplan .entry))))
+        (length (blocks (linesOf (now (fplan .entry)))))
+        (length (blockWords (blocks (linesOf (now (fplan .entry)))))) ⌝ }
 {
-    let at = room.fields;
+    let at = needed.fields;
     let fields = &m[0..at];
-    let stops = &m[at..at + room.stops];
+    let stops = &m[at..at + needed.stops];
     let end = m.len();
-    let index = &m[at + room.stops..end];
+    let index = &m[at + needed.stops..end];
     plan_check::check_plan(
         fplan,
         bitfeld,

@@ -35,8 +35,10 @@ pub fn check_plan(
         (now index) ⌝ }
     requires { ⌜ (callsLent ≤ length (now calls)) × (rangesLent ≤ length (now ranges)) ⌝ }
     ensures { λ r. ⌜ r ≡ checkedBy
-        (planFirst (bitFieldsIn (now (bitfeld .entry))) (stopsIn (now (bahnhof .entry))) (classesIn (now (zugart .entry))) days
-        (linesOf (now (fplan .entry)))) (length (blocks (linesOf (now (fplan .entry))))) (length (blockWords (blocks (linesOf (now (fplan .entry)))))) ⌝ }
+        (planFirst (bitFieldsIn (now (bitfeld .entry))) (stopsIn (now (bahnhof .entry)))
+        (classesIn (now (zugart .entry))) days (linesOf (now (fplan .entry))))
+        (length (blocks (linesOf (now (fplan .entry)))))
+        (length (blockWords (blocks (linesOf (now (fplan .entry)))))) ⌝ }
 {
     let head = reading::head_end(fplan);
     match head {
@@ -78,8 +80,9 @@ fn check_services(
         (now index) ⌝ }
     requires { ⌜ (callsLent ≤ length (now calls)) × (rangesLent ≤ length (now ranges)) ⌝ }
     ensures { λ r. ⌜ r ≡ checkedBy
-        (servicesFirst (bitFieldsIn (now (bitfeld .entry))) (stopsIn (now (bahnhof .entry))) (classesIn (now (zugart .entry))) days
-        (blocks (linesAt (now (fplan .entry)) start first))) (length (blocks (linesAt (now (fplan .entry)) start first)))
+        (servicesFirst (bitFieldsIn (now (bitfeld .entry))) (stopsIn (now (bahnhof .entry)))
+        (classesIn (now (zugart .entry))) days (blocks (linesAt (now (fplan .entry)) start first)))
+        (length (blocks (linesAt (now (fplan .entry)) start first)))
         (length (blockWords (blocks (linesAt (now (fplan .entry)) start first)))) ⌝ }
 {
     let mut at = start;

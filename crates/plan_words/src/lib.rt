@@ -114,7 +114,8 @@ fn put_service(
     requires { ⌜ to + length (serviceWords (serviceOf (serviceLinesAt (now fplan) at no))) ≤ length (now table) ⌝ }
     ensures { λ r. ⌜ ServiceTaken (now (fplan .entry)) at no (r .words) (r .end) (r .no) ⌝ }
     ensures { λ r. ⌜ now (table .exit) ≡ write (now (table .entry)) to
-        (serviceWords (pointing (stopsIn (now (bahnhof .entry))) (serviceOf (serviceLinesAt (now (fplan .entry)) at no)))) ⌝ }
+        (serviceWords (pointing (stopsIn (now (bahnhof .entry)))
+        (serviceOf (serviceLinesAt (now (fplan .entry)) at no)))) ⌝ }
 {
     let read = reading::read_again(fplan, at, no, calls, ranges);
     let words = service_words::service_into(read, calls, ranges, bahnhof, stops, table, to);

@@ -32,8 +32,10 @@ pub fn part_into(
 ) -> usize
     requires { ⌜ (draftCall * c ≤ length (now calls)) × (draftRange * n ≤ length (now ranges)) ⌝ }
     requires { ⌜ at + length (partWords part (callsIn c (now calls)) (rangesIn n (now ranges))) ≤ length (now table) ⌝ }
-    ensures { λ r. ⌜ (r ≡ at + length (partWords part (callsIn c (now (calls .entry))) (rangesIn n (now (ranges .entry))))) ×
-        (now (table .exit) ≡ write (now (table .entry)) at (partWords part (callsIn c (now (calls .entry))) (rangesIn n (now (ranges .entry))))) ⌝ }
+    ensures { λ r. ⌜ (r ≡
+        at + length (partWords part (callsIn c (now (calls .entry))) (rangesIn n (now (ranges .entry))))) ×
+        (now (table .exit) ≡ write (now (table .entry)) at
+        (partWords part (callsIn c (now (calls .entry))) (rangesIn n (now (ranges .entry))))) ⌝ }
 {
     let mut i: u32 = 0;
     let mut place: usize = 0;

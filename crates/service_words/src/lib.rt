@@ -109,12 +109,13 @@ fn body_into(
     requires { ⌜ StopMap (now bahnhof) (now stops) ⌝ }
     requires { ⌜ at + length (bodyOf (stopsIn (now bahnhof)) (callsIn c (now calls)) (rangesIn n (now ranges))) ≤
         length (now table) ⌝ }
-    requires { ⌜ serviceHead + length (bodyOf (stopsIn (now bahnhof)) (callsIn c (now calls)) (rangesIn n (now ranges))) ≤
-        4294967295 ⌝ }
+    requires { ⌜ serviceHead
+        + length (bodyOf (stopsIn (now bahnhof)) (callsIn c (now calls)) (rangesIn n (now ranges))) ≤ 4294967295 ⌝ }
     ensures { λ r. ⌜ r ≡
         sizesBy (stopsIn (now (bahnhof .entry))) (callsIn c (now (calls .entry))) (rangesIn n (now (ranges .entry))) ⌝ }
     ensures { λ _. ⌜ now (table .exit) ≡ write (now (table .entry)) at
-        (bodyOf (stopsIn (now (bahnhof .entry))) (callsIn c (now (calls .entry))) (rangesIn n (now (ranges .entry)))) ⌝ }
+        (bodyOf (stopsIn (now (bahnhof .entry))) (callsIn c (now (calls .entry)))
+        (rangesIn n (now (ranges .entry)))) ⌝ }
 {
     let start = calls_into(calls, c, bahnhof, stops, table, at);
     let ends = ranges_into(ranges, n, calls, c, table, start);
@@ -132,7 +133,8 @@ fn calls_into(
 ) -> usize
     requires { ⌜ draftCall * c ≤ length (now calls) ⌝ }
     requires { ⌜ StopMap (now bahnhof) (now stops) ⌝ }
-    requires { ⌜ at + length (gathered (pointedWords (stopsIn (now bahnhof))) (callsIn c (now calls))) ≤ length (now table) ⌝ }
+    requires { ⌜ at + length (gathered (pointedWords (stopsIn (now bahnhof))) (callsIn c (now calls))) ≤
+        length (now table) ⌝ }
     ensures { λ r. ⌜ r ≡
         at + length (gathered (pointedWords (stopsIn (now (bahnhof .entry)))) (callsIn c (now (calls .entry)))) ⌝ }
     ensures { λ _. ⌜ now (table .exit) ≡ write (now (table .entry)) at
@@ -173,7 +175,8 @@ fn ranges_into(
     requires { ⌜ (draftCall * c ≤ length (now calls)) × (draftRange * n ≤ length (now ranges)) ⌝ }
     requires { ⌜ at + length (rangeWords (callsIn c (now calls)) (rangesIn n (now ranges))) ≤ length (now table) ⌝ }
     ensures { λ r. ⌜ (r ≡ rangeEnds at (callsIn c (now (calls .entry))) (rangesIn n (now (ranges .entry)))) ×
-        (now (table .exit) ≡ write (now (table .entry)) at (rangeWords (callsIn c (now (calls .entry))) (rangesIn n (now (ranges .entry))))) ⌝ }
+        (now (table .exit) ≡ write (now (table .entry)) at
+        (rangeWords (callsIn c (now (calls .entry))) (rangesIn n (now (ranges .entry))))) ⌝ }
 {
     let categories = range_words::part_into(Part::Category, ranges, n, calls, c, table, at);
     let day_ranges = range_words::part_into(Part::Days, ranges, n, calls, c, table, categories);
@@ -187,8 +190,8 @@ fn ranges_into(
 
 // The sizes of a service of c calls, whose calls are written from `at` on and its ranges from `start` on.
 fn sizes_of(c: u32, at: usize, start: usize, ends: RangeEnds) -> Sizes
-    requires { ⌜ (at ≤ start) × (start ≤ ends .categories) × (ends .categories ≤ ends .«day_ranges») × (ends .«day_ranges» ≤ ends .extras) ×
-        (serviceHead + (ends .extras - at) ≤ 4294967295) ⌝ }
+    requires { ⌜ (at ≤ start) × (start ≤ ends .categories) × (ends .categories ≤ ends .«day_ranges») ×
+        (ends .«day_ranges» ≤ ends .extras) × (serviceHead + (ends .extras - at) ≤ 4294967295) ⌝ }
     ensures { λ r. ⌜ r ≡ record {
       calls = c;
       categories = (ends .categories - start) / categorySize;

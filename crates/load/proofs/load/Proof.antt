@@ -10,8 +10,8 @@ too-long-requires c κs = search tests
 returns : tie.Need-returns
 returns c = (search refusing, (search refusing, search refusing))
 
-room-for-requires : tie.Need-room-for-requires
-room-for-requires c κs = (search short-fields, search short-stops, search short-interchanges)
+helper-needed-requires : tie.Need-helper-needed-requires
+helper-needed-requires c κs = (search short-fields, search short-stops, search short-interchanges)
 
 cast-t18 : tie.Need-cast-t18
 cast-t18 c = search words-fit
@@ -39,7 +39,7 @@ load-spec =
     (tie.spec
     too-long-requires
     returns
-    room-for-requires
+    helper-needed-requires
     cast-t18
     returns-2
     load-lent-requires

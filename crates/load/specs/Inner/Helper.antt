@@ -10,7 +10,7 @@ use Rattle.timetable.specs.declared.Checked.{Checked}
 use Rattle.timetable.specs.declared.Checked.the-variants.{Holds}
 use Rattle.reading.specs.Inner.Maps.{FieldMap, StopMap, ClassIndex}
 use Rattle.table_words.specs.declared.Header.{Header}
-use Rattle.load.specs.declared.Room.{Room}
+use Rattle.load.specs.declared.Needed.{Needed}
 use Rattle.load.specs.declared.Delivered.{Delivered}
 use Rattle.load.specs.declared.Delivered.the-variants.{Holds as AllHold}
 
@@ -24,17 +24,17 @@ pub record Short (e b s u p z : List ℕ) : Type 0 where
   pub zugart : length z ≤ mostFileBytes
 
 -- the words for the lines of BITFELD and of BAHNHOF, and all words needed
-abbrev pub roomOf : List ℕ → List ℕ → List ℕ → Room
-roomOf b s u = record {
+abbrev pub neededOf : List ℕ → List ℕ → List ℕ → Needed
+neededOf b s u = record {
   fields = helperLine * length (linesOf b);
   stops = helperLine * length (linesOf s);
   words = helperHead + helperLine * (length (linesOf b) + length (linesOf s) + length (linesOf u));
 }
 
 -- the words for the three maps and the index, all 0
-pub record Emptied (b s u : List ℕ) (room : Room) (m : List ℕ) : Type 0 where
-  pub is : room ≡ roomOf b s u
-  pub words : m ≡ replicate (room .words) 0
+pub record Emptied (b s u : List ℕ) (needed : Needed) (m : List ℕ) : Type 0 where
+  pub is : needed ≡ neededOf b s u
+  pub words : m ≡ replicate (needed .words) 0
 
 -- so many words of m from a place on are lent for the map of a file: enough, and all 0
 pub record LentAt (f : List ℕ) (at words : ℕ) (m : List ℕ) : Type 0 where

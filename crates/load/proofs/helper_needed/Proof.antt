@@ -1,7 +1,7 @@
 use Rattle.base.proofs.Laws.{tests}
-use Rattle.load.proofs.Helper.{room-counted}
-use Rattle.load.proofs.room_for.Statement.{statement}
-use Rattle.load.proofs.room_for.Tie as tie
+use Rattle.load.proofs.Helper.{needed-counted}
+use Rattle.load.proofs.helper_needed.Statement.{statement}
+use Rattle.load.proofs.helper_needed.Tie as tie
 
 lines-in-requires : tie.Need-lines-in-requires
 lines-in-requires c κs = search tests
@@ -40,10 +40,10 @@ add-t13 : tie.Need-add-t13
 add-t13 c = search tests
 
 returns : tie.Need-returns
-returns c = search room-counted
+returns c = search needed-counted
 
-pub room-for-spec : {M : Type 1} → statement M
-room-for-spec =
+pub helper-needed-spec : {M : Type 1} → statement M
+helper-needed-spec =
     tie.close
     (tie.spec
     lines-in-requires
