@@ -1,9 +1,9 @@
 //! The index beside a table: its words made and checked. Document 02, No. 9: "Keep beside the table an index, per stop, of the calls there"; "An index is valid only
 //! if it equals the one this table would get". Where its words stand the header of the library says: look-ups by number of the bit fields, stops, interchange
-//! records and categories, the place of each service's record, and the calls of each stop.
+//! records and categories, the place of each service's record, the calls of each stop, and the mark (docs/DECISIONS.md, D152).
 
-use super::ask::{table, Table};
-use crate::layout::{BIT_FIELD_NUMBER_AT, CLASS_CODE_AT, INTERCHANGE_STOP_AT, STOP_NUMBER_AT};
+use super::ask::{table, Call, Service, Table};
+use crate::layout::{ARRIVAL, BIT_FIELD_NUMBER_AT, CLASS_CODE_AT, DEPARTURE, INTERCHANGE_STOP_AT, STOP_NUMBER_AT};
 
 /// The answer of making an index; 29 has the words needed.
 #[derive(Clone, Copy, Debug, PartialEq, Eq)]
@@ -40,12 +40,20 @@ pub fn index_words(words: &[u32]) -> Option<Vec<u32>> {
 }
 
 pub(super) fn index_of(table: &Table<'_>) -> Vec<u32> {
+    let mut made = look_ups_of(table);
+    made.extend(table.services.iter().map(|service| service.at as u32));
+    made.extend(calls(table));
+    // "An index has one word more, its last: 1 where the table's calls are steady, else 0."
+    made.push(u32::from(table.services.iter().all(is_steady)));
+    made
+}
+
+/// The look-ups of bit fields, stops, interchange records and categories, which go by their records alone.
+pub(super) fn look_ups_of(table: &Table<'_>) -> Vec<u32> {
     let mut made = look_ups(table.bit_field_records().map(|record| record[BIT_FIELD_NUMBER_AT]).collect());
     made.extend(look_ups(table.stop_records().map(|record| record[STOP_NUMBER_AT]).collect()));
     made.extend(look_ups(table.interchange_records().map(|record| record[INTERCHANGE_STOP_AT]).collect()));
     made.extend(look_ups(table.class_records().map(|record| record[CLASS_CODE_AT]).collect()));
-    made.extend(table.services.iter().map(|service| service.at as u32));
-    made.extend(calls(table));
     made
 }
 
@@ -87,4 +95,17 @@ fn calls(table: &Table<'_>) -> Vec<u32> {
     }
     last.extend(entries);
     last
+}
+
+/// A steady service: "its first call's departure is stated ..; each call between the first and the last has both times stated ..; its last call's arrival is
+/// stated ..; and from the first call's departure on to the last call's arrival no time is below the one before it".
+fn is_steady(service: &Service) -> bool {
+    let last = service.calls.len() - 1;
+    let needed = |(i, call): (usize, &Call)| {
+        let arrival = Some((call.flags & ARRIVAL, call.arrival)).filter(|_| i > 0);
+        let departure = Some((call.flags & DEPARTURE, call.departure)).filter(|_| i < last);
+        [arrival, departure].into_iter().flatten()
+    };
+    let times: Vec<(u32, u32)> = service.calls.iter().enumerate().flat_map(needed).collect();
+    times.iter().all(|(stated, _)| *stated != 0) && times.windows(2).all(|pair| pair[0].1 <= pair[1].1)
 }

@@ -5,11 +5,11 @@ use crate::boundary::{Boundary, Reader};
 use crate::differ::rng_of;
 use crate::generate::boards::board_question;
 use crate::generate::questions::{head_of, last_run};
-use crate::generate::raw_table::parts;
+use crate::generate::raw_table::{parts, RawTable};
 use crate::generate::{damaged_table, valid, Size};
 use crate::layout::{
-    CALL_DEPARTURE_AT, CALL_FLAGS_AT, CALL_PLACE_AT, MOST_ROW_WORDS, NO_BOARDING, ROW_DEPARTURE_AT, ROW_WORDS,
-    SERVICES_AT, STOP_NUMBER_AT, USED_AT,
+    ARRIVAL, CALL_ARRIVAL_AT, CALL_DEPARTURE_AT, CALL_FLAGS_AT, CALL_PLACE_AT, DEPARTURE, MOST_ROW_WORDS, NO_ALIGHTING,
+    NO_BOARDING, ROW_DEPARTURE_AT, ROW_WORDS, SERVICES_AT, STOP_NUMBER_AT, USED_AT,
 };
 use crate::reader::board::{departs, departures, Departure};
 use crate::reader::runs::Runs;
@@ -45,22 +45,75 @@ fn index_of_the_trial_week() {
     assert_eq!(made[14..15], [38]);
     // the last calls at Alpha, Beta, Gamma; then each call
     assert_eq!(made[15..18], [1, 4, 3]);
-    assert_eq!(made[18..], [0, 0, 38, 0, 0, 0, 38, 1, 0, 0, 38, 2, 2, 0, 38, 3]);
-    let mut lent = [9; 36];
-    assert_eq!(index(&table, &mut lent[..33]), Indexed::Refused { number: 29, needed: 34 });
+    assert_eq!(made[18..34], [0, 0, 38, 0, 0, 0, 38, 1, 0, 0, 38, 2, 2, 0, 38, 3]);
+    // its calls are steady
+    assert_eq!(made[34..], [1]);
+    let mut lent = [9; 37];
+    assert_eq!(index(&table, &mut lent[..34]), Indexed::Refused { number: 29, needed: 35 });
     assert_eq!(index(&table[..83], &mut lent), Indexed::Refused { number: 21, needed: 0 });
-    assert_eq!(lent, [9; 36]);
-    assert_eq!(index(&table, &mut lent), Indexed::Words(34));
-    assert_eq!((&lent[..34], &lent[34..]), (&made[..], &[9, 9][..]));
+    assert_eq!(lent, [9; 37]);
+    assert_eq!(index(&table, &mut lent), Indexed::Words(35));
+    assert_eq!((&lent[..35], &lent[35..]), (&made[..], &[9, 9][..]));
     assert_eq!(check_index(&table, &made), 0);
-    assert_eq!(check_index(&table, &lent[..35]), 43);
-    assert_eq!(check_index(&table, &made[..33]), 43);
+    assert_eq!(check_index(&table, &lent[..36]), 43);
+    assert_eq!(check_index(&table, &made[..34]), 43);
     assert_eq!(check_index(&table[..83], &made), 21);
     for at in 0..made.len() {
         let mut other = made.clone();
         other[at] ^= 1;
         assert_eq!(check_index(&table, &other), 43, "word {}", at);
     }
+}
+
+/// The mark of a table after a change to its calls.
+fn mark_after(table: &[u32], change: impl Fn(&mut RawTable)) -> u32 {
+    let mut raw = parts(table);
+    change(&mut raw);
+    let words = raw.words();
+    let made = index_words(&words).unwrap();
+    assert_eq!(check_index(&words, &made), 0);
+    *made.last().unwrap()
+}
+
+/// Document 01's route R has calls at 08:00, 08:10 to 08:12, 08:30 to 08:35, and 08:55.
+#[test]
+fn marks_of_steady_tables() {
+    let table = three_services();
+    let set = |call: usize, at: usize, word: u32| mark_after(&table, |raw| raw.services[0].calls[call][at] = word);
+    assert_eq!(mark_after(&table, |_| ()), 1);
+    assert_eq!(mark_after(&table, |raw| raw.services.clear()), 1);
+    // equal times
+    assert_eq!(set(1, CALL_ARRIVAL_AT, 492), 1);
+    assert_eq!(set(1, CALL_DEPARTURE_AT, 510), 1);
+    assert_eq!(set(0, CALL_DEPARTURE_AT, 490), 1);
+    assert_eq!(set(3, CALL_ARRIVAL_AT, 515), 1);
+    // signs are no times
+    assert_eq!(set(1, CALL_FLAGS_AT, ARRIVAL | DEPARTURE | NO_ALIGHTING | NO_BOARDING), 1);
+    // the first call's arrival and the last call's departure, whatever they are
+    let outer = mark_after(&table, |raw| {
+        let calls = &mut raw.services[0].calls;
+        calls[0][CALL_ARRIVAL_AT..=CALL_FLAGS_AT].copy_from_slice(&[59_999, 480, ARRIVAL | DEPARTURE]);
+        calls[3][CALL_ARRIVAL_AT..=CALL_FLAGS_AT].copy_from_slice(&[535, 0, ARRIVAL | DEPARTURE]);
+    });
+    assert_eq!(outer, 1);
+}
+
+#[test]
+fn marks_of_tables_that_are_not_steady() {
+    let table = three_services();
+    let set = |call: usize, at: usize, word: u32| mark_after(&table, |raw| raw.services[0].calls[call][at] = word);
+    // a minute below the time before
+    assert_eq!(set(1, CALL_ARRIVAL_AT, 479), 0);
+    assert_eq!(set(1, CALL_DEPARTURE_AT, 489), 0);
+    assert_eq!(set(0, CALL_DEPARTURE_AT, 491), 0);
+    assert_eq!(set(3, CALL_ARRIVAL_AT, 514), 0);
+    // a time that is not stated
+    assert_eq!(set(0, CALL_FLAGS_AT, ARRIVAL), 0);
+    assert_eq!(set(1, CALL_FLAGS_AT, ARRIVAL), 0);
+    assert_eq!(set(2, CALL_FLAGS_AT, DEPARTURE), 0);
+    assert_eq!(set(3, CALL_FLAGS_AT, DEPARTURE), 0);
+    // of any service
+    assert_eq!(mark_after(&table, |raw| raw.services[2].calls[1][CALL_ARRIVAL_AT] = 0), 0);
 }
 
 #[test]
