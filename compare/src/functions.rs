@@ -69,10 +69,15 @@ impl Indexes for Reader {
 
 impl Boards for Reader {
     fn board(&self, table: &[u32], index: &[u32], asked: &BoardQuestion, list: &mut [u32]) -> [u64; 3] {
-        match reader::board(table, index, asked, list) {
-            Boarded::Rows(rows) => [0, rows as u64, 0],
-            Boarded::Refused { number, needed } => [number.into(), 0, needed as u64],
-        }
+        board_words(reader::board(table, index, asked, list))
+    }
+}
+
+/// The answer of a board as numbers.
+pub fn board_words(answer: Boarded) -> [u64; 3] {
+    match answer {
+        Boarded::Rows(rows) => [0, rows as u64, 0],
+        Boarded::Refused { number, needed } => [number.into(), 0, needed as u64],
     }
 }
 

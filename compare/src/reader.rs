@@ -13,6 +13,7 @@ pub mod index;
 pub mod lines;
 pub mod load;
 pub mod names;
+pub mod quick_board;
 pub mod runs;
 pub mod service;
 pub mod table;

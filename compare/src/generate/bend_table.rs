@@ -7,11 +7,11 @@ use super::plan::random_frequency;
 use super::raw_table::{parts, RawService, RawTable};
 use super::rng::Rng;
 use crate::layout::{
-    BIT_FIELDS_AT, BIT_FIELD_BITS_AT, BIT_FIELD_NUMBER_AT, BIT_FIELD_WORDS, BIT_WORDS, CALLS_AT, CALL_ARRIVAL_AT,
-    CALL_DEPARTURE_AT, CALL_FLAGS_AT, CALL_NUMBER_AT, CALL_PLACE_AT, CALL_WORDS, CATEGORY_CODE_AT, CLASSES_AT,
-    CLASS_AT, CLASS_CODE_AT, DAYS_FIELD_AT, EXTRAS_AT, EXTRA_FROM_AT, EXTRA_TO_AT, EXTRA_WORDS, FIRST_SERVICE_AT,
-    HEADER_WORDS, INTERCHANGES_AT, INTERCHANGE_STOP_AT, KIND_AT, KIND_T, KIND_Z, OFFSET_AT, REPEATS_AT, SERVICES_AT,
-    SERVICE_WORDS, SIZE_AT, STOPS_AT, STOP_NUMBER_AT, STOP_WORDS, USED_AT,
+    ARRIVAL, BIT_FIELDS_AT, BIT_FIELD_BITS_AT, BIT_FIELD_NUMBER_AT, BIT_FIELD_WORDS, BIT_WORDS, CALLS_AT,
+    CALL_ARRIVAL_AT, CALL_DEPARTURE_AT, CALL_FLAGS_AT, CALL_NUMBER_AT, CALL_PLACE_AT, CALL_WORDS, CATEGORY_CODE_AT,
+    CLASSES_AT, CLASS_AT, CLASS_CODE_AT, DAYS_FIELD_AT, DEPARTURE, EXTRAS_AT, EXTRA_FROM_AT, EXTRA_TO_AT, EXTRA_WORDS,
+    FIRST_SERVICE_AT, HEADER_WORDS, INTERCHANGES_AT, INTERCHANGE_STOP_AT, KIND_AT, KIND_T, KIND_Z, OFFSET_AT,
+    REPEATS_AT, SERVICES_AT, SERVICE_WORDS, SIZE_AT, STOPS_AT, STOP_NUMBER_AT, STOP_WORDS, USED_AT,
 };
 use crate::reader::calendar::{LAST_DAY, MOST_PERIOD_DAYS};
 use crate::reader::forms::MOST_CLASS;
@@ -73,6 +73,23 @@ pub const NO_TABLES: &[Bend] = &[
     wrong_order,
     other_wrong_order,
 ];
+
+/// Damages, by name, that leave each record of a table where it stands, and all that an index finds by a number: first those of calls, which a mark of 1 says nothing of any more.
+pub const IN_PLACE: &[(&str, Bend)] = &[
+    ("a time that falls", time_falls),
+    ("a time not stated", time_not_stated),
+    ("flags over 15", flags_over_15),
+    ("a place not below S", place_not_below_stops),
+    ("a time over 59,999", time_over_59999),
+    ("a call elsewhere", call_elsewhere),
+    ("another bit field", leg_on_other_bitfield),
+    ("a range in wrong order", wrong_order),
+    ("another *A in wrong order", other_wrong_order),
+    ("no such kind", no_such_kind),
+];
+
+/// Damages that leave a table, of the ranges that a stretch goes by.
+pub const RANGES: &[Bend] = &[tear, tear, other_days, other_categories];
 
 /// Damages to words after which they are no table (21).
 pub const POKES: &[Poke] = &[
@@ -244,6 +261,27 @@ fn other_time(rng: &mut Rng, table: &mut RawTable) -> Option<()> {
     let which = rng.pick(&[CALL_ARRIVAL_AT, CALL_DEPARTURE_AT]);
     some_call(rng, table)?[which] = rng.below(60_000);
     Some(())
+}
+
+/// A time a minute below the one before it, an arrival or a departure.
+fn time_falls(rng: &mut Rng, table: &mut RawTable) -> Option<()> {
+    let calls = &mut some_service(rng, table)?.calls;
+    let at = rng.between(1, calls.len() as u32 - 1) as usize;
+    if rng.coin() {
+        calls[at][CALL_ARRIVAL_AT] = calls[at - 1][CALL_DEPARTURE_AT].checked_sub(1)?;
+    } else {
+        calls[at - 1][CALL_DEPARTURE_AT] = calls[at - 1][CALL_ARRIVAL_AT].checked_sub(1)?;
+    }
+    Some(())
+}
+
+/// A time of a call is there, but its flag is not.
+fn time_not_stated(rng: &mut Rng, table: &mut RawTable) -> Option<()> {
+    let has = rng.pick(&[ARRIVAL, DEPARTURE]);
+    let flags = &mut some_call(rng, table)?[CALL_FLAGS_AT];
+    let stated = *flags & has != 0;
+    *flags &= !has;
+    Some(()).filter(|_| stated)
 }
 
 fn other_categories(rng: &mut Rng, table: &mut RawTable) -> Option<()> {

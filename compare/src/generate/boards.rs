@@ -1,12 +1,13 @@
 //! Questions for departure boards (document 02, No. 9), and words beside a table that are its index or nearly so.
 
+use super::bend_table::{IN_PLACE, RANGES};
 use super::questions::{date, last_run, stop};
 use super::raw_table::{parts, RawTable};
 use super::rng::Rng;
 use crate::layout::{CALL_DEPARTURE_AT, CALL_PLACE_AT, KIND_AT, OFFSET_AT, REPEATS_AT, STOP_NUMBER_AT, USED_AT};
 use crate::reader::board::BOARD_ROW_WORDS;
 use crate::reader::runs::Runs;
-use crate::reader::{is_table, BoardQuestion};
+use crate::reader::{index_words, is_table, BoardQuestion};
 
 /// With more runs than this a span is short, so that a board has some thousand rows at most.
 const MANY_RUNS: u64 = 2_000;
@@ -65,6 +66,31 @@ pub fn board_room(rng: &mut Rng, needed: usize) -> usize {
     }
 }
 
+/// A table whose records stand as when these words beside it were made, with calls or ranges damaged since, and with any mark; and a question.
+pub struct Marked {
+    pub table: Vec<u32>,
+    pub index: Vec<u32>,
+    pub asked: BoardQuestion,
+    /// The names of the damages.
+    pub damages: Vec<&'static str>,
+}
+
+/// Such words of a table.
+pub fn marked(rng: &mut Rng, table: &[u32]) -> Option<Marked> {
+    let mut raw = parts(&table[..table[USED_AT] as usize]);
+    if rng.coin() {
+        rng.pick(RANGES)(rng, &mut raw);
+    }
+    let before = raw.words();
+    let mut index = index_words(&before)?;
+    if rng.coin() {
+        damage_mark(rng, &mut index);
+    }
+    let drawn: Vec<_> = (0..rng.below(3)).map(|_| rng.pick(IN_PLACE)).collect();
+    let damages = drawn.into_iter().filter_map(|(name, bend)| bend(rng, &mut raw).map(|()| name)).collect();
+    Some(Marked { table: raw.words(), index, asked: board_question(rng, &before), damages })
+}
+
 /// Words that are not an index, but nearly: a word changed, one more, one less, two exchanged, or the front alone.
 pub fn damaged_index(rng: &mut Rng, index: &[u32]) -> Vec<u32> {
     let mut words = index.to_vec();
@@ -72,7 +98,7 @@ pub fn damaged_index(rng: &mut Rng, index: &[u32]) -> Vec<u32> {
         return vec![0];
     }
     let (at, other) = (rng.index(words.len()), rng.index(words.len()));
-    match rng.below(10) {
+    match rng.below(12) {
         0 => words.push(rng.pick(&[0, 0, 1, u32::MAX])),
         1 => {
             words.pop();
@@ -80,9 +106,18 @@ pub fn damaged_index(rng: &mut Rng, index: &[u32]) -> Vec<u32> {
         2 => words.truncate(at),
         3 => words.swap(at, other),
         4 => words.insert(at, index[other]),
+        5 | 6 => damage_mark(rng, &mut words),
         _ => damage_word(rng, &mut words, at),
     }
     words
+}
+
+/// Any mark: 1, 0, or a word that is none.
+pub fn damage_mark(rng: &mut Rng, index: &mut [u32]) {
+    let any = rng.draw() as u32;
+    if let Some(mark) = index.last_mut() {
+        *mark = rng.pick(&[0, 0, 1, 1, 2, 3, 257, 1 << 31, u32::MAX, any]);
+    }
 }
 
 /// Another value of one word, likely to mean something.

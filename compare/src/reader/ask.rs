@@ -108,6 +108,14 @@ pub fn is_table(words: &[u32]) -> bool {
 
 /// The conditions of 21 in the paper's order, counted exactly; document 02, No. 1: "21 reads the new sizes and refuses a class over 13".
 pub(super) fn table(words: &[u32]) -> Option<Table<'_>> {
+    let mut table = headed(words)?;
+    table.services = services(table.words, table.stops as u32)?;
+    // "a class over 13"
+    Some(table).filter(|table| table.class_records().all(|record| record[CLASS_AT] <= MOST_CLASS))
+}
+
+/// The conditions of 21 that the header alone has; of the table's services none is looked at.
+pub(super) fn headed(words: &[u32]) -> Option<Table<'_>> {
     // "fewer than 8, or words used under 8 or over those lent", where No. 1 says nine
     let used = *words.get(USED_AT)? as usize;
     if used < HEADER_WORDS || used > words.len() {
@@ -127,10 +135,7 @@ pub(super) fn table(words: &[u32]) -> Option<Table<'_>> {
         return None;
     }
     let [bitfields, stops, records, classes] = [b, s, u, k].map(|count| count as usize);
-    let services = services(words, words[STOPS_AT])?;
-    let table = Table { words, bitfields, stops, records, classes, services };
-    // "a class over 13"
-    Some(table).filter(|table| table.class_records().all(|record| record[CLASS_AT] <= MOST_CLASS))
+    Some(Table { words, bitfields, stops, records, classes, services: Vec::new() })
 }
 
 /// "the V records do not end exactly at words used": the services from word 7 on, or nothing if they do not fit.
@@ -151,6 +156,11 @@ fn services(words: &[u32], stops: u32) -> Option<Vec<Service>> {
 
 /// The service at the start of the words, if it stands there whole and keeps the conditions of 21; `at` is where they start in the table.
 fn service(words: &[u32], at: usize, stops: u32) -> Option<Service> {
+    sized(words, at).filter(|service| in_bounds(service, stops))
+}
+
+/// The same by its sizes and its opening line alone.
+fn sized(words: &[u32], at: usize) -> Option<Service> {
     if words.len() < SERVICE_WORDS {
         return None;
     }
@@ -168,7 +178,7 @@ fn service(words: &[u32], at: usize, stops: u32) -> Option<Service> {
     let (calls, rest) = words[SERVICE_WORDS..count].split_at(CALL_WORDS * c);
     let (categories, rest) = rest.split_at(CATEGORY_WORDS * g);
     let (days, others) = rest.split_at(DAYS_WORDS * v);
-    let service = Service {
+    Some(Service {
         at,
         number: words[NUMBER_AT],
         administration: [words[ADMINISTRATION_AT], words[ADMINISTRATION_AT + 1]],
@@ -178,12 +188,7 @@ fn service(words: &[u32], at: usize, stops: u32) -> Option<Service> {
         days: over(days, DAYS_WORDS, [DAYS_FIELD_AT, DAYS_FROM_AT, DAYS_TO_AT]),
         others: over(others, EXTRA_WORDS, [EXTRA_FIELD_AT, EXTRA_FROM_AT, EXTRA_TO_AT]),
         codes: others.chunks_exact(EXTRA_WORDS).map(|other| other[EXTRA_CODE_AT]).collect(),
-    };
-    if in_bounds(&service, stops) {
-        Some(service)
-    } else {
-        None
-    }
+    })
 }
 
 fn call(words: &[u32]) -> Call {
@@ -205,12 +210,28 @@ fn over(words: &[u32], size: usize, [given, from, to]: [usize; 3]) -> Vec<Over> 
 /// "a time over 59,999, flags over 15; a range end not below c or in wrong order"; document 02, No. 10: "21 additionally refuses a place not below S".
 fn in_bounds(service: &Service, stops: u32) -> bool {
     let c = service.calls.len() as u32;
-    let call_ok =
-        |call: &Call| call.place < stops && call.arrival <= 59_999 && call.departure <= 59_999 && call.flags <= 15;
-    let below = |range: &Over| range.from < c && range.to < c;
-    service.calls.iter().all(call_ok)
-        && service.categories.iter().chain(&service.days).all(|range| below(range) && range.from < range.to)
-        && service.others.iter().all(|range| below(range) && range.from <= range.to)
+    service.calls.iter().all(|call| call.is_sound(stops))
+        && service.categories.iter().chain(&service.days).all(|range| range.is_below(c) && range.from < range.to)
+        && service.has_sound_others()
+}
+
+impl Call {
+    pub(super) fn is_sound(&self, stops: u32) -> bool {
+        self.place < stops && self.arrival <= 59_999 && self.departure <= 59_999 && self.flags <= 15
+    }
+}
+
+impl Over {
+    fn is_below(&self, calls: u32) -> bool {
+        self.from < calls && self.to < calls
+    }
+}
+
+impl Service {
+    pub(super) fn has_sound_others(&self) -> bool {
+        let c = self.calls.len() as u32;
+        self.others.iter().all(|range| range.is_below(c) && range.from <= range.to)
+    }
 }
 
 impl<'a> Table<'a> {
@@ -227,6 +248,21 @@ impl<'a> Table<'a> {
     pub(super) fn stop_records(&self) -> impl Iterator<Item = &'a [u32]> {
         let start = HEADER_WORDS + BIT_FIELD_WORDS * self.bitfields;
         self.words[start..].chunks_exact(STOP_WORDS).take(self.stops)
+    }
+
+    /// Its stops S.
+    pub(super) fn stops(&self) -> u32 {
+        self.stops as u32
+    }
+
+    /// The service whose record begins at a word, if its sizes and its opening line are sound.
+    pub(super) fn sized_at(&self, at: usize) -> Option<Service> {
+        self.words.get(at..).and_then(|words| sized(words, at))
+    }
+
+    /// Whether such a service keeps the other conditions of 21 too.
+    pub(super) fn is_sound(&self, service: &Service) -> bool {
+        in_bounds(service, self.stops())
     }
 
     /// The number of the stop at a place, counted in records from 0.
@@ -299,7 +335,7 @@ impl<'a> Table<'a> {
     }
 
     /// "Each leg in order: 34 not exactly one *A VE, 31 its bit field unknown."
-    fn operated(&self, service: &Service, day: u32) -> Result<Vec<bool>, u32> {
+    pub(super) fn operated(&self, service: &Service, day: u32) -> Result<Vec<bool>, u32> {
         let legs = service.calls.len() - 1;
         (0..legs)
             .map(|leg| {
@@ -415,6 +451,10 @@ impl Table<'_> {
     pub(super) fn walked(&self, service: u32, repeat: u32, day: u32) -> Result<Option<Stretch>, u32> {
         // "24 service index not below V"
         let service = self.services.get(service as usize).ok_or(24_u32)?;
+        self.walked_along(service, repeat, day)
+    }
+
+    pub(super) fn walked_along(&self, service: &Service, repeat: u32, day: u32) -> Result<Option<Stretch>, u32> {
         // "25 repeat number over repeats (0 is the run itself)"; No. 8: "25 follows the rule above"
         let late = service.runs.late(repeat).ok_or(25_u32)?;
         let operated = self.operated(service, day)?;

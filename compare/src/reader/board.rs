@@ -2,6 +2,7 @@
 
 use super::ask::{table, Table};
 use super::index::index_of;
+use super::runs::Runs;
 use crate::layout::{DEPARTURE, NO_BOARDING, ROW_DEPARTURE_AT, ROW_FLAGS_AT, ROW_STOP_AT};
 
 /// "a row is these four words": time, service, repeat and place in the route, "service and place from 0".
@@ -40,7 +41,12 @@ impl Departure {
 
 /// "Refusals, after 21, 22, 23: 27, 43 words that are not this table's index, 29 list too short, with the words needed; the list then stays."
 pub fn board(words: &[u32], index: &[u32], asked: &BoardQuestion, list: &mut [u32]) -> Boarded {
-    let rows = match departures(words, Some(index), asked) {
+    listed(departures(words, Some(index), asked), list)
+}
+
+/// A board's departures in the list that is lent, or its refusal.
+pub fn listed(departures: Result<Vec<Departure>, u32>, list: &mut [u32]) -> Boarded {
+    let rows = match departures {
         Ok(rows) => rows,
         Err(number) => return Boarded::Refused { number, needed: 0 },
     };
@@ -73,8 +79,8 @@ pub fn departures(words: &[u32], index: Option<&[u32]>, asked: &BoardQuestion) -
     Ok(found)
 }
 
-/// The departures of a service's runs. A run's rows are those of its run 0, with each time as many minutes later as the run is late; runs come in the order in which they
-/// are late, so that those after the last time need not be looked at. `departures_by_walks` of the tests walks every run instead.
+/// The departures of a service's runs. A run's rows are those of its run 0, with each time as many minutes later as the run is late. `departures_by_walks` of the tests walks
+/// every run instead.
 fn of_service(table: &Table<'_>, service: u32, day: u32, asked: &BoardQuestion) -> Vec<Departure> {
     let mut found = Vec::new();
     // "a run whose walk is refused gives none"
@@ -83,22 +89,22 @@ fn of_service(table: &Table<'_>, service: u32, day: u32, asked: &BoardQuestion) 
         _ => return found,
     };
     let runs = table.services[service as usize].runs;
-    for (i, row) in stretch.rows.iter().enumerate() {
-        if !departs(row, asked.stop) {
-            continue;
-        }
-        for repeat in 0.. {
-            let time = match runs.late(repeat) {
-                Some(late) if row[ROW_DEPARTURE_AT] + late <= asked.last => row[ROW_DEPARTURE_AT] + late,
-                _ => break,
-            };
-            // "the time is not below the first nor above the second"
-            if time >= asked.first {
-                found.push(Departure { time, service, repeat, place: (stretch.first + i) as u32 });
-            }
+    for (place, row) in (stretch.first as u32..).zip(&stretch.rows) {
+        if departs(row, asked.stop) {
+            let within = runs_within(runs, row[ROW_DEPARTURE_AT], asked);
+            found.extend(within.map(|(time, repeat)| Departure { time, service, repeat, place }));
         }
     }
     found
+}
+
+/// The runs that depart within the span, with their times, where run 0 departs at this one. Runs come in the order in which they are late, so that those after the last time need
+/// not be looked at.
+pub(super) fn runs_within(runs: Runs, departure: u32, asked: &BoardQuestion) -> impl Iterator<Item = (u32, u32)> {
+    // "the time is not below the first nor above the second"
+    let BoardQuestion { first, last, .. } = *asked;
+    let times = (0..).map_while(move |repeat| runs.late(repeat).map(|late| (departure + late, repeat)));
+    times.take_while(move |(time, _)| *time <= last).filter(move |(time, _)| *time >= first)
 }
 
 /// Whether a row of a walk is a departure from a stop "where boarding is allowed". The last row of a stretch has none.

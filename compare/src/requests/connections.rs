@@ -80,7 +80,7 @@ pub const ANSWERS: &[&str] = &[
 /// The same by an index: words that are no table have none.
 pub fn quick_answers() -> Vec<&'static str> {
     let plain = ANSWERS.iter().copied().filter(|answer| *answer != "refused 21");
-    plain.chain(["of another index"]).collect()
+    plain.chain(["by another mark", "of another index"]).collect()
 }
 
 const CONNECTIONS: u32 = 12;
@@ -94,7 +94,9 @@ pub fn compare(turn: &mut Turn<'_>, how: By, by: &dyn Connections) -> Result<(),
             By::Table => Vec::new(),
             By::Index => {
                 let index = beside(&mut turn.rng, &table, &before, 6);
-                if !index.is_own {
+                if index.is_own_unmarked {
+                    turn.counts.count("by another mark");
+                } else if !index.is_own {
                     ask_other(turn, &table, &index.words, &parts, by)?;
                     continue;
                 }

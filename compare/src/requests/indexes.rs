@@ -1,16 +1,28 @@
 //! Making and checking indexes (document 02, No. 9).
 
-use super::tables::{beside, loaded, turned};
+use super::tables::{beside, loaded, mark_name, otherwise_marked, turned};
 use super::turn::{lent_words, told};
 use super::{Difference, Turn};
 use crate::boundary::Reader;
 use crate::edge::{Given, Left};
 use crate::functions::Indexes;
-use crate::generate::boards::damage_word;
+use crate::generate::boards::{damage_mark, damage_word};
 use crate::reader::index_words;
 
-pub const ANSWERS: &[&str] =
-    &["made", "made, refused 21", "made, refused 29", "checked", "checked, refused 21", "checked, refused 43"];
+pub const ANSWERS: &[&str] = &[
+    "made",
+    "made, mark 0",
+    "made, mark 1",
+    "made, refused 21",
+    "made, refused 29",
+    "checked",
+    "checked, refused 21",
+    "checked, refused 43",
+    "checked, refused 43 by mark 0",
+    "checked, refused 43 by mark 1",
+    "checked, refused 43 by mark 2",
+    "checked, refused 43 by no such mark",
+];
 
 /// Indexes made and checked on a delivery's table and bent ones; in every fiftieth case an index damaged in each word.
 pub fn compare(turn: &mut Turn<'_>, index: u64, by: &dyn Indexes) -> Result<(), Box<Difference>> {
@@ -22,6 +34,9 @@ pub fn compare(turn: &mut Turn<'_>, index: u64, by: &dyn Indexes) -> Result<(), 
             let beside = beside(&mut turn.rng, &table, &before, 2);
             check(turn, &table, &beside.words, by)?;
         }
+        let mut marked = index_words(&table).unwrap_or_default();
+        damage_mark(&mut turn.rng, &mut marked);
+        check(turn, &table, &marked, by)?;
     }
     if index % 50 == 0 {
         let own = index_words(&before).unwrap_or_default();
@@ -48,6 +63,9 @@ fn make(turn: &mut Turn<'_>, table: &[u32], by: &dyn Indexes) -> Result<(), Box<
         [0, _] => "made".to_string(),
         [number, _] => format!("made, refused {}", number),
     });
+    if let [0, made] = answer {
+        turn.counts.count(format!("made, {}", mark_name(expected.lent[made as usize - 1])));
+    }
     if found != expected {
         return Err(Difference::new(format!("an index made in {} words: {}", room, told(&expected, &found)), given));
     }
@@ -63,6 +81,9 @@ fn check(turn: &mut Turn<'_>, table: &[u32], index: &[u32], by: &dyn Indexes) ->
         [0] => "checked".to_string(),
         [number] => format!("checked, refused {}", number),
     });
+    if let Some(mark) = index_words(table).and_then(|own| otherwise_marked(&own, index)) {
+        turn.counts.count(format!("checked, refused {} by {}", answer[0], mark_name(mark)));
+    }
     if found != expected {
         return Err(Difference::new(format!("an index checked: {}", told(&expected, &found)), given));
     }

@@ -1,8 +1,8 @@
-//! Quick questions beside the plain ones: of a table and its own index exactly the plain answer and rows. Of other index words a question may be refused; but what it answers
+//! Quick questions beside the plain ones: of a table and its own index, under any mark, exactly the plain answer and rows. Of other index words a question may be refused; but what it answers
 //! comes from a record of these words that has the number asked for.
 
 use super::possible::{Possible, REFUSALS};
-use super::tables::{beside, loaded, turned};
+use super::tables::{beside, loaded, otherwise_marked, turned};
 use super::turn::{lent_words, told};
 use super::{Difference, Turn};
 use crate::boundary::{Boundary, Reader};
@@ -40,6 +40,7 @@ pub const ANSWERS: &[&str] = &[
     "name, refused 39",
     "name, refused 40",
     "name, refused 41",
+    "by another mark",
     "other index, answered",
     "other index, refused 43",
     "no table, refused 21",
@@ -54,7 +55,10 @@ pub fn compare(turn: &mut Turn<'_>, index: u64, by: &dyn Quick) -> Result<(), Bo
         let table = turned(&mut turn.rng, &before.table, round);
         let index = beside(&mut turn.rng, &table, &before.table, 4);
         let asked = drawn(turn, &table, &before.bahnhof);
-        ask(turn, &table, &index.words, index.is_own, &asked, by)?;
+        if index.is_own_unmarked {
+            turn.counts.count("by another mark");
+        }
+        ask(turn, &table, &index.words, index.is_own || index.is_own_unmarked, &asked, by)?;
     }
     if index % 50 == 0 {
         let own = index_words(&before.table).unwrap_or_default();
@@ -62,7 +66,8 @@ pub fn compare(turn: &mut Turn<'_>, index: u64, by: &dyn Quick) -> Result<(), Bo
             let mut other = own.clone();
             damage_word(&mut turn.rng, &mut other, at);
             let asked = drawn(turn, &before.table, &before.bahnhof);
-            ask(turn, &before.table, &other, other == own, &asked, by)?;
+            let is_own = other == own || otherwise_marked(&own, &other).is_some();
+            ask(turn, &before.table, &other, is_own, &asked, by)?;
         }
     }
     Ok(())

@@ -41,6 +41,8 @@ pub fn turned(rng: &mut Rng, table: &[u32], turn: u32) -> Vec<u32> {
 pub struct Beside {
     pub words: Vec<u32>,
     pub is_own: bool,
+    /// Its own but for the mark, which no question reads but a board.
+    pub is_own_unmarked: bool,
 }
 
 /// The table's own index; once in so many times a damaged one, that of the table before it was bent, or another's. Words that are no table get that of the table before.
@@ -54,5 +56,22 @@ pub fn beside(rng: &mut Rng, table: &[u32], before: &[u32], rare: u32) -> Beside
         (None, _) => index_words(before).unwrap_or_default(),
     };
     let is_own = own.as_ref() == Some(&words);
-    Beside { words, is_own }
+    let is_own_unmarked = own.map_or(false, |own| otherwise_marked(&own, &words).is_some());
+    Beside { words, is_own, is_own_unmarked }
+}
+
+/// The mark of words that are an index but for it.
+pub fn otherwise_marked(own: &[u32], words: &[u32]) -> Option<u32> {
+    let ((own_mark, own), (mark, words)) = (own.split_last()?, words.split_last()?);
+    Some(*mark).filter(|_| own == words && own_mark != mark)
+}
+
+/// A mark by name.
+pub fn mark_name(mark: u32) -> &'static str {
+    match mark {
+        0 => "mark 0",
+        1 => "mark 1",
+        2 => "mark 2",
+        _ => "no such mark",
+    }
 }

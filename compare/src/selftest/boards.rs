@@ -12,6 +12,7 @@ use crate::layout::{
     NO_BOARDING, ROW_DEPARTURE_AT, ROW_WORDS, SERVICES_AT, STOP_NUMBER_AT, USED_AT,
 };
 use crate::reader::board::{departs, departures, Departure};
+use crate::reader::quick_board::quick_departures;
 use crate::reader::runs::Runs;
 use crate::reader::{board, check_index, index, index_words, is_table, BoardQuestion, Boarded, Indexed};
 
@@ -182,6 +183,85 @@ fn words_needed_pass_2_to_32() {
     assert!(services > 1_790 && 1_790 * runs * 4 > 1 << 32);
 }
 
+/// Service and place of each row at Beta on Friday by words that were the index of the three services before a change, under a mark.
+fn quickly(mark: u32, change: impl Fn(&mut RawTable)) -> Vec<[u32; 2]> {
+    let table = three_services();
+    let mut index = index_words(&table).unwrap();
+    *index.last_mut().unwrap() = mark;
+    let mut raw = parts(&table);
+    change(&mut raw);
+    let rows = quick_departures(&raw.words(), &index, &asked(BETA, FRIDAY, 492, 492)).unwrap().unwrap();
+    rows.iter().map(|row| [row.service, row.place]).collect()
+}
+
+/// A quick board under a mark of 1 does not look at the other calls of a run, nor at the times before; under any other mark it goes by the walk.
+#[test]
+fn quick_boards_by_their_marks() {
+    let both = [[0, 1], [2, 0]];
+    for mark in [0, 1, 2, u32::MAX] {
+        assert_eq!(quickly(mark, |_| ()), both);
+    }
+    let call = |at: usize, word: usize, value: u32| {
+        let by = |mark: u32| quickly(mark, |raw| raw.services[0].calls[at][word] = value);
+        assert_eq!(by(2), by(0));
+        [by(1), by(0)].map(|rows| rows == both)
+    };
+    // a time that falls, before and behind the call; one that is not stated, there too
+    assert_eq!(call(0, CALL_DEPARTURE_AT, 491), [true, false]);
+    assert_eq!(call(3, CALL_ARRIVAL_AT, 0), [true, false]);
+    assert_eq!(call(2, CALL_FLAGS_AT, 0), [true, false]);
+    assert_eq!(call(1, CALL_FLAGS_AT, ARRIVAL), [true, false]);
+    // calls that are not sound, elsewhere and there
+    assert_eq!([call(2, CALL_FLAGS_AT, 16), call(1, CALL_FLAGS_AT, 19)], [[true, false], [false; 2]]);
+    assert_eq!([call(2, CALL_PLACE_AT, 3), call(1, CALL_PLACE_AT, 3)], [[true, false], [false; 2]]);
+    assert_eq!([call(2, CALL_ARRIVAL_AT, 60_000), call(1, CALL_ARRIVAL_AT, 60_000)], [[true, false], [false; 2]]);
+    // no boarding, another stop
+    assert_eq!(call(1, CALL_FLAGS_AT, ARRIVAL | DEPARTURE | NO_BOARDING), [false; 2]);
+    assert_eq!(call(1, CALL_PLACE_AT, 2), [false; 2]);
+}
+
+/// Ranges of a run whose last arrival falls, under a mark of 1: where they do not follow each other the walk is asked, and is refused.
+#[test]
+fn quick_boards_by_their_ranges() {
+    let is_listed = |days: [[u32; 3]; 3], categories: [[u32; 3]; 2]| {
+        let mut raw = parts(&three_services());
+        (raw.services[0].days, raw.services[0].categories) = (days.to_vec(), categories.to_vec());
+        let mut index = index_words(&raw.words()).unwrap();
+        raw.services[0].calls[3][CALL_ARRIVAL_AT] = 0;
+        let mut by = |mark: u32| {
+            *index.last_mut().unwrap() = mark;
+            quick_departures(&raw.words(), &index, &asked(BETA, FRIDAY, 492, 492)).unwrap().unwrap().len() == 2
+        };
+        assert!(!by(0));
+        by(1)
+    };
+    let (days, categories) = ([[1, 0, 1], [0, 1, 2], [1, 2, 3]], [[5, 0, 2], [5, 2, 3]]);
+    assert!(is_listed(days, categories));
+    // exactly one over each leg, but not in order
+    assert!(!is_listed([days[1], days[0], days[2]], categories));
+    assert!(!is_listed(days, [categories[1], categories[0]]));
+    // a leg with none or two, or an end behind
+    assert!(!is_listed([days[0], days[1], days[1]], categories));
+    assert!(!is_listed(days, [[5, 0, 1], [5, 2, 3]]));
+    assert!(!is_listed(days, [[5, 0, 2], [5, 1, 3]]));
+    // a bit field that there is not, whether before or behind the call
+    assert!(!is_listed([[9, 0, 1], days[1], days[2]], categories));
+    assert!(!is_listed([days[0], days[1], [9, 2, 3]], categories));
+}
+
+/// On Saturday the outer legs are operated and the one between is not: no place is left, under any mark.
+#[test]
+fn quick_boards_of_two_stretches() {
+    let mut raw = parts(&three_services());
+    raw.services[0].days = vec![[0, 0, 1], [1, 1, 2], [0, 2, 3]];
+    let (table, mut index) = (raw.words(), index_words(&raw.words()).unwrap());
+    for (mark, date, count) in [(0, SATURDAY, 0), (1, SATURDAY, 0), (0, FRIDAY, 1), (1, FRIDAY, 1)] {
+        *index.last_mut().unwrap() = mark;
+        let rows = quick_departures(&table, &index, &asked(ALPHA, date, 0, u32::MAX)).unwrap().unwrap();
+        assert_eq!(rows.len(), count);
+    }
+}
+
 /// "The answer equals the one from walking every run", by the walk question as it is.
 fn departures_by_walks(table: &[u32], asked: &BoardQuestion) -> Vec<Departure> {
     let mut found = Vec::new();
@@ -225,6 +305,8 @@ fn boards_are_those_of_all_walks() {
         }
         let question = board_question(rng, &table);
         if let Ok(found) = departures(&table, None, &question) {
+            let own = index_words(&table).unwrap();
+            assert_eq!(quick_departures(&table, &own, &question), Some(Ok(found.clone())), "turn {}", index);
             let mut without_places: Vec<Departure> = found.iter().map(|row| Departure { place: 0, ..*row }).collect();
             without_places.sort_unstable_by_key(|row| (row.service, row.repeat, row.time));
             assert_eq!(without_places, departures_by_walks(&table, &question), "turn {}", index);

@@ -5,11 +5,13 @@ use crate::edge::{Edge, Edges, Side};
 use crate::functions::{Boards, Connections, Indexes, Quick, Writes};
 use crate::generate::raw_table::parts;
 use crate::layout::{
-    CALL_FLAGS_AT, FIRST_SERVICE_AT, KIND_AT, KIND_T, NO_ALIGHTING, NO_BOARDING, OFFSET_AT, REPEATS_AT, USED_AT,
+    CALLS_AT, CALL_FLAGS_AT, CALL_PLACE_AT, CALL_WORDS, DEPARTURE, FIRST_SERVICE_AT, KIND_AT, KIND_T, NO_ALIGHTING,
+    NO_BOARDING, OFFSET_AT, REPEATS_AT, SERVICE_WORDS, SIZE_AT, STOPS_AT, USED_AT,
 };
 use crate::reader::board::{departures, BOARD_ROW_WORDS};
 use crate::reader::connection::PART_WORDS;
 use crate::reader::index_words;
+use crate::reader::quick_board::quick_departures;
 use crate::reader::write::text_of;
 use crate::reader::{is_table, BoardQuestion};
 use crate::requests::{boards, case, connections, indexes, isolation, quick, writes, Counts, Difference, Turn};
@@ -187,10 +189,75 @@ fn given(rows: Result<Vec<crate::reader::board::Departure>, u32>, list: &mut [u3
     [0, rows.len() as u64, 0]
 }
 
+/// Quick boards of the reader; checked ones where it has none.
+struct Quickly;
+
+impl Boards for Quickly {
+    fn board(&self, table: &[u32], index: &[u32], asked: &BoardQuestion, list: &mut [u32]) -> [u64; 3] {
+        match quick_departures(table, index, asked) {
+            Some(rows) => given(rows, list),
+            None => Reader.board(table, index, asked, list),
+        }
+    }
+}
+
+slips!(
+    MARK_SLIPS,
+    MarkSlip: MarkUnread, MarkTaken, NotZeroTaken, LowBitTaken, TableAlone, FlagsCut, PlaceCut, DepartureStated
+);
+
+impl Boards for MarkSlip {
+    fn board(&self, table: &[u32], index: &[u32], asked: &BoardQuestion, list: &mut [u32]) -> [u64; 3] {
+        use MarkSlip::*;
+        let mut words = index.to_vec();
+        if let Some(mark) = words.last_mut() {
+            match self {
+                MarkUnread => *mark = 0,
+                MarkTaken => *mark = 1,
+                NotZeroTaken => *mark = u32::from(*mark != 0),
+                LowBitTaken => *mark &= 1,
+                TableAlone if !is_table(table) => *mark = 0,
+                _ => {}
+            }
+        }
+        let seen = match self {
+            FlagsCut => calls_changed(table, |call| call[CALL_FLAGS_AT] &= 15),
+            PlaceCut => calls_changed(table, |call| call[CALL_PLACE_AT] %= table[STOPS_AT].max(1)),
+            // as a walk needs it
+            DepartureStated => calls_changed(table, |call| {
+                if call[CALL_FLAGS_AT] & DEPARTURE == 0 {
+                    call[CALL_FLAGS_AT] |= NO_BOARDING;
+                }
+            }),
+            _ => table.to_vec(),
+        };
+        Quickly.board(&seen, &words, asked, list)
+    }
+}
+
+/// The words with each call changed, as far as records stand one behind the other.
+fn calls_changed(table: &[u32], change: impl Fn(&mut [u32])) -> Vec<u32> {
+    let mut words = table.to_vec();
+    let mut at = if is_headed(table) { table[FIRST_SERVICE_AT] as usize } else { table.len() };
+    while let Some(head) = words.get(at..).filter(|head| head.len() >= SERVICE_WORDS) {
+        let (size, calls) = (head[SIZE_AT] as usize, CALL_WORDS * head[CALLS_AT] as usize);
+        if size < SERVICE_WORDS + calls || size > head.len() {
+            break;
+        }
+        words[at + SERVICE_WORDS..][..calls].chunks_exact_mut(CALL_WORDS).for_each(&change);
+        at += size;
+    }
+    words
+}
+
 #[test]
 fn boards_compared() {
     passes(1_500, boards::ANSWERS, |turn, _| boards::compare(turn, boards::By::Checked, &Reader));
-    passes(1_500, &boards::quick_answers(), |turn, _| boards::compare(turn, boards::By::Quick, &Reader));
+    passes(3_000, &boards::quick_answers(), |turn, _| boards::compare(turn, boards::By::Quick, &Quickly));
+    for slip in MARK_SLIPS {
+        let found = finds(3_000, |turn, _| boards::compare(turn, boards::By::Quick, slip));
+        assert!(found, "{:?} was not found", slip);
+    }
     for slip in BOARD_SLIPS {
         let found = finds(3_000, |turn, _| boards::compare(turn, boards::By::Checked, slip));
         assert!(found, "{:?} was not found", slip);
