@@ -24,13 +24,15 @@ fn made() {
     let words = words();
     let table = Table::new(&words);
     let needed = table.index_words().unwrap();
-    // a bit field, three stops, an interchange record and a category; a service; three stops; four calls
-    assert_eq!(needed, 2 * 6 + 1 + 3 + 4 * 4);
+    // a bit field, three stops, an interchange record and a category; a service; three stops; four calls; the mark
+    assert_eq!(needed, 2 * 6 + 1 + 3 + 4 * 4 + 1);
     let mut lent = vec![9; needed + 2];
     assert_eq!(table.make_index(&mut lent[..needed - 1]), Err(Refusal::RowsTooShort { needed }));
     assert!(lent.iter().all(|word| *word == 9));
     assert_eq!(table.make_index(&mut lent), Ok(needed));
     assert_eq!((&lent[..needed], &lent[needed..]), (&index(table)[..], &[9, 9][..]));
+    // every table that was loaded is steady
+    assert_eq!(lent[needed - 1], 1);
     assert_eq!(Table::new(&[]).index_words(), Err(Refusal::NotATable));
 }
 

@@ -36,6 +36,9 @@ impl<'a> Table<'a> {
     /// Makes the index of the table in the words lent, and says how many it has: so many from the first, later ones stay. The time grows with the
     /// table, once.
     ///
+    /// Its last word is the mark: 1 if all times that a run can need are stated and never fall, as in every table that was loaded, else 0. A board by the
+    /// index then looks at no other calls than those at its stop.
+    ///
     /// # Errors
     ///
     /// 21, or 29 with the words needed; the words stay as lent.
@@ -64,7 +67,7 @@ impl<'a> Table<'a> {
     /// The table beside its index, to be asked by it.
     ///
     /// **An index belongs to the words it was made of.** Beside the words of another table, or of last night's, a question may refuse, or walk another service than the one that was
-    /// meant. Any words may be given; whether the two belong together [`Table::check_index`] says, and no question here. A
+    /// meant, and a board may list a run that a walk refuses. Any words may be given; whether the two belong together [`Table::check_index`] says, and no question here. A
     /// [`Timetable`](crate::Timetable) keeps the two together by itself.
     pub fn with_index(self, index: &'a [u32]) -> Indexed<'a> {
         Indexed { table: self, index }
