@@ -10,14 +10,20 @@ use crate::layout::{FIRST_SERVICE_AT, NO_BOARDING, ROW_DEPARTURE_AT, SERVICES_AT
 /// Words of a call in an index.
 const ENTRY_WORDS: usize = 4;
 
-/// The departures of a quick board, and its refusals but 29. `None` where the papers do not say the answer: the words have not the length of an index, are not this table's in what
-/// finds records by their numbers, or hold calls that no index has.
+/// The departures of a quick board, and its refusals but 29. `None` where the papers do not say the answer: the words are not this table's in what finds records by their numbers, or
+/// hold calls that no index has.
 pub fn quick_departures(words: &[u32], index: &[u32], asked: &BoardQuestion) -> Option<Result<Vec<Departure>, u32>> {
     let table = match headed(words) {
         Some(table) => table,
         None => return Some(Err(21)),
     };
-    let beside = Beside::of(&table, index)?;
+    let beside = match Beside::of(&table, index) {
+        Some(beside) => beside,
+        None => return Some(Err(43)),
+    };
+    if !beside.finds_as_own() {
+        return None;
+    }
     let [d, m, y] = asked.date;
     let day = match table.day_of(d, m, y) {
         Ok(day) => day,
@@ -41,9 +47,10 @@ pub fn quick_departures(words: &[u32], index: &[u32], asked: &BoardQuestion) -> 
     Some(Ok(found))
 }
 
-/// The parts of the words beside a table, behind its look-ups.
+/// The parts of the words beside a table.
 struct Beside<'a> {
     table: &'a Table<'a>,
+    look_ups: &'a [u32],
     /// The place of each service's record.
     places: &'a [u32],
     /// The last call at each stop.
@@ -53,13 +60,23 @@ struct Beside<'a> {
     mark: u32,
 }
 
+/// So many words from the front, and the rest.
+fn front(words: &[u32], count: usize) -> Option<(&[u32], &[u32])> {
+    Some((words.get(..count)?, words.get(count..)?))
+}
+
 impl<'a> Beside<'a> {
+    /// `None` where 43 is told by the length (D119): an index has "at least the look-ups' words and one for each stop, and whole entries of four words behind them", and the mark.
     fn of(table: &'a Table<'a>, index: &'a [u32]) -> Option<Beside<'a>> {
-        let (mark, rest) = index.strip_prefix(&look_ups_of(table)[..])?.split_last()?;
-        let (services, stops) = (table.words[SERVICES_AT] as usize, table.stops() as usize);
-        let (places, rest) = (rest.get(..services)?, rest.get(services..)?);
-        let (last, calls) = (rest.get(..stops)?, rest.get(stops..)?);
-        Some(Beside { table, places, last, calls, mark: *mark }).filter(|_| calls.len() % ENTRY_WORDS == 0)
+        let (mark, rest) = index.split_last()?;
+        let (look_ups, rest) = front(rest, look_ups_of(table).len())?;
+        let (places, rest) = front(rest, table.words[SERVICES_AT] as usize)?;
+        let (last, calls) = front(rest, table.stops() as usize)?;
+        Some(Beside { table, look_ups, places, last, calls, mark: *mark }).filter(|_| calls.len() % ENTRY_WORDS == 0)
+    }
+
+    fn finds_as_own(&self) -> bool {
+        self.look_ups == look_ups_of(self.table)
     }
 
     /// Service and place in the route of each call at a stop: "every place of the stop section that has it" (D127), from its last call on. `None` where a call is not before the one

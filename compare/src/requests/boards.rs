@@ -50,6 +50,7 @@ const BY_WORDS: &[&str] = &[
     "by other words, refused 23",
     "by other words, refused 27",
     "by other words, refused 29",
+    "by other words, refused 43",
     "by mark 0",
     "by mark 1",
     "by mark 2",
