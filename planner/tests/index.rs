@@ -3,7 +3,7 @@
 mod trial_week;
 
 use estelunya_planner::by_number::{category_word, load, room, Date, Table, Walk};
-use estelunya_planner::{Refusal, MOST_ROW_WORDS};
+use estelunya_planner::{layout, Refusal, MOST_ROW_WORDS};
 use trial_week::TRIAL_WEEK;
 
 fn words() -> Vec<u32> {
@@ -31,9 +31,28 @@ fn made() {
     assert!(lent.iter().all(|word| *word == 9));
     assert_eq!(table.make_index(&mut lent), Ok(needed));
     assert_eq!((&lent[..needed], &lent[needed..]), (&index(table)[..], &[9, 9][..]));
-    // every table that was loaded is steady
-    assert_eq!(lent[needed - 1], 1);
     assert_eq!(Table::new(&[]).index_words(), Err(Refusal::NotATable));
+}
+
+/// The mark, the last word: 1 of every table that was loaded, 0 where a time falls. By either a board is that of the walks.
+#[test]
+fn marked() {
+    let mut words = words();
+    let board = |words: &[u32], own: &[u32]| {
+        let date = Date { day: 5, month: 12, year: 2025 };
+        Table::new(words).with_index(own).board(1_000_011, date, 0..=u32::MAX).unwrap().len()
+    };
+    let own = index(Table::new(&words));
+    assert_eq!((own.last(), board(&words, &own)), (Some(&1), 1));
+    // the arrival of the last of four calls: no walk takes it now
+    let first = words[layout::FIRST_SERVICE_AT] as usize + layout::SERVICE_WORDS;
+    words[first + 3 * layout::CALL_WORDS + layout::CALL_ARRIVAL_AT] = 0;
+    let other = index(Table::new(&words));
+    assert_eq!((other.last(), board(&words, &other)), (Some(&0), 0));
+    assert_eq!(other[..other.len() - 1], own[..own.len() - 1]);
+    // the mark of words that were altered since says what it said
+    assert_eq!(Table::new(&words).check_index(&own), Err(Refusal::NotItsIndex));
+    assert_eq!(board(&words, &own), 1);
 }
 
 #[test]
@@ -127,7 +146,7 @@ fn written() {
 #[test]
 fn not_writable() {
     let mut words = words();
-    let place = words[estelunya_planner::layout::FIRST_SERVICE_AT] as usize;
-    words[place + estelunya_planner::layout::NUMBER_AT] = 100_000;
+    let place = words[layout::FIRST_SERVICE_AT] as usize;
+    words[place + layout::NUMBER_AT] = 100_000;
     assert_eq!(Table::new(&words).fplan(), Err(Refusal::NotWritable));
 }
