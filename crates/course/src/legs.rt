@@ -3,6 +3,7 @@
 // `w` are words with a sound header, `x` an index or none, `s` the words from the service's record on.
 use timetable::DAYS_AT;
 use timetable::DAYS_WORDS;
+use timetable::DayWords;
 ghost use mathlib.Core.Path.{_≡_};
 ghost use mathlib.Core.List.{map};
 ghost use mathlib.Core.Bool.{true};
@@ -11,6 +12,7 @@ ghost use lib.ListN.{length, drop};
 ghost use Rattle.base.specs.Lists.{every, some-of, upto, below};
 ghost use Rattle.timetable.specs.Layout.{daySize, mostPeriodDays};
 ghost use Rattle.timetable.specs.Table.{rowsIn, dayAt, dayPlace, serviceAt, sizesSound};
+ghost use Rattle.timetable.specs.Inner.Words.{dayHeld};
 ghost use Rattle.timetable.specs.Legs.{operatedBy};
 ghost use Rattle.timetable.specs.Run.{legRefusal, firstRefusal};
 ghost use Rattle.index.specs.Index.{viewIn};
@@ -29,7 +31,8 @@ pub struct DayLegs {
 
 // ---- range by range
 
-// What n ranges that follow each other from leg 0 on say of day k of the period.
+// What n ranges that follow each other from leg 0 on say of day k of the period. Their words are read here: handed on to a reader, `v` would be handed to this function
+// in memory.
 pub fn day_legs(w: &[u32], x: &[u32], v: &[u32], n: u32, k: u32) -> DayLegs
     requires { ⌜ Ready (now w) (now x) × (k < mostPeriodDays) ⌝ }
     requires { ⌜ n * daySize ≤ length (now v) ⌝ }
@@ -169,7 +172,7 @@ fn ranges_known(w: &[u32], x: &[u32], v: &[u32], n: u32, leg: u32) -> bool
     let mut p: usize = 0;
     let mut left = n;
     while 0 < left {
-        if !known_at(w, x, v, p, leg) {
+        if !range_known(w, x, timetable::day_at(v, p), leg) {
             return false;
         }
         p += DAYS_WORDS;
@@ -178,28 +181,18 @@ fn ranges_known(w: &[u32], x: &[u32], v: &[u32], n: u32, leg: u32) -> bool
     true
 }
 
-// Whether the range at a place has a known bit field, if it covers a leg.
-fn known_at(w: &[u32], x: &[u32], v: &[u32], p: usize, leg: u32) -> bool
-    requires { ⌜ Ready (now w) (now x) ⌝ }
-    requires { ⌜ p + daySize ≤ length (now v) ⌝ }
-    ensures { λ r. ⌜ r ≡ rangeKnown (viewIn (now (w .entry)) (now (x .entry))) leg (dayAt (drop p (now (v .entry)))) ⌝ }
-{
-    range_known(w, x, v[p], v[p + 1], v[p + 2], leg)
-}
-
 // Whether a range has a known bit field, if it covers a leg.
-fn range_known(w: &[u32], x: &[u32], field: u32, from: u32, to: u32, leg: u32) -> bool
+fn range_known(w: &[u32], x: &[u32], range: DayWords, leg: u32) -> bool
     requires { ⌜ Ready (now w) (now x) ⌝ }
-    ensures { λ r. ⌜ r ≡ rangeKnown (viewIn (now (w .entry)) (now (x .entry))) leg
-        (record { field = field; legs = record { from = from; to = to } }) ⌝ }
+    ensures { λ r. ⌜ r ≡ rangeKnown (viewIn (now (w .entry)) (now (x .entry))) leg (dayHeld range) ⌝ }
 {
-    if leg < from {
+    if leg < range.from {
         return true;
     }
-    if to <= leg {
+    if range.to <= leg {
         return true;
     }
-    let f = index::field_words(w, x, field);
+    let f = index::field_words(w, x, range.field);
     f.known
 }
 
@@ -243,7 +236,7 @@ fn ranges_run(w: &[u32], x: &[u32], v: &[u32], n: u32, leg: u32, k: u32) -> bool
     let mut p: usize = 0;
     let mut left = n;
     while 0 < left {
-        if runs_at(w, x, v, p, leg, k) {
+        if range_runs(w, x, timetable::day_at(v, p), leg, k) {
             return true;
         }
         p += DAYS_WORDS;
@@ -252,29 +245,18 @@ fn ranges_run(w: &[u32], x: &[u32], v: &[u32], n: u32, leg: u32, k: u32) -> bool
     false
 }
 
-// Whether the range at a place covers a leg and runs on day k.
-fn runs_at(w: &[u32], x: &[u32], v: &[u32], p: usize, leg: u32, k: u32) -> bool
-    requires { ⌜ Ready (now w) (now x) × (k < mostPeriodDays) ⌝ }
-    requires { ⌜ p + daySize ≤ length (now v) ⌝ }
-    ensures { λ r. ⌜ r ≡
-        rangeRuns (viewIn (now (w .entry)) (now (x .entry))) k leg (dayAt (drop p (now (v .entry)))) ⌝ }
-{
-    range_runs(w, x, v[p], v[p + 1], v[p + 2], leg, k)
-}
-
 // Whether a range covers a leg and runs on day k.
-fn range_runs(w: &[u32], x: &[u32], field: u32, from: u32, to: u32, leg: u32, k: u32) -> bool
+fn range_runs(w: &[u32], x: &[u32], range: DayWords, leg: u32, k: u32) -> bool
     requires { ⌜ Ready (now w) (now x) × (k < mostPeriodDays) ⌝ }
-    ensures { λ r. ⌜ r ≡ rangeRuns (viewIn (now (w .entry)) (now (x .entry))) k leg
-        (record { field = field; legs = record { from = from; to = to } }) ⌝ }
+    ensures { λ r. ⌜ r ≡ rangeRuns (viewIn (now (w .entry)) (now (x .entry))) k leg (dayHeld range) ⌝ }
 {
-    if leg < from {
+    if leg < range.from {
         return false;
     }
-    if to <= leg {
+    if range.to <= leg {
         return false;
     }
-    let own = index::field_words(w, x, field);
+    let own = index::field_words(w, x, range.field);
     lookups::field_runs(own, k)
 }
 

@@ -5,13 +5,15 @@ use mathlib.Core.Bool.{Bool, true, false, cond}
 use Prim.Native.Nat.{ℕ, zero, suc, _+_, _-_, _≤_, _<_}
 use native.Mathlib.Nat.{zero-add, add-zero, add-assoc}
 use native.Mathlib.Omega.{arith}
-use lib.ListN.{getD, drop}
-use lib.Seq.{drop-drop, getD-drop}
+use lib.ListN.{drop}
+use lib.Seq.{drop-drop}
 use Rattle.base.specs.Lists.{countIf}
 use Rattle.base.proofs.Laws.{tests}
 use Rattle.timetable.specs.Delivery.{Legs}
 use Rattle.timetable.specs.Legs.{covers}
 use Rattle.timetable.specs.Table.{rowsIn, legsAt}
+use Rattle.timetable.specs.Inner.Words.{legsRead, legsHeld}
+use Rattle.timetable.specs.declared.LegWords.{LegWords}
 use Rattle.timetable.proofs.Rows.{room-start, room-now, room-fits, room-next, rows-left}
 use Rattle.cover.specs.declared.FirstRange.{FirstRange}
 use Rattle.cover.specs.declared.FirstRange.the-variants.{At, Nowhere}
@@ -19,11 +21,8 @@ use Rattle.cover.specs.Inner.Cover.{legsIn, coverPlaceFrom}
 
 -- ---- a range is read where it stands
 
-pub covers-read : (w : List ℕ) (at k leg : ℕ) (t : Bool) → t ≡ covers leg (record { from = getD w (at + k) 0; to = getD w (at + k + 1) 0 }) → t ≡ covers leg (legsAt k (drop at w))
-covers-read w at k leg t e =
-    let a : getD (drop at w) k 0 ≡ getD w (at + k) 0 = getD-drop at w k 0 in
-    let b : getD (drop at w) (k + 1) 0 ≡ getD w (at + k + 1) 0 = getD-drop at w (k + 1) 0 ∙ ap (λ (i : ℕ). getD w i 0) (omega arith) in
-    rw (a, b) e
+pub covers-read : (w : List ℕ) (at k leg : ℕ) (g : LegWords) (t : Bool) → g ≡ legsRead (legsAt k (drop at w)) → t ≡ covers leg (legsHeld g) → t ≡ covers leg (legsAt k (drop at w))
+covers-read w at k leg g t q e = e ∙ ap (λ (x : LegWords). covers leg (legsHeld x)) q
 
 -- ---- how many cover a leg
 

@@ -6,7 +6,6 @@ use mathlib.Core.Bool.{Bool, true, false, not, _&&_}
 use Prim.Native.Nat.{ℕ, zero, suc, _+_, _-_, _≤_, _<_}
 use native.Mathlib.Omega.{arith}
 use lib.ListN.{getD, drop}
-use lib.Seq.{getD-drop}
 use lib.Dec.{eqb, ltb}
 use borrow.Author.Tests.{not-true, not-false, eq-eqb, ne-eqb, eqb-true, ltb-true, ltb-false, le-leb, lt-leb, lt-ltb, le-ltb}
 use Rattle.base.specs.Lists.{countIf}
@@ -15,25 +14,26 @@ use Rattle.base.proofs.Loops.{and-true}
 use Rattle.timetable.specs.Delivery.{Legs}
 use Rattle.timetable.specs.Legs.{covers, covering}
 use Rattle.timetable.specs.Table.{rowsIn, legsAt}
-use Rattle.timetable.proofs.Rows.{room-start, room-now, room-fits, room-next, rows-left}
+use Rattle.timetable.specs.Inner.Words.{legsRead, legsHeld}
+use Rattle.timetable.specs.declared.LegWords.{LegWords}
+use Rattle.timetable.proofs.Rows.{room-start, room-now, room-fits, room-next, rows-left, legs-is}
 use Rattle.cover.specs.Inner.Cover.{legsIn, begins, inTurn}
 
 -- ---- the loop: `left` ranges stand at place `at` and after it, and `leg` is where the one before ends
 
 -- the range at `at`, read where it stands
-module _ (w : List ℕ) (at k : ℕ) where
-  from-read : getD (drop at w) k 0 ≡ getD w (at + k) 0
-  from-read = getD-drop at w k 0
+pub end-read : (w : List ℕ) (at k : ℕ) (g : LegWords) → g ≡ legsRead (legsAt k (drop at w)) → g .to ≡ legsAt k (drop at w) .to
+end-read w at k g q = ap (λ (x : LegWords). x .to) q
 
-  pub end-read : getD w (at + k + 1) 0 ≡ legsAt k (drop at w) .to
-  end-read = sym (getD-drop at w (k + 1) 0 ∙ ap (λ (i : ℕ). getD w i 0) (omega arith))
+module _ (w : List ℕ) (at k leg : ℕ) where
+  begins-read : begins leg (record { from = getD w (at + k) 0; to = getD w (at + k + 1) 0 }) ≡ begins leg (legsAt k (drop at w))
+  begins-read = ap (λ (x : LegWords). begins leg (legsHeld x)) (legs-is w at k)
 
-  module _ (leg : ℕ) where
-    pub begins-no : (getD w (at + k) 0 ≡ leg → ⊥) → false ≡ begins leg (legsAt k (drop at w))
-    begins-no h = rw (from-read, ne-eqb (getD w (at + k) 0) leg h)
+  pub begins-no : (getD w (at + k) 0 ≡ leg → ⊥) → false ≡ begins leg (legsAt k (drop at w))
+  begins-no h = rw (ne-eqb (getD w (at + k) 0) leg h) at begins-read
 
-    pub begins-yes : getD w (at + k) 0 ≡ leg → ltb leg (getD w (at + k + 1) 0) ≡ begins leg (legsAt k (drop at w))
-    begins-yes h = rw (from-read, eq-eqb (getD w (at + k) 0) leg h, end-read)
+  pub begins-yes : getD w (at + k) 0 ≡ leg → ltb leg (getD w (at + k + 1) 0) ≡ begins leg (legsAt k (drop at w))
+  begins-yes h = rw (eq-eqb (getD w (at + k) 0) leg h) at begins-read
 
 -- t says whether it begins at `leg`
 module _ (w : List ℕ) (width left at leg legs : ℕ) (r t : Bool) (h : 0 < left) (e : t ≡ begins leg (legsAt (width - 2) (drop at w))) (v : inTurn leg legs (legsIn width left (drop at w)) ≡ r) where

@@ -15,8 +15,8 @@ use Rattle.timetable.specs.declared.Announced.{Announced}
 use Rattle.timetable.specs.declared.Call.{Call}
 use Rattle.timetable.specs.declared.CallLine.{CallLine}
 use Rattle.timetable.specs.declared.Opening.{Opening}
-use Rattle.timetable.specs.declared.Part.{Part}
-use Rattle.timetable.specs.declared.Part.the-variants.{Category, Days, Extra}
+use Rattle.timetable.specs.declared.RangeKind.{RangeKind}
+use Rattle.timetable.specs.declared.RangeKind.the-variants.{Category, Days, Extra}
 use Rattle.timetable.specs.declared.RangeLine.{RangeLine}
 use Rattle.timetable.specs.declared.Told.{Told}
 use Rattle.timetable.specs.declared.Told.the-variants.{Skip, Other, Broken, Opens, Ranges, Calls}
@@ -27,7 +27,7 @@ use Rattle.draft.specs.declared.Counts.{Counts}
 
 -- ---- counts with one line more
 
-part-length : (p : Part) (before : List Line) (l : Line) → length (partLines p (before ++ (l ∷ []))) ≡ length (partLines p before) + length (gathered (ofPart p) (asRange (toldIn (l .text))))
+part-length : (p : RangeKind) (before : List Line) (l : Line) → length (partLines p (before ++ (l ∷ []))) ≡ length (partLines p before) + length (gathered (ofPart p) (asRange (toldIn (l .text))))
 part-length p before l = ap length (part-more p before l) ∙ length-append (partLines p before) (gathered (ofPart p) (asRange (toldIn (l .text))))
 
 added : (k : Counts) (t : Told)
@@ -44,7 +44,7 @@ added k (Broken c) = simp add-zero
 added k (Opens o) = simp add-zero
 added k (Ranges r) = go (r .part) r refl
   where
-    go : (p : Part) (r : RangeLine) → r .part ≡ p
+    go : (p : RangeKind) (r : RangeLine) → r .part ≡ p
         → _≡_ {A = Counts} (record {
           calls = k .calls + 0;
           categories = k .categories + length (ofPart Category r ++ []);

@@ -7,8 +7,8 @@ use lib.ListN.{getD, drop}
 use lib.Seq.{getD-drop}
 use Rattle.base.proofs.Laws.{tests}
 use Rattle.timetable.specs.declared.End.{End}
-use Rattle.timetable.specs.declared.Part.{Part}
-use Rattle.timetable.specs.declared.Part.the-variants.{Category, Days, Extra}
+use Rattle.timetable.specs.declared.RangeKind.{RangeKind}
+use Rattle.timetable.specs.declared.RangeKind.the-variants.{Category, Days, Extra}
 use Rattle.fields.specs.declared.RangeEnd.the-variants.{Outer, Index, Stop, NoEnd}
 use Rattle.fields.specs.declared.Detail.the-variants.{Plain, Nth, Timed, NoDetail}
 use Rattle.timetable.specs.declared.RangeLine.{RangeLine}
@@ -42,7 +42,7 @@ pub end-read : (w : List ℕ) (at : ℕ) (e : End)
     → e .place ≡ placeBack (getD w at 0) (getD w (at + 1) 0) → e .detail ≡ detailBack (getD w (at + 2) 0) (getD w (at + 3) 0) → e ≡ endBack 0 (drop at w)
 end-read w at e p d = rw (getD-drop at w 0 0, add-zero at, getD-drop at w 1 0, getD-drop at w 2 0, getD-drop at w 3 0, ← p, ← d) refl
 
-pub range-read : (w : List ℕ) (at : ℕ) (p : Part) (from to : End)
+pub range-read : (w : List ℕ) (at : ℕ) (p : RangeKind) (from to : End)
     → p ≡ partBack (getD w (at + 1) 0) → from ≡ endBack 0 (drop (at + 4) w) → to ≡ endBack 0 (drop (at + 8) w)
     → record { part = p; name = getD w (at + 2) 0; field = getD w (at + 3) 0; ends = record { from = from; to = to } } ≡ lineBack (drop at w)
 range-read w at p from to a b c =

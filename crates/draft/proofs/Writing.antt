@@ -30,8 +30,8 @@ use Rattle.timetable.specs.declared.Call.{Call}
 use Rattle.timetable.specs.declared.CallLine.{CallLine}
 use Rattle.timetable.specs.declared.Opening.{Opening}
 use Rattle.timetable.specs.declared.End.{End}
-use Rattle.timetable.specs.declared.Part.{Part}
-use Rattle.timetable.specs.declared.Part.the-variants.{Category, Days, Extra}
+use Rattle.timetable.specs.declared.RangeKind.{RangeKind}
+use Rattle.timetable.specs.declared.RangeKind.the-variants.{Category, Days, Extra}
 use Rattle.timetable.specs.declared.RangeLine.{RangeLine}
 use Rattle.timetable.specs.declared.Told.{Told}
 use Rattle.timetable.specs.declared.Told.the-variants.{Skip, Other, Broken, Opens, Ranges, Calls}
@@ -57,7 +57,7 @@ detail-back (Nth k) = refl
 detail-back (Timed m) = refl
 detail-back NoDetail = refl
 
-part-back : (p : Part) → partBack (partNumber p) ≡ p
+part-back : (p : RangeKind) → partBack (partNumber p) ≡ p
 part-back Category = refl
 part-back Days = refl
 part-back Extra = refl
@@ -133,7 +133,7 @@ calls-kept : (k : Counts) (rs : List RangeLine) → countRanges k rs .calls ≡ 
 calls-kept k [] = refl
 calls-kept k (r ∷ rs) = go (r .part)
   where
-    go : (p : Part) → countPart k p .calls ≡ k .calls
+    go : (p : RangeKind) → countPart k p .calls ≡ k .calls
     go Category = refl
     go Days = refl
     go Extra = refl
@@ -142,7 +142,7 @@ ranges-kept : (k : Counts) (cs : List CallLine) → ranges# (countCalls k cs) �
 ranges-kept k [] = refl
 ranges-kept k (c ∷ cs) = refl
 
-part-counts : (k : Counts) (p : Part) → ranges# (countPart k p) ≡ ranges# k + 1
+part-counts : (k : Counts) (p : RangeKind) → ranges# (countPart k p) ≡ ranges# k + 1
 part-counts k Category = omega arith
 part-counts k Days = omega arith
 part-counts k Extra = omega arith
@@ -264,7 +264,7 @@ module _ (k : Counts) (c : CallLine) where
   call-drafted o line w w′ a x h l p q v = rw (v, ← p, ← q) (calls-more (k .calls) w (line, x) (omega (arith, call-room (length w) h l)))
 
 module _ (k : Counts) (r : RangeLine) where
-  within-part : (p : Part) → Within (countPart k p) → ranges# k + 1 ≤ mostRanges
+  within-part : (p : RangeKind) → Within (countPart k p) → ranges# k + 1 ≤ mostRanges
   within-part Category w = omega (arith, w .categories, w .days, w .extras)
   within-part Days w = omega (arith, w .categories, w .days, w .extras)
   within-part Extra w = omega (arith, w .categories, w .days, w .extras)
@@ -280,16 +280,16 @@ module _ (k : Counts) (r : RangeLine) where
   unfolding onLine
   range-drafted k′ line c w w′ d n h l v = rw (d, part-counts k (r .part), v, n) (ranges-more (ranges# k) w (line, r) (omega (arith, range-room (ranges# k) (length w) refl h l)))
 
-pub category-fits : (k : Counts) (p : Part) → p ≡ Category → Within (countPart k p) → k .categories + 1 < 2 ^ 32
+pub category-fits : (k : Counts) (p : RangeKind) → p ≡ Category → Within (countPart k p) → k .categories + 1 < 2 ^ 32
 category-fits k p e w = let v : Within (countPart k Category) = rw e at w in omega (arith, v .categories)
 
-pub days-fit : (k : Counts) (p : Part) → p ≡ Days → Within (countPart k p) → k .days + 1 < 2 ^ 32
+pub days-fit : (k : Counts) (p : RangeKind) → p ≡ Days → Within (countPart k p) → k .days + 1 < 2 ^ 32
 days-fit k p e w = let v : Within (countPart k Days) = rw e at w in omega (arith, v .days)
 
-pub extra-fits : (k : Counts) (p : Part) → p ≡ Extra → Within (countPart k p) → k .extras + 1 < 2 ^ 32
+pub extra-fits : (k : Counts) (p : RangeKind) → p ≡ Extra → Within (countPart k p) → k .extras + 1 < 2 ^ 32
 extra-fits k p e w = let v : Within (countPart k Extra) = rw e at w in omega (arith, v .extras)
 
-module _ (k : Counts) (p : Part) where
+module _ (k : Counts) (p : RangeKind) where
   pub category-counted : p ≡ Category → record { calls = k .calls; categories = k .categories + 1; days = k .days; extras = k .extras } ≡ countPart k p
   category-counted e = rw e refl
 

@@ -12,7 +12,7 @@ use timetable::CallLine;
 use timetable::End;
 use timetable::Ends;
 use timetable::Opening;
-use timetable::Part;
+use timetable::RangeKind;
 use timetable::RangeLine;
 use timetable::Told;
 ghost use mathlib.Core.Path.{_≡_};
@@ -209,21 +209,21 @@ pub fn draft_range(range: RangeLine, line: u32, counts: Counts, ranges: &mut [u3
     count_part(counts, part)
 }
 
-fn count_part(counts: Counts, part: Part) -> Counts
+fn count_part(counts: Counts, part: RangeKind) -> Counts
     requires { ⌜ Within (countPart counts part) ⌝ }
     ensures { λ r. ⌜ r ≡ countPart counts part ⌝ }
 {
     let mut k = counts;
     match part {
-        Part::Category => {
+        RangeKind::Category => {
             k.categories += 1;
             k
         }
-        Part::Days => {
+        RangeKind::Days => {
             k.days += 1;
             k
         }
-        Part::Extra => {
+        RangeKind::Extra => {
             k.extras += 1;
             k
         }
@@ -305,13 +305,13 @@ fn detail_code(detail: Detail) -> Code
 }
 
 // The number that stands for a part, in the table's order.
-pub fn part_number(part: Part) -> u32
+pub fn part_number(part: RangeKind) -> u32
     ensures { λ r. ⌜ r ≡ partNumber part ⌝ }
 {
     match part {
-        Part::Category => 0,
-        Part::Days => 1,
-        Part::Extra => 2,
+        RangeKind::Category => 0,
+        RangeKind::Days => 1,
+        RangeKind::Extra => 2,
     }
 }
 
@@ -392,12 +392,12 @@ fn detail_of(tag: u32, value: u32) -> Detail
     }
 }
 
-fn part_of(number: u32) -> Part
+fn part_of(number: u32) -> RangeKind
     ensures { λ r. ⌜ r ≡ partBack number ⌝ }
 {
     match number {
-        0 => Part::Category,
-        1 => Part::Days,
-        _ => Part::Extra,
+        0 => RangeKind::Category,
+        1 => RangeKind::Days,
+        _ => RangeKind::Extra,
     }
 }

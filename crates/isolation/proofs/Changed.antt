@@ -13,8 +13,8 @@ use Rattle.timetable.specs.Legs.{runsBy, fieldRuns}
 use Rattle.timetable.specs.Plan.{isOpening, opensService, toldIn, tolds, asCall, asOpening, asRange, rangesOf, isPart, ofPart, partLines, saidOn}
 use Rattle.timetable.specs.Service.{firstLine, openingOf, calledOn, callsOf, withLegs, legsOn, categoryRange, dayRange, extraRange, serviceOf}
 use Rattle.timetable.specs.declared.Call.{Call}
-use Rattle.timetable.specs.declared.Part.{Part}
-use Rattle.timetable.specs.declared.Part.the-variants.{Category, Days, Extra}
+use Rattle.timetable.specs.declared.RangeKind.{RangeKind}
+use Rattle.timetable.specs.declared.RangeKind.the-variants.{Category, Days, Extra}
 use Rattle.timetable.specs.declared.RangeLine.{RangeLine}
 use Rattle.timetable.specs.declared.Told.{Told}
 use Rattle.timetable.specs.declared.Told.the-variants.{Skip, Other, Broken, Opens, Ranges, Calls}
@@ -133,14 +133,14 @@ module _ (σ : ℕ → ℕ) (g : Everywhere σ) where
   ranges-for : (ls : List Line) → rangesOf (map line-for ls) ≡ map (rangeFor σ) (rangesOf ls)
   ranges-for ls = ap (gathered asRange) (tolds-for ls) ∙ gathered-changed asRange (toldFor σ) (rangeFor σ) ranges-told (tolds ls)
 
-  part-one : (p : Part) (r : RangeLine) → ofPart p (rangeFor σ r) ≡ map (rangeFor σ) (ofPart p r)
+  part-one : (p : RangeKind) (r : RangeLine) → ofPart p (rangeFor σ r) ≡ map (rangeFor σ) (ofPart p r)
   part-one p r = go (isPart p r)
     where
       go : (t : Bool) → cond t (rangeFor σ r ∷ []) [] ≡ map (rangeFor σ) (cond t (r ∷ []) [])
       go true = refl
       go false = refl
 
-  pub parts-for : (p : Part) (ls : List Line) → partLines p (map line-for ls) ≡ map (rangeFor σ) (partLines p ls)
+  pub parts-for : (p : RangeKind) (ls : List Line) → partLines p (map line-for ls) ≡ map (rangeFor σ) (partLines p ls)
   parts-for p ls = ap (gathered (ofPart p)) (ranges-for ls) ∙ gathered-changed (ofPart p) (rangeFor σ) (rangeFor σ) (part-one p) (rangesOf ls)
 
   opening-for : (ls : List Line) → openingOf (map line-for ls) ≡ openingOf ls

@@ -3,21 +3,23 @@ use mathlib.Core.Path.{_≡_, refl, ap, sym, _∙_}
 use mathlib.Core.List.{List, [], _++_, map, append-assoc}
 use mathlib.Core.Bool.{Bool, true, cond}
 use Prim.Native.Nat.{ℕ, zero, suc, _+_, _-_, _*_, _^_, _≤_, _<_}
-use native.Mathlib.Nat.{add-zero}
 use native.Mathlib.Omega.{arith}
-use lib.ListN.{length, getD, drop, length-append}
-use lib.Seq.{getD-drop}
+use lib.ListN.{length, drop, length-append}
 use borrow.Author.Tests.{eq-eqb, ne-eqb}
 use Rattle.base.specs.Lists.{every}
 use Rattle.base.proofs.Laws.{tests}
 use Rattle.timetable.specs.Delivery.{StopRecord}
 use Rattle.timetable.specs.Layout.{serviceHead, callSize, kindZ}
 use Rattle.timetable.specs.Plan.{VE}
-use Rattle.timetable.specs.Table.{rowsIn, callAt, calls#, openingAt, callSound}
+use Rattle.timetable.specs.Table.{rowsIn, callAt, categoryAt, dayAt, extraAt, calls#, openingAt, callSound}
+use Rattle.timetable.specs.Inner.Words.{categoryRead, dayRead, extraRead}
 use Rattle.timetable.specs.declared.Opening.{Opening}
 use Rattle.timetable.specs.declared.Call.{Call}
-use Rattle.timetable.specs.declared.Part.{Part}
-use Rattle.timetable.specs.declared.Part.the-variants.{Category, Days, Extra}
+use Rattle.timetable.specs.declared.CategoryWords.{CategoryWords}
+use Rattle.timetable.specs.declared.DayWords.{DayWords}
+use Rattle.timetable.specs.declared.ExtraWords.{ExtraWords}
+use Rattle.timetable.specs.declared.RangeKind.{RangeKind}
+use Rattle.timetable.specs.declared.RangeKind.the-variants.{Category, Days, Extra}
 use Rattle.timetable.proofs.Rows.{rows-left}
 use Rattle.words.specs.Words.{write}
 use Rattle.words.proofs.Laws.{write-none, write-turn}
@@ -26,8 +28,8 @@ use Rattle.line_text.specs.Laid.{textOf}
 use Rattle.plan_text.specs.PlanText.{withLF, categoryOf, attributeText, openingText, frequencyText, categoryText, dayText, extraText, callText}
 use Rattle.plan_text.proofs.Lengths.{category-length, day-length, extra-length, call-length}
 use Rattle.plan_services.specs.Services.{openingLine}
-use Rattle.service_lines.specs.Inner.Record.{partSize, partCount, partPlace, here, partRows, shownCall, callRows}
-use Rattle.service_lines.proofs.Parts.{size-low, range-first, range-second, ranges-start, ranges-now, ranges-place, ranges-left}
+use Rattle.service_lines.specs.Inner.Record.{rangeSize, partCount, partPlace, here, partRows, shownCall, callRows}
+use Rattle.service_lines.proofs.Parts.{category-room, day-room, extra-room, ranges-start, ranges-now, ranges-place, ranges-left}
 use Rattle.service_lines.proofs.Calls.{calls-just, calls-head, calls-start, calls-sound, sound-now, sound-left}
 use Rattle.plan_writing.specs.Inner.Record.{rangeText, partText, callsText}
 
@@ -49,37 +51,21 @@ module _ (s t r : List ℕ) (q : ℕ) (o : Opening) (e : o ≡ openingAt s) wher
 
 pub ruleset first = (tests, first-opening, first-frequency)
 
--- ---- the line of a range at p
+-- ---- the line of a range at p; g is the range
 
-module _ (x : Part) (s : List ℕ) (p : ℕ) where
-  module _ (h : p + partSize x ≤ length s) where
-    pub range-third : p + 2 < length s
-    range-third = omega (arith, size-low x)
+module _ (x : RangeKind) (s : List ℕ) (p : ℕ) (t r : List ℕ) (q : ℕ) where
+  pub put-category : x ≡ Category → (g : CategoryWords) → g ≡ categoryRead (categoryAt (drop p s)) → r ≡ write t q (withLF (categoryText (categoryOf (g .name) (g .from) (g .to)))) → r ≡ write t q (withLF (rangeText x (drop p s)))
+  put-category e g k f = f ∙ ap (λ (y : CategoryWords). write t q (withLF (categoryText (categoryOf (y .name) (y .from) (y .to))))) k ∙ rw e
 
-    pub range-fourth : x ≡ Extra → p + 3 < length s
-    range-fourth e =
-        let k : partSize x ≡ 4 = rw e in
-        omega (arith, k)
+  pub put-days : x ≡ Days → (g : DayWords) → g ≡ dayRead (dayAt (drop p s)) → r ≡ write t q (withLF (attributeText VE (g .field) (g .from) (g .to))) → r ≡ write t q (withLF (rangeText x (drop p s)))
+  unfolding dayText
+  put-days e g k f = f ∙ ap (λ (y : DayWords). write t q (withLF (attributeText VE (y .field) (y .from) (y .to)))) k ∙ rw e
 
-  word-is : (i : ℕ) → getD (drop p s) i 0 ≡ getD s (p + i) 0
-  word-is i = getD-drop p s i 0
+  pub put-extra : x ≡ Extra → (g : ExtraWords) → g ≡ extraRead (extraAt (drop p s)) → r ≡ write t q (withLF (attributeText (g .code) (g .field) (g .from) (g .to))) → r ≡ write t q (withLF (rangeText x (drop p s)))
+  unfolding extraText
+  put-extra e g k f = f ∙ ap (λ (y : ExtraWords). write t q (withLF (attributeText (y .code) (y .field) (y .from) (y .to)))) k ∙ rw e
 
-  first-is : getD (drop p s) 0 0 ≡ getD s p 0
-  first-is = word-is 0 ∙ rw add-zero
-
-  module _ (t r : List ℕ) (q : ℕ) where
-    pub put-category : x ≡ Category → r ≡ write t q (withLF (categoryText (categoryOf (getD s p 0) (getD s (p + 1) 0) (getD s (p + 2) 0)))) → r ≡ write t q (withLF (rangeText x (drop p s)))
-    put-category e f = f ∙ rw (e, first-is, word-is 1, word-is 2)
-
-    pub put-days : x ≡ Days → r ≡ write t q (withLF (attributeText VE (getD s p 0) (getD s (p + 1) 0) (getD s (p + 2) 0))) → r ≡ write t q (withLF (rangeText x (drop p s)))
-    unfolding dayText
-    put-days e f = f ∙ rw (e, first-is, word-is 1, word-is 2)
-
-    pub put-extra : x ≡ Extra → r ≡ write t q (withLF (attributeText (getD s p 0) (getD s (p + 1) 0) (getD s (p + 2) 0) (getD s (p + 3) 0))) → r ≡ write t q (withLF (rangeText x (drop p s)))
-    unfolding extraText
-    put-extra e f = f ∙ rw (e, first-is, word-is 1, word-is 2, word-is 3)
-
-pub ruleset range = (tests, range-first, range-second, range-third, range-fourth, put-category, put-days, put-extra)
+pub ruleset range = (tests, category-room, day-room, extra-room, put-category, put-days, put-extra)
 
 -- ---- lines one after the other
 
@@ -106,12 +92,12 @@ module _ {X : Type 0} (g : X → List ℕ) (f : List ℕ → X) (full : (x : X) 
 
 -- ---- the loop over ranges: k are left from p on, their lines to be written at q; n in all, from place `at` on
 
-pub range-length : (x : Part) (u : List ℕ) → length (rangeText x u) ≡ 59
+pub range-length : (x : RangeKind) (u : List ℕ) → length (rangeText x u) ≡ 59
 range-length Category u = category-length _
 range-length Days u = day-length _
 range-length Extra u = extra-length _
 
-pub ranges-all : (x : Part) (s t : List ℕ) (at p k : ℕ) → p ≡ partPlace x s → k ≡ partCount x s → write t at (textOf (map (rangeText x) (rowsIn here (partSize x) k (drop p s)))) ≡ write t at (partText x s)
+pub ranges-all : (x : RangeKind) (s t : List ℕ) (at p k : ℕ) → p ≡ partPlace x s → k ≡ partCount x s → write t at (textOf (map (rangeText x) (rowsIn here (rangeSize x) k (drop p s)))) ≡ write t at (partText x s)
 unfolding partText partRows
 ranges-all x s t at p k a b = rw (a, b)
 
@@ -125,9 +111,9 @@ module _ (t t₀ : List ℕ) (q k at n : ℕ) (h : 0 < k) (e : q + 60 * k ≡ at
   pub line-left : q + 60 + 60 * (k - 1) ≡ at + 60 * n
   line-left = omega arith
 
-  pub ranges-again : (x : Part) (s t′ r : List ℕ) (p z : ℕ) → z ≡ partSize x → t′ ≡ write t q (withLF (rangeText x (drop p s)))
-      → write t q (textOf (map (rangeText x) (rowsIn here (partSize x) k (drop p s)))) ≡ r → write t′ (q + 60) (textOf (map (rangeText x) (rowsIn here (partSize x) (k - 1) (drop (p + z) s)))) ≡ r
-  ranges-again x s t′ r p z f d v = rw f (rows-turn (rangeText x) here (range-length x) (partSize x) s t t′ r p k q h line-room d v)
+  pub ranges-again : (x : RangeKind) (s t′ r : List ℕ) (p z : ℕ) → z ≡ rangeSize x → t′ ≡ write t q (withLF (rangeText x (drop p s)))
+      → write t q (textOf (map (rangeText x) (rowsIn here (rangeSize x) k (drop p s)))) ≡ r → write t′ (q + 60) (textOf (map (rangeText x) (rowsIn here (rangeSize x) (k - 1) (drop (p + z) s)))) ≡ r
+  ranges-again x s t′ r p z f d v = rw f (rows-turn (rangeText x) here (range-length x) (rangeSize x) s t t′ r p k q h line-room d v)
 
   pub calls-again : (stops : List StopRecord) (s t′ r : List ℕ) (p : ℕ) (c : Call) → c ≡ shownCall stops (drop p s) → t′ ≡ write t q (withLF (callText c))
       → write t q (textOf (map callText (rowsIn (shownCall stops) callSize k (drop p s)))) ≡ r → write t′ (q + 60) (textOf (map callText (rowsIn (shownCall stops) callSize (k - 1) (drop (p + callSize) s)))) ≡ r
@@ -136,8 +122,8 @@ module _ (t t₀ : List ℕ) (q k at n : ℕ) (h : 0 < k) (e : q + 60 * k ≡ at
 pub line-end : (q k at n : ℕ) → k ≤ 0 → q + 60 * k ≡ at + 60 * n → q ≡ at + 60 * n
 line-end q k at n h e = omega arith
 
-pub ranges-done : (x : Part) (s t r : List ℕ) (q k : ℕ) → k ≤ 0 → write t q (textOf (map (rangeText x) (rowsIn here (partSize x) k s))) ≡ r → t ≡ r
-ranges-done x s t r q k h v = sym (write-none t q) ∙ (rw (text-none (rangeText x) here (partSize x) k s h) at v)
+pub ranges-done : (x : RangeKind) (s t r : List ℕ) (q k : ℕ) → k ≤ 0 → write t q (textOf (map (rangeText x) (rowsIn here (rangeSize x) k s))) ≡ r → t ≡ r
+ranges-done x s t r q k h v = sym (write-none t q) ∙ (rw (text-none (rangeText x) here (rangeSize x) k s h) at v)
 
 pub ruleset ranges = (tests, ranges-start, ranges-now, ranges-place, ranges-left, ranges-all, line-room, line-place, line-left, line-end, ranges-again, ranges-done)
 

@@ -11,8 +11,8 @@ use Rattle.base.proofs.Laws.{tests}
 use Rattle.timetable.specs.Delivery.{StopRecord, Service}
 use Rattle.timetable.specs.Layout.{serviceHead, callSize, kindZ}
 use Rattle.timetable.specs.Table.{rowsIn, categoryAt, dayAt, extraAt, calls#, categories#, days#, extras#, categoryPlace, dayPlace, extraPlace, stops#, services#, servicesPlace, serviceAt, openingAt, resolved, tableOf, recordsSound}
-use Rattle.timetable.specs.declared.Part.{Part}
-use Rattle.timetable.specs.declared.Part.the-variants.{Category, Days, Extra}
+use Rattle.timetable.specs.declared.RangeKind.{RangeKind}
+use Rattle.timetable.specs.declared.RangeKind.the-variants.{Category, Days, Extra}
 use Rattle.timetable.proofs.Rows.{length-rows}
 use Rattle.words.specs.Words.{write}
 use Rattle.words.proofs.Laws.{write-none, write-write}
@@ -22,7 +22,7 @@ use Rattle.line_text.specs.Laid.{textOf}
 use Rattle.plan_text.specs.PlanText.{withLF, openingText, frequencyText, categoryText, dayText, extraText, callText}
 use Rattle.plan_text.proofs.Lengths.{opening-length, frequency-length, call-length}
 use Rattle.plan_services.specs.Services.{openingLine, restLines, serviceLines, planLines, planText}
-use Rattle.service_lines.specs.Inner.Record.{partSize, partCount, partPlace, here, partRows, callRows, shownCall, shown}
+use Rattle.service_lines.specs.Inner.Record.{rangeSize, partCount, partPlace, here, partRows, callRows, shownCall, shown}
 use Rattle.service_lines.proofs.Services.{calls-shown, shownFrom, shown-all, shown-now, no-service, standing-head, standing-sized, start-place, services-here, standing, records-inside, records-fit, records-place, records-left}
 use Rattle.plan_writing.specs.Writing.{tableText}
 use Rattle.plan_writing.specs.Inner.Record.{rangeText, partText, callsText, recordText}
@@ -40,11 +40,11 @@ unfolding textOf
 text-full g full [] = refl
 text-full g full (x ∷ xs) = rw (length-append, full x) (omega (arith, text-full g full xs))
 
-pub part-length : (x : Part) (s : List ℕ) → length (partText x s) ≡ 60 * partCount x s
+pub part-length : (x : RangeKind) (s : List ℕ) → length (partText x s) ≡ 60 * partCount x s
 unfolding partText partRows
 part-length x s =
-    let rows = rowsIn here (partSize x) (partCount x s) (drop (partPlace x s) s) in
-    text-full (rangeText x) (range-length x) rows ∙ ap (λ (n : ℕ). 60 * n) (length-rows here (partSize x) (partCount x s) (drop (partPlace x s) s))
+    let rows = rowsIn here (rangeSize x) (partCount x s) (drop (partPlace x s) s) in
+    text-full (rangeText x) (range-length x) rows ∙ ap (λ (n : ℕ). 60 * n) (length-rows here (rangeSize x) (partCount x s) (drop (partPlace x s) s))
 
 pub calls-length : (stops : List StopRecord) (s : List ℕ) → length (callsText stops s) ≡ 60 * calls# s
 unfolding callsText callRows
@@ -64,10 +64,10 @@ regroup a b c d e = simp append-assoc
 five-lengths : (a b c d e : List ℕ) → length (a ++ (b ++ (c ++ (d ++ e)))) ≡ length a + (length b + (length c + (length d + length e)))
 five-lengths a b c d e = simp length-append
 
-as-rows : {X : Type 0} (x : Part) (g : X → List ℕ) (f : List ℕ → X) (n : ℕ) (u : List ℕ) → ((r : List ℕ) → g (f r) ≡ rangeText x r) → map g (rowsIn f (partSize x) n u) ≡ map (rangeText x) (rowsIn here (partSize x) n u)
+as-rows : {X : Type 0} (x : RangeKind) (g : X → List ℕ) (f : List ℕ → X) (n : ℕ) (u : List ℕ) → ((r : List ℕ) → g (f r) ≡ rangeText x r) → map g (rowsIn f (rangeSize x) n u) ≡ map (rangeText x) (rowsIn here (rangeSize x) n u)
 unfolding rowsIn
 as-rows x g f zero u e = refl
-as-rows x g f (suc n) u e = λ i. e u i ∷ as-rows x g f n (drop (partSize x) u) e i
+as-rows x g f (suc n) u e = λ i. e u i ∷ as-rows x g f n (drop (rangeSize x) u) e i
 
 module _ (w s : List ℕ) where
   pub record-parts : recordText w s ≡ withLF (openingLine (openingAt s)) ++ (partText Category s ++ (partText Days s ++ (partText Extra s ++ callsText (tableOf w .stops) s)))

@@ -4,7 +4,7 @@ use timetable::CALL_WORDS;
 use timetable::CALLS_AT;
 use timetable::FIRST_SERVICE_AT;
 use timetable::KIND_Z;
-use timetable::Part;
+use timetable::RangeKind;
 use timetable::SERVICE_WORDS;
 use timetable::SERVICES_AT;
 ghost use mathlib.Core.Path.{_≡_};
@@ -17,7 +17,7 @@ ghost use Rattle.words.specs.Words.{write};
 ghost use Rattle.table.specs.JustTable.{JustTable};
 ghost use Rattle.plan_text.specs.PlanText.{withLF};
 ghost use Rattle.plan_services.specs.Services.{openingLine};
-ghost use Rattle.service_lines.specs.Inner.Record.{partSize, partCount, Standing};
+ghost use Rattle.service_lines.specs.Inner.Record.{rangeSize, partCount, Standing};
 ghost use Rattle.plan_writing.specs.Writing.{tableText, planAnswer, planBytes};
 ghost use Rattle.plan_writing.specs.Inner.Record.{rangeText, partText, callsText, recordText};
 
@@ -94,9 +94,9 @@ fn put_service(w: &[u32], s: &[u32], text: &mut [u8], q: usize) -> usize
         write (now (text .entry)) q (recordText (now (w .entry)) (now (s .entry))) ⌝ }
 {
     put_first(s, text, q);
-    let days = put_ranges(s, Part::Category, text, q + LINE);
-    let extras = put_ranges(s, Part::Days, text, days);
-    let calls = put_ranges(s, Part::Extra, text, extras);
+    let days = put_ranges(s, RangeKind::Category, text, q + LINE);
+    let extras = put_ranges(s, RangeKind::Days, text, days);
+    let calls = put_ranges(s, RangeKind::Extra, text, extras);
     put_calls(w, s, text, calls)
 }
 
@@ -118,7 +118,7 @@ fn put_first(s: &[u32], text: &mut [u8], q: usize)
 // ---- ranges
 
 // Writes the lines of a part's ranges, and says where they end.
-fn put_ranges(s: &[u32], part: Part, text: &mut [u8], at: usize) -> usize
+fn put_ranges(s: &[u32], part: RangeKind, text: &mut [u8], at: usize) -> usize
     requires { ⌜ sizesSound (now s) ≡ true ⌝ }
     requires { ⌜ at + 60 * partCount part (now s) ≤ length (now text) ⌝ }
     ensures end { λ r. ⌜ r ≡ at + 60 * partCount part (now (s .entry)) ⌝ }
@@ -129,7 +129,7 @@ fn put_ranges(s: &[u32], part: Part, text: &mut [u8], at: usize) -> usize
     let mut q = at;
     while 0 < k {
         put_range(s, part, p, text, q);
-        p += service_lines::part_words(part);
+        p += service_lines::range_words(part);
         q += LINE;
         k -= 1;
     }
@@ -137,16 +137,25 @@ fn put_ranges(s: &[u32], part: Part, text: &mut [u8], at: usize) -> usize
 }
 
 // Writes the line of the range at a place.
-fn put_range(s: &[u32], part: Part, p: usize, text: &mut [u8], q: usize)
-    requires { ⌜ p + partSize part ≤ length (now s) ⌝ }
+fn put_range(s: &[u32], part: RangeKind, p: usize, text: &mut [u8], q: usize)
+    requires { ⌜ p + rangeSize part ≤ length (now s) ⌝ }
     requires { ⌜ q + 60 ≤ length (now text) ⌝ }
     ensures { λ _. ⌜ now (text .exit) ≡
         write (now (text .entry)) q (withLF (rangeText part (drop p (now (s .entry))))) ⌝ }
 {
     match part {
-        Part::Category => plan_text::put_category(text, q, s[p], s[p + 1], s[p + 2]),
-        Part::Days => plan_text::put_attribute(text, q, VE, s[p], s[p + 1], s[p + 2]),
-        Part::Extra => plan_text::put_attribute(text, q, s[p], s[p + 1], s[p + 2], s[p + 3]),
+        RangeKind::Category => {
+            let r = timetable::category_at(s, p);
+            plan_text::put_category(text, q, r.name, r.from, r.to)
+        }
+        RangeKind::Days => {
+            let r = timetable::day_at(s, p);
+            plan_text::put_attribute(text, q, VE, r.field, r.from, r.to)
+        }
+        RangeKind::Extra => {
+            let r = timetable::extra_at(s, p);
+            plan_text::put_attribute(text, q, r.code, r.field, r.from, r.to)
+        }
     }
 }
 

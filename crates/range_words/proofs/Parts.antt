@@ -20,8 +20,8 @@ use Rattle.timetable.specs.Plan.{partNumber, isPart, ofPart}
 use Rattle.timetable.specs.Service.{legsOn, withLegs, categoryRange, dayRange, extraRange}
 use Rattle.timetable.specs.Table.{rowsIn, categoryWords, dayWords, extraWords}
 use Rattle.timetable.specs.declared.Call.{Call}
-use Rattle.timetable.specs.declared.Part.{Part}
-use Rattle.timetable.specs.declared.Part.the-variants.{Category, Days, Extra}
+use Rattle.timetable.specs.declared.RangeKind.{RangeKind}
+use Rattle.timetable.specs.declared.RangeKind.the-variants.{Category, Days, Extra}
 use Rattle.timetable.specs.declared.RangeLine.{RangeLine}
 use Rattle.draft.specs.Inner.Draft.{draftRange, partBack, lineBack, rangesIn, partIn}
 use Rattle.route.specs.Inner.Route.{foundOf}
@@ -35,7 +35,7 @@ use Rattle.range_words.proofs.Rows.{row-turn, no-rows, row-start, run-c
 -- ---- a part is the part of the service
 
 -- ranges of a kind X, made of a range line and written
-module _ {X : Type 0} (p : Part) (cs : List Call) (made : RangeLine → List X) (words : X → List ℕ) (same : (r : RangeLine) → gathered words (made r) ≡ foundWords p r (legsOn cs r)) where
+module _ {X : Type 0} (p : RangeKind) (cs : List Call) (made : RangeLine → List X) (words : X → List ℕ) (same : (r : RangeLine) → gathered words (made r) ≡ foundWords p r (legsOn cs r)) where
   part-of : (rs : List RangeLine) → gathered words (gathered made (partIn p rs)) ≡ partWords p cs rs
   unfolding gathered
   part-of [] = refl
@@ -86,7 +86,7 @@ unfolding unfound
 found-legs f none k = rw k refl
 found-legs f (some g) k = rw k refl
 
-module _ (part : Part) (cs : List Call) (x : RangeLine) where
+module _ (part : RangeKind) (cs : List Call) (x : RangeLine) where
   module _ (own : isPart part x ≡ true) (f : RangeFound) (d : f ≡ foundOf (legsOn cs x)) where
     gives-found : rangeGives part cs x ≡ foundWords part x (legsOn cs x)
     gives-found = rw own refl
@@ -105,11 +105,11 @@ drafted-0 k e = rw e refl
 pub drafted-1 : (k : ℕ) → k ≡ 1 → 1 ≡ partNumber (partBack k)
 drafted-1 k e = rw e refl
 
-pub gives-drafted : (part : Part) (cs : List Call) (w : List ℕ) (p : ℕ) (x : RangeLine) (g : Given) → x ≡ lineBack (drop p w) → givenWords g ≡ rangeGives part cs x → givenWords g ≡ rangeGives part cs (lineBack (drop p w))
+pub gives-drafted : (part : RangeKind) (cs : List Call) (w : List ℕ) (p : ℕ) (x : RangeLine) (g : Given) → x ≡ lineBack (drop p w) → givenWords g ≡ rangeGives part cs x → givenWords g ≡ rangeGives part cs (lineBack (drop p w))
 gives-drafted part cs w p x g e v = v ∙ ap (rangeGives part cs) e
 
 -- by the word of the range at place p that says its part: a is that part's number, b the number of the part that is written
-module _ (part : Part) (w : List ℕ) (p a b : ℕ) (e : a ≡ partNumber (partBack (getD w (p + 1) 0))) (d : b ≡ partNumber part) where
+module _ (part : RangeKind) (w : List ℕ) (p a b : ℕ) (e : a ≡ partNumber (partBack (getD w (p + 1) 0))) (d : b ≡ partNumber part) where
   part-here : isPart part (lineBack (drop p w)) ≡ eqb a b
   part-here = ap (λ (k : ℕ). eqb (partNumber (partBack k)) (partNumber part)) (getD-drop p w 1 0) ∙ rw (e, d) refl
 
@@ -119,7 +119,7 @@ module _ (part : Part) (w : List ℕ) (p a b : ℕ) (e : a ≡ partNumber (partB
   pub part-own : (x : RangeLine) → a ≡ b → x ≡ lineBack (drop p w) → isPart part x ≡ true
   part-own x h y = ap (isPart part) y ∙ (part-here ∙ eq-eqb a b h)
 
-module _ (part : Part) (x : RangeLine) (from to : ℕ) where
+module _ (part : RangeKind) (x : RangeLine) (from to : ℕ) where
   pub row-category : part ≡ Category → x .name ∷ from ∷ to ∷ [] ≡ rangeRowWords part x from to
   row-category e = rw e refl
 
@@ -166,10 +166,10 @@ pub ruleset putting = (tests, none-count, put-none, three-room, three-count, put
 -- ---- the loop of `part_into`, for `search puts`
 
 -- the words of the ranges from the i-th of n on, which is drafted at place p
-abbrev pub partLeft : Part → List Call → ℕ → ℕ → ℕ → List ℕ → List ℕ
+abbrev pub partLeft : RangeKind → List Call → ℕ → ℕ → ℕ → List ℕ → List ℕ
 partLeft part cs n i p w = partWords part cs (rowsIn lineBack draftRange (n - i) (drop p w))
 
-module _ (part : Part) (cs : List Call) where
+module _ (part : RangeKind) (cs : List Call) where
   pub part-count : (n q : ℕ) (w : List ℕ) → q + length (partLeft part cs n 0 0 w) ≡ q + length (partWords part cs (rangesIn n w))
   part-count n q w = ap (λ (vs : List ℕ). q + length vs) (row-start lineBack draftRange (rangeGives part cs) w n)
 

@@ -2,7 +2,7 @@
 // and the service is written with them.
 use draft::DRAFT_RANGE_WORDS;
 use route::RangeFound;
-use timetable::Part;
+use timetable::RangeKind;
 use timetable::RangeLine;
 ghost use mathlib.Core.Path.{_≡_};
 ghost use mathlib.Core.Bool.{true};
@@ -22,7 +22,7 @@ enum Given {
 
 // Writes the ranges of one part; the place after them.
 pub fn part_into(
-    part: Part,
+    part: RangeKind,
     ranges: &[u32],
     n: u32,
     calls: &[u32],
@@ -50,7 +50,7 @@ pub fn part_into(
 }
 
 // What the range at a place gives to a part. Its part is looked at first: most ranges are of another, and are not taken apart.
-fn given_at(part: Part, ranges: &[u32], at: usize, calls: &[u32], c: u32) -> Given
+fn given_at(part: RangeKind, ranges: &[u32], at: usize, calls: &[u32], c: u32) -> Given
     requires { ⌜ (draftCall * c ≤ length (now calls)) × (at + draftRange ≤ length (now ranges)) ⌝ }
     ensures { λ r. ⌜ givenWords r ≡
         rangeGives part (callsIn c (now (calls .entry))) (lineBack (drop at (now (ranges .entry)))) ⌝ }
@@ -73,7 +73,7 @@ fn part_drafted(word: u32) -> u32
 }
 
 // What a range of a part gives to it: none whose ends are not found gives anything.
-fn given_by(part: Part, range: RangeLine, calls: &[u32], c: u32) -> Given
+fn given_by(part: RangeKind, range: RangeLine, calls: &[u32], c: u32) -> Given
     requires { ⌜ (draftCall * c ≤ length (now calls)) × (isPart part range ≡ true) ⌝ }
     ensures { λ r. ⌜ givenWords r ≡ rangeGives part (callsIn c (now (calls .entry))) range ⌝ }
 {
@@ -85,13 +85,13 @@ fn given_by(part: Part, range: RangeLine, calls: &[u32], c: u32) -> Given
 }
 
 // The words of a range of a part, from one call to another.
-fn row_of(part: Part, range: RangeLine, from: u32, to: u32) -> Given
+fn row_of(part: RangeKind, range: RangeLine, from: u32, to: u32) -> Given
     ensures { λ r. ⌜ givenWords r ≡ rangeRowWords part range from to ⌝ }
 {
     match part {
-        Part::Category => Given::Three(range.name, from, to),
-        Part::Days => Given::Three(range.field, from, to),
-        Part::Extra => Given::Four(range.name, range.field, from, to),
+        RangeKind::Category => Given::Three(range.name, from, to),
+        RangeKind::Days => Given::Three(range.field, from, to),
+        RangeKind::Extra => Given::Four(range.name, range.field, from, to),
     }
 }
 

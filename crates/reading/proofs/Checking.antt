@@ -21,8 +21,8 @@ use Rattle.timetable.specs.Service.{headLines, firstOpening, holding, calledOn}
 use Rattle.timetable.specs.Checks.{most, toldOffence, ownOffence}
 use Rattle.timetable.specs.declared.Offence.{Offence}
 use Rattle.timetable.specs.declared.Opening.{Opening}
-use Rattle.timetable.specs.declared.Part.{Part}
-use Rattle.timetable.specs.declared.Part.the-variants.{Category, Days, Extra}
+use Rattle.timetable.specs.declared.RangeKind.{RangeKind}
+use Rattle.timetable.specs.declared.RangeKind.the-variants.{Category, Days, Extra}
 use Rattle.timetable.specs.declared.Told.{Told}
 use Rattle.timetable.specs.declared.Told.the-variants.{Skip, Other, Broken, Opens, Ranges, Calls}
 use Rattle.timetable.specs.declared.Verdict.{Verdict}
@@ -40,7 +40,7 @@ use Rattle.reading.proofs.Passing.{Reads, reads-first, reads-more, next
 
 -- ---- one line
 
-count-same : (p : Part) (before : List Line) → countOf p (countsOf before) ≡ length (partLines p before)
+count-same : (p : RangeKind) (before : List Line) → countOf p (countsOf before) ≡ length (partLines p before)
 count-same Category before = refl
 count-same Days before = refl
 count-same Extra before = refl
@@ -63,7 +63,7 @@ module _ (fields : List BitField) (stops : List StopRecord) (classes : List Cate
 limit : (n most line : ℕ) (o : Option Offence) → (given (leb most n) 13 line <|> o) ≡ none → n < most
 limit n most line o e = leb-false most n (given-none (leb most n) 13 line (then-none (given (leb most n) 13 line) o e .0))
 
-part-within : (fields : List BitField) (classes : List CategoryClass) (k : Counts) (line field name : ℕ) (p : Part) → Within k → rangeAfter fields classes k line p field name ≡ none → Within (countPart k p)
+part-within : (fields : List BitField) (classes : List CategoryClass) (k : Counts) (line field name : ℕ) (p : RangeKind) → Within k → rangeAfter fields classes k line p field name ≡ none → Within (countPart k p)
 part-within fields classes k line field name Category w e = record { calls = w .calls; categories = omega (arith, limit (k .categories) (most Category) line _ e); days = w .days; extras = w .extras }
 part-within fields classes k line field name Days w e = record { calls = w .calls; categories = w .categories; days = omega (arith, limit (k .days) (most Days) line _ e); extras = w .extras }
 part-within fields classes k line field name Extra w e = record { calls = w .calls; categories = w .categories; days = w .days; extras = omega (arith, limit (k .extras) (most Extra) line _ e) }

@@ -14,8 +14,8 @@ use Rattle.timetable.specs.Files.{hasField, hasStop, hasClass}
 use Rattle.timetable.specs.Legs.{fieldKnown}
 use Rattle.timetable.specs.Checks.{most, categoryListed}
 use Rattle.timetable.specs.declared.CallLine.{CallLine}
-use Rattle.timetable.specs.declared.Part.{Part}
-use Rattle.timetable.specs.declared.Part.the-variants.{Category, Days, Extra}
+use Rattle.timetable.specs.declared.RangeKind.{RangeKind}
+use Rattle.timetable.specs.declared.RangeKind.the-variants.{Category, Days, Extra}
 use Rattle.timetable.specs.declared.RangeLine.{RangeLine}
 use Rattle.timetable.specs.declared.Opening.{Opening}
 use Rattle.timetable.specs.declared.Told.{Told}
@@ -31,7 +31,7 @@ use Rattle.reading.specs.Inner.Reading.{countOf, categoryAfter, rangeAft
 
 -- ---- limits and look-ups, for `search lookups`
 
-module _ (k : Counts) (p : Part) where
+module _ (k : Counts) (p : RangeKind) where
   pub full-categories : p ≡ Category → leb mostCategories (k .categories) ≡ leb (most p) (countOf p k)
   full-categories e = rw e refl
 
@@ -61,7 +61,7 @@ pub class-index : (z m : List ℕ) → ClassIndex z m → IndexOf z m
 unfolding ClassIndex
 class-index z m h = h
 
-module _ (p : Part) (name : ℕ) (classes : List CategoryClass) where
+module _ (p : RangeKind) (name : ℕ) (classes : List CategoryClass) where
   pub category-listed : (t : Bool) → p ≡ Category → t ≡ hasClass name classes → t ≡ categoryListed p name classes
   category-listed t y e = rw y e
 
@@ -75,14 +75,14 @@ pub ruleset lookups = (tests, full-categories, full-days, full-extras, field-dai
 
 -- ---- the offence of a range and of a call, for `search own`: t says that there is no room for one more, s that its bit field, category or stop is known
 
-module _ (classes : List CategoryClass) (line : ℕ) (p : Part) (name : ℕ) (s : Bool) (d : s ≡ categoryListed p name classes) where
+module _ (classes : List CategoryClass) (line : ℕ) (p : RangeKind) (name : ℕ) (s : Bool) (d : s ≡ categoryListed p name classes) where
   pub category-fine : s ≡ true → Fine ≡ verdictBy (categoryAfter classes line p name)
   category-fine y = rw (sym d ∙ y) refl
 
   pub category-unknown : (v : Verdict) → s ≡ false → v ≡ verdictBy (some (offenceAt 38 line)) → v ≡ verdictBy (categoryAfter classes line p name)
   category-unknown v y o = rw (sym d ∙ y) o
 
-module _ (fields : List BitField) (classes : List CategoryClass) (k : Counts) (line : ℕ) (p : Part) (field name : ℕ) (t : Bool) (e : t ≡ leb (most p) (countOf p k)) where
+module _ (fields : List BitField) (classes : List CategoryClass) (k : Counts) (line : ℕ) (p : RangeKind) (field name : ℕ) (t : Bool) (e : t ≡ leb (most p) (countOf p k)) where
   pub range-over : (v : Verdict) → t ≡ true → v ≡ verdictBy (some (offenceAt 13 line)) → v ≡ verdictBy (rangeAfter fields classes k line p field name)
   unfolding _<|>_
   range-over v y o = rw (sym e ∙ y) o

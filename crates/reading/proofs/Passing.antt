@@ -26,8 +26,8 @@ use Rattle.timetable.specs.Plan.{openingIn, frequencyIn, formed, toldBy, toldIn
 use Rattle.timetable.specs.Service.{headLines, blocks, firstLine, firstOpening, openingOf, callsOf, serviceOf}
 use Rattle.timetable.specs.declared.CallLine.{CallLine}
 use Rattle.timetable.specs.declared.Opening.{Opening}
-use Rattle.timetable.specs.declared.Part.{Part}
-use Rattle.timetable.specs.declared.Part.the-variants.{Category, Days, Extra}
+use Rattle.timetable.specs.declared.RangeKind.{RangeKind}
+use Rattle.timetable.specs.declared.RangeKind.the-variants.{Category, Days, Extra}
 use Rattle.timetable.specs.declared.Told.{Told}
 use Rattle.timetable.specs.declared.Told.the-variants.{Skip, Other, Broken, Opens, Ranges, Calls}
 use Rattle.timetable.proofs.Calls.{calls-count}
@@ -57,7 +57,7 @@ calls-front a b =
     let v : List CallLine = gathered asCall (tolds b) in
     omega (arith, calls-count a, calls-count (a ++ b), ap length (said-append asCall a b), length-append u v)
 
-part-front : (p : Part) (a b : List Line) → length (partLines p a) ≤ length (partLines p (a ++ b))
+part-front : (p : RangeKind) (a b : List Line) → length (partLines p a) ≤ length (partLines p (a ++ b))
 part-front p a b =
     let e : partLines p (a ++ b) ≡ partLines p a ++ partLines p b
     = ap (gathered (ofPart p)) (said-append asRange a b) ∙ gathered-append (ofPart p) (rangesOf a) (rangesOf b) in

@@ -17,8 +17,8 @@ use Rattle.timetable.specs.Service.{withLegs, legsOn, callsOf, headLines, block
 use Rattle.timetable.specs.Table.{serviceWords}
 use Rattle.timetable.specs.declared.Call.{Call}
 use Rattle.timetable.specs.declared.CallLine.{CallLine}
-use Rattle.timetable.specs.declared.Part.{Part}
-use Rattle.timetable.specs.declared.Part.the-variants.{Category, Days, Extra}
+use Rattle.timetable.specs.declared.RangeKind.{RangeKind}
+use Rattle.timetable.specs.declared.RangeKind.the-variants.{Category, Days, Extra}
 use Rattle.timetable.specs.declared.RangeLine.{RangeLine}
 use Rattle.timetable.specs.declared.Told.{Told}
 use Rattle.timetable.specs.declared.Told.the-variants.{Skip, Other, Broken, Opens, Ranges, Calls}
@@ -28,7 +28,7 @@ use Rattle.reading.specs.Inner.Services.{blockWords, wordsALine, mostPla
 
 -- ---- a line gives one call or one range at most
 
-one-part : (q : Part) (r : RangeLine) → length (gathered (ofPart Category) (record { part = q; name = r .name; field = r .field; ends = r .ends } ∷ []))
+one-part : (q : RangeKind) (r : RangeLine) → length (gathered (ofPart Category) (record { part = q; name = r .name; field = r .field; ends = r .ends } ∷ []))
     + (length (gathered (ofPart Days) (record { part = q; name = r .name; field = r .field; ends = r .ends } ∷ [])) + length (gathered (ofPart Extra) (record { part = q; name = r .name; field = r .field; ends = r .ends } ∷ []))) ≤ 1
 unfolding gathered
 one-part Category r = omega arith
@@ -44,7 +44,7 @@ told-le (Opens o) = omega arith
 told-le (Ranges r) = omega (arith, one-part (r .part) r)
 told-le (Calls c) = omega arith
 
-parts-length : (p : Part) (l : Line) (ls : List Line) → length (partLines p (l ∷ ls)) ≡ length (gathered (ofPart p) (asRange (toldIn (l .text)))) + length (partLines p ls)
+parts-length : (p : RangeKind) (l : Line) (ls : List Line) → length (partLines p (l ∷ ls)) ≡ length (gathered (ofPart p) (asRange (toldIn (l .text)))) + length (partLines p ls)
 unfolding tolds gathered
 parts-length p l ls = ap length (gathered-append (ofPart p) (asRange (toldIn (l .text))) (rangesOf ls)) ∙ length-append (gathered (ofPart p) (asRange (toldIn (l .text)))) (partLines p ls)
 

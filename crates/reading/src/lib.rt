@@ -9,7 +9,7 @@ use lines::reader;
 use lines::reader::Reader;
 use timetable::Offence;
 use timetable::Opening;
-use timetable::Part;
+use timetable::RangeKind;
 use timetable::Told;
 use timetable::Verdict;
 ghost use mathlib.Core.Path.{_≡_};
@@ -358,7 +358,7 @@ fn offence_after(
 // 13, 10, and last in its line 38.
 fn range_offence(
     counts: Counts,
-    part: Part,
+    part: RangeKind,
     field: u32,
     name: u32,
     line: u32,
@@ -381,7 +381,7 @@ fn range_offence(
 }
 
 // 38: a *G line's category is not listed.
-fn category_offence(part: Part, name: u32, line: u32, zugart: &[u8], index: &[u32]) -> Verdict
+fn category_offence(part: RangeKind, name: u32, line: u32, zugart: &[u8], index: &[u32]) -> Verdict
     requires { ⌜ ClassIndex (now zugart) (now index) ⌝ }
     ensures { λ r. ⌜ r ≡ verdictBy (categoryAfter (classesIn (now (zugart .entry))) line part name) ⌝ }
 {
@@ -405,13 +405,13 @@ fn call_offence(counts: Counts, stop: u32, line: u32, bahnhof: &[u8], stops: &[u
 }
 
 // Whether a service has as many ranges of a kind as it may have.
-fn full(counts: Counts, part: Part) -> bool
+fn full(counts: Counts, part: RangeKind) -> bool
     ensures { λ r. ⌜ r ≡ leb (most part) (countOf part counts) ⌝ }
 {
     match part {
-        Part::Category => timetable::MOST_CATEGORIES <= counts.categories,
-        Part::Days => timetable::MOST_DAYS <= counts.days,
-        Part::Extra => timetable::MOST_EXTRAS <= counts.extras,
+        RangeKind::Category => timetable::MOST_CATEGORIES <= counts.categories,
+        RangeKind::Days => timetable::MOST_DAYS <= counts.days,
+        RangeKind::Extra => timetable::MOST_EXTRAS <= counts.extras,
     }
 }
 
@@ -427,13 +427,13 @@ fn field_known(bitfeld: &[u8], fields: &[u32], field: u32) -> bool
 }
 
 // Whether a range's category is in ZUGART; a range of another kind has none.
-fn category_listed(part: Part, name: u32, zugart: &[u8], index: &[u32]) -> bool
+fn category_listed(part: RangeKind, name: u32, zugart: &[u8], index: &[u32]) -> bool
     requires { ⌜ ClassIndex (now zugart) (now index) ⌝ }
     ensures { λ r. ⌜ r ≡ categoryListed part name (classesIn (now (zugart .entry))) ⌝ }
 {
     match part {
-        Part::Category => classes::known_class(zugart, index, name),
-        Part::Days => true,
-        Part::Extra => true,
+        RangeKind::Category => classes::known_class(zugart, index, name),
+        RangeKind::Days => true,
+        RangeKind::Extra => true,
     }
 }

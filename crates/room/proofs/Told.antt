@@ -24,8 +24,8 @@ use Rattle.timetable.specs.Plan.{formed, toldBy, toldIn, tolds, openingIn, freq
 use Rattle.timetable.specs.Service.{headLines, blocks, callsOf, serviceOf}
 use Rattle.timetable.specs.Legs.{covering}
 use Rattle.timetable.specs.Table.{serviceWords}
-use Rattle.timetable.specs.declared.Part.{Part}
-use Rattle.timetable.specs.declared.Part.the-variants.{Category, Days, Extra}
+use Rattle.timetable.specs.declared.RangeKind.{RangeKind}
+use Rattle.timetable.specs.declared.RangeKind.the-variants.{Category, Days, Extra}
 use Rattle.timetable.specs.declared.RangeLine.{RangeLine}
 use Rattle.timetable.specs.declared.Told.{Told}
 use Rattle.timetable.specs.declared.Told.the-variants.{Skip, Opens, Ranges, Calls}
@@ -90,7 +90,7 @@ lines-said (l ∷ ls) =
 one-part : (r : RangeLine) → length (ofPart Category r) + length (ofPart Days r) + length (ofPart Extra r) ≡ 1
 one-part r = go (r .part)
   where
-    go : (p : Part) → length (cond (eqb (partNumber p) 0) (r ∷ []) []) + length (cond (eqb (partNumber p) 1) (r ∷ []) []) + length (cond (eqb (partNumber p) 2) (r ∷ []) []) ≡ 1
+    go : (p : RangeKind) → length (cond (eqb (partNumber p) 0) (r ∷ []) []) + length (cond (eqb (partNumber p) 1) (r ∷ []) []) + length (cond (eqb (partNumber p) 2) (r ∷ []) []) ≡ 1
     go Category = refl
     go Days = refl
     go Extra = refl

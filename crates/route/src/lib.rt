@@ -8,7 +8,7 @@ use fields::StopNumber;
 use timetable::Call;
 use timetable::End;
 use timetable::Ends;
-use timetable::Part;
+use timetable::RangeKind;
 use timetable::RangeLine;
 ghost use mathlib.Core.Path.{_≡_};
 ghost use Prim.Native.Nat.{_+_, _*_, _-_, _%_, _≤_};
@@ -54,13 +54,13 @@ pub fn legs_on(w: &[u32], c: u32, range: RangeLine) -> RangeFound
 }
 
 // "*G and operating-day ranges need from < to ..; other *A need from ≤ to": these are loose.
-fn is_loose(part: Part) -> bool
+fn is_loose(part: RangeKind) -> bool
     ensures { λ r. ⌜ r ≡ isLoose part ⌝ }
 {
     match part {
-        Part::Category => false,
-        Part::Days => false,
-        Part::Extra => true,
+        RangeKind::Category => false,
+        RangeKind::Days => false,
+        RangeKind::Extra => true,
     }
 }
 

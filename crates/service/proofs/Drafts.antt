@@ -13,7 +13,7 @@ use Rattle.timetable.specs.Checks.{ownOffence, serviceChecks, serviceFirst}
 use Rattle.timetable.specs.Table.{serviceWords}
 use Rattle.timetable.specs.declared.Offence.{Offence}
 use Rattle.timetable.specs.declared.RangeLine.{RangeLine}
-use Rattle.timetable.specs.declared.Part.the-variants.{Category, Days, Extra}
+use Rattle.timetable.specs.declared.RangeKind.the-variants.{Category, Days, Extra}
 use Rattle.draft.proofs.Drafts.{draft-calls, draft-ranges, draft-service}
 use Rattle.draft.specs.Inner.Draft.{DraftOf, partIn}
 use Rattle.draft.specs.declared.Counts.{Counts}

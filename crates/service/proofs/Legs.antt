@@ -19,7 +19,7 @@ use Rattle.timetable.specs.Legs.{legCount, covers}
 use Rattle.timetable.specs.Checks.{eachOnce, legsFirst}
 use Rattle.timetable.specs.Table.{rowsIn, legsAt, categoryAt, dayAt, categoryWords, dayWords}
 use Rattle.timetable.specs.declared.Call.{Call}
-use Rattle.timetable.specs.declared.Part.the-variants.{Category, Days}
+use Rattle.timetable.specs.declared.RangeKind.the-variants.{Category, Days}
 use Rattle.timetable.specs.declared.RangeLine.{RangeLine}
 use Rattle.timetable.specs.declared.Verdict.{Verdict}
 use Rattle.timetable.specs.declared.Verdict.the-variants.{Fine}

@@ -18,8 +18,8 @@ use Rattle.timetable.specs.Checks.{isNone, endsFirst, legsFirst}
 use Rattle.timetable.specs.Table.{rowsIn, serviceWords}
 use Rattle.timetable.specs.declared.Call.{Call}
 use Rattle.timetable.specs.declared.Offence.{Offence}
-use Rattle.timetable.specs.declared.Part.{Part}
-use Rattle.timetable.specs.declared.Part.the-variants.{Category, Days, Extra}
+use Rattle.timetable.specs.declared.RangeKind.{RangeKind}
+use Rattle.timetable.specs.declared.RangeKind.the-variants.{Category, Days, Extra}
 use Rattle.timetable.specs.declared.RangeLine.{RangeLine}
 use Rattle.timetable.specs.declared.Verdict.{Verdict}
 use Rattle.timetable.specs.declared.Verdict.the-variants.{Fine, Offends}
@@ -34,7 +34,7 @@ use Rattle.service.specs.declared.ServiceCheck.the-variants.{Takes, Refu
 -- ---- each range whose ends are found is one of the service's
 
 module _ (cs : List Call) where
-  module _ {X : Type 0} (made : RangeLine → Legs → X) (p : Part) where
+  module _ {X : Type 0} (made : RangeLine → Legs → X) (p : RangeKind) where
     one-made : (r : RangeLine) (o : Option Legs) → isNone o ≡ false → length (withLegs (made r) o) ≡ 1
     one-made r none e = clash (sym e)
     one-made r (some g) e = refl

@@ -4,11 +4,10 @@ use mathlib.Core.Path.{_≡_, refl, sym, ap, ap₂, _∙_}
 use mathlib.Core.List.{List, [], _∷_, map}
 use mathlib.Core.Bool.{Bool, true, false, cond, not, _&&_, _||_}
 use mathlib.Core.Option.{Option, none, some}
-use Prim.Native.Nat.{ℕ, zero, suc, _+_, _-_, _*_, _≤_, _<_, _^_}
-use native.Mathlib.Nat.{zero-add, add-zero, sub-zero}
+use Prim.Native.Nat.{ℕ, zero, suc, _+_, _-_, _*_, _≤_, _<_}
+use native.Mathlib.Nat.{zero-add, sub-zero}
 use native.Mathlib.Omega.{arith}
-use lib.ListN.{length, getD, drop}
-use lib.Seq.{getD-drop}
+use lib.ListN.{length, drop}
 use lib.Dec.{eqb, leb, ltb, leb·suc-suc}
 use borrow.Author.Tests.{le-leb, lt-ltb, eq-eqb, ne-eqb, eqb-true, leb-true, ltb-true}
 use Rattle.base.specs.Lists.{some-of, countIf, find, upto, below}
@@ -21,6 +20,8 @@ use Rattle.timetable.specs.Delivery.{BitField, DayRange}
 use Rattle.timetable.specs.Legs.{covers, covering, runsBy, fieldRuns, operated, stretches}
 use Rattle.timetable.specs.Checks.{eachOnce}
 use Rattle.timetable.specs.Table.{rowsIn, dayAt}
+use Rattle.timetable.specs.Inner.Words.{dayRead}
+use Rattle.timetable.specs.declared.DayWords.{DayWords}
 use Rattle.sections.specs.Inner.Sections.{wordsBy, wordsOf}
 use Rattle.cover.specs.Inner.Cover.{coverPlaceFrom}
 use Rattle.cover.specs.declared.FirstRange.{FirstRange}
@@ -201,36 +202,25 @@ module _ (w : List ℕ) (v leg : ℕ) (x : FirstRange) (e : x ≡ coverPlaceFrom
     row-found : find (λ (r : DayRange). covers leg (r .legs)) (rowsIn dayAt daySize v w) ≡ some row
     row-found = first-found ∙ ap (rowAt dayAt (λ (r : DayRange). r .legs) daySize (λ w. refl) w) q
 
-    row-field : row .field ≡ getD w p 0
-    row-field = getD-drop p w 0 0 ∙ ap (λ (i : ℕ). getD w i 0) (add-zero p)
-
-    row-to : row .legs .to ≡ getD w (p + 2) 0
-    row-to = getD-drop p w 2 0
-
     row-covers : (leb (row .legs .from) leg ≡ true) × (ltb leg (row .legs .to) ≡ true)
     row-covers = and-true (leb (row .legs .from) leg) (ltb leg (row .legs .to)) (found-passes (λ (r : DayRange). covers leg (r .legs)) (rowsIn dayAt daySize v w) row row-found)
 
-    row-past : leg < getD w (p + 2) 0
-    row-past = omega (arith, ltb-true leg (row .legs .to) (row-covers .1), row-to)
+    pub row-room : v * daySize ≤ length w → p + daySize ≤ length w
+    row-room h = omega (arith, place-fits leg daySize v p x w e q)
 
-    pub sweep-less : (legs : ℕ) → leg < legs → legs - getD w (p + 2) 0 < legs - leg
-    sweep-less legs h = omega (arith, row-past)
+    -- it is read
+    module _ (range : DayWords) (read : range ≡ dayRead row) where
+      row-field : row .field ≡ range .field
+      row-field = sym (ap (λ (y : DayWords). y .field) read)
 
-    module _ (h : v * daySize ≤ length w) where
-      pub row-read : p < length w
-      row-read = omega (arith, place-fits leg daySize v p x w e q)
+      row-to : row .legs .to ≡ range .to
+      row-to = sym (ap (λ (y : DayWords). y .to) read)
 
-      pub row-byte : length w * 4 < 2 ^ 63 → p * 4 < 2 ^ 64
-      row-byte l = omega (arith, place-fits leg daySize v p x w e q)
+      row-past : leg < range .to
+      row-past = omega (arith, ltb-true leg (row .legs .to) (row-covers .1), row-to)
 
-      pub to-read : p + 2 < length w
-      to-read = omega (arith, place-fits leg daySize v p x w e q)
-
-      pub to-fits : length w < 2 ^ 64 → p + 2 < 2 ^ 64
-      to-fits l = omega (arith, place-fits leg daySize v p x w e q)
-
-      pub to-byte : length w * 4 < 2 ^ 63 → (p + 2) * 4 < 2 ^ 64
-      to-byte l = omega (arith, place-fits leg daySize v p x w e q)
+      pub sweep-less : (legs : ℕ) → leg < legs → legs - range .to < legs - leg
+      sweep-less legs h = omega (arith, row-past)
 
 -- ---- all days at once
 
@@ -263,37 +253,37 @@ module _ (fields : List BitField) (w : List ℕ) (v legs : ℕ) where
     sweep-covered broken h n d g =
         absurd (omega (arith, covered w v legs once leg h, none-found (λ (r : DayRange). covers leg (r .legs)) rs (first-found w v leg x e ∙ ap (rowAt dayAt (λ (r : DayRange). r .legs) daySize (λ w. refl) w) n)))
 
-    module _ (p : ℕ) (q : x ≡ At p) where
-      past : leg < getD w (p + 2) 0
-      past = row-past w v leg x e p q
+    module _ (p : ℕ) (q : x ≡ At p) (range : DayWords) (read : range ≡ dayRead (dayAt (drop p w))) where
+      past : leg < range .to
+      past = row-past w v leg x e p q range read
 
       -- the legs from this one on, as far as the range reaches, run on the range's days
-      row-runs : (d j : ℕ) → leg ≤ j → j < getD w (p + 2) 0 → j < legs → operated fields rs d j ≡ fieldRuns fields (getD w p 0) d
+      row-runs : (d j : ℕ) → leg ≤ j → j < range .to → j < legs → operated fields rs d j ≡ fieldRuns fields (range .field) d
       row-runs d j a g h =
           let r : DayRange = dayAt (drop p w) in
           let from : r .legs .from ≤ j = omega (arith, leb-true (r .legs .from) leg (row-covers w v leg x e p q .0)) in
-          let to : j < r .legs .to = omega (arith, row-to w v leg x e p q) in
+          let to : j < r .legs .to = omega (arith, row-to w v leg x e p q range read) in
           only-says (λ (r : DayRange). covers j (r .legs)) (λ (r : DayRange). fieldRuns fields (r .field) d) (λ (r : DayRange). covers leg (r .legs)) rs r (covered w v legs once j h) (row-found w v leg x e p q) (rw (le-leb (r .legs .from) j from, lt-ltb j (r .legs .to) to) refl)
-          ∙ ap (λ (b : ℕ). fieldRuns fields b d) (row-field w v leg x e p q)
+          ∙ ap (λ (b : ℕ). fieldRuns fields b d) (row-field w v leg x e p q range read)
 
       -- `on` has the range's days; the others are what the code makes of it
       module _ (on again over : List ℕ) {begun ended broken begun′ ended′ broken′ : List ℕ} where
-        pub swept-next : leg < legs → ((d : ℕ) → d < mostPeriodDays → bit on (d + 2) ≡ fieldRuns fields (getD w p 0) d) →
+        pub swept-next : leg < legs → ((d : ℕ) → d < mostPeriodDays → bit on (d + 2) ≡ fieldRuns fields (range .field) d) →
             ((k : ℕ) → k < bitCount → bit again k ≡ (bit ended k && bit on k)) → ((k : ℕ) → k < bitCount → bit broken′ k ≡ (bit broken k || bit again k)) →
             ((k : ℕ) → k < bitCount → bit over k ≡ (bit begun k && not (bit on k))) → ((k : ℕ) → k < bitCount → bit ended′ k ≡ (bit ended k || bit over k)) →
-            ((k : ℕ) → k < bitCount → bit begun′ k ≡ (bit begun k || bit on k)) → Swept begun ended broken leg → Swept begun′ ended′ broken′ (getD w (p + 2) 0)
+            ((k : ℕ) → k < bitCount → bit begun′ k ≡ (bit begun k || bit on k)) → Swept begun ended broken leg → Swept begun′ ended′ broken′ (range .to)
         swept-next h o a t z u s i = record { each = day }
           where
-            day : (d : ℕ) → d < mostPeriodDays → brokenBy (runsOn begun′ d) (runsOn ended′ d) (runsOn broken′ d) (map (operated fields rs d) (upto (legs - getD w (p + 2) 0) (getD w (p + 2) 0))) ≡ rowsBroken fields legs rs d
+            day : (d : ℕ) → d < mostPeriodDays → brokenBy (runsOn begun′ d) (runsOn ended′ d) (runsOn broken′ d) (map (operated fields rs d) (upto (legs - range .to) (range .to))) ≡ rowsBroken fields legs rs d
             day d g =
                 let k : d + 2 < bitCount = omega arith in
-                let m : ℕ = getD w (p + 2) 0 - leg - 1 in
+                let m : ℕ = range .to - leg - 1 in
                 let n : ℕ = legs - leg - 1 in
-                let r : Bool = fieldRuns fields (getD w p 0) d in
-                let to : getD w (p + 2) 0 ≡ leg + suc m = omega (arith, past) in
-                let left : legs - getD w (p + 2) 0 ≡ suc n - suc m = omega (arith, past) in
+                let r : Bool = fieldRuns fields (range .field) d in
+                let to : range .to ≡ leg + suc m = omega (arith, past) in
+                let left : legs - range .to ≡ suc n - suc m = omega (arith, past) in
                 let all : suc n ≡ legs - leg = omega arith in
-                by-bits (runsOn begun′ d) (runsOn begun d || r) (runsOn ended′ d) (runsOn ended d || (runsOn begun d && not r)) (runsOn broken′ d) (runsOn broken d || (runsOn ended d && r)) (map (operated fields rs d) (upto (legs - getD w (p + 2) 0) (getD w (p + 2) 0)))
+                by-bits (runsOn begun′ d) (runsOn begun d || r) (runsOn ended′ d) (runsOn ended d || (runsOn begun d && not r)) (runsOn broken′ d) (runsOn broken d || (runsOn ended d && r)) (map (operated fields rs d) (upto (legs - range .to) (range .to)))
                 (s (d + 2) k ∙ ap (λ (u : Bool). runsOn begun d || u) (o d g))
                 (u (d + 2) k ∙ ap (λ (u : Bool). runsOn ended d || u) (z (d + 2) k ∙ ap (λ (u : Bool). runsOn begun d && not u) (o d g)))
                 (t (d + 2) k ∙ ap (λ (u : Bool). runsOn broken d || u) (a (d + 2) k ∙ ap (λ (u : Bool). runsOn ended d && u) (o d g)))
@@ -353,4 +343,4 @@ module _ (fields : List BitField) (w : List ℕ) (v legs days : ℕ) (y : v ≡ 
   pub never-torn : false ≡ rowsTorn fields days legs (rowsIn dayAt daySize v w)
   never-torn = sym (none-torn (rowsBroken fields legs (rowsIn dayAt daySize v w)) days 0 (λ d. ap (λ (n : ℕ). rowsBroken fields legs (rowsIn dayAt daySize n w) d) y ∙ one-range d))
 
-pub ruleset sweeps = (tests, never-torn, field-daily, field-found, swept-none, sweep-covered, row-read, row-byte, to-read, to-fits, to-byte, sweep-less, swept-done, torn-by)
+pub ruleset sweeps = (tests, never-torn, field-daily, field-found, swept-none, sweep-covered, row-room, sweep-less, swept-done, torn-by)

@@ -12,7 +12,7 @@ use timetable::EXTRA_WORDS;
 use timetable::MOST_CATEGORIES;
 use timetable::MOST_DAYS;
 use timetable::Offence;
-use timetable::Part;
+use timetable::RangeKind;
 use timetable::SERVICE_WORDS;
 use timetable::Verdict;
 ghost use mathlib.Core.Path.{_≡_};
@@ -177,7 +177,7 @@ fn legs_wrong(
     let c = counts.calls;
     let n = draft::range_count(counts);
     let mut words = [0u32; CATEGORY_WORDS * MOST_CATEGORIES as usize];
-    range_words::part_into(Part::Category, ranges, n, calls, c, &mut words, 0);
+    range_words::part_into(RangeKind::Category, ranges, n, calls, c, &mut words, 0);
     if each_once(&words, counts.categories, CATEGORY_WORDS, c - 1) {
         return operating_wrong(d, calls, ranges, bitfeld, fields, days);
     }
@@ -205,7 +205,7 @@ fn operating_wrong(
     let c = counts.calls;
     let n = draft::range_count(counts);
     let mut words = [0u32; DAYS_WORDS * MOST_DAYS as usize];
-    range_words::part_into(Part::Days, ranges, n, calls, c, &mut words, 0);
+    range_words::part_into(RangeKind::Days, ranges, n, calls, c, &mut words, 0);
     days_wrong(&words, counts.days, c - 1, d.line, bitfeld, fields, days)
 }
 
@@ -286,7 +286,8 @@ fn torn_days(ranges: &[u32], v: u32, legs: u32, bitfeld: &[u8], fields: &[u32]) 
         let FirstRange::At(place) = cover::covering_place(ranges, v, DAYS_WORDS, leg) else {
             return broken;
         };
-        let on = field_days(bitfeld, fields, ranges[place]);
+        let range = timetable::day_at(ranges, place);
+        let on = field_days(bitfeld, fields, range.field);
         // named first: the check covers no call that is laid straight into an array that a loop carries
         let broken_now = bitfield::either(broken, bitfield::both(ended, on));
         let ended_now = bitfield::either(ended, bitfield::without(begun, on));
@@ -294,7 +295,7 @@ fn torn_days(ranges: &[u32], v: u32, legs: u32, bitfeld: &[u8], fields: &[u32]) 
         broken = broken_now;
         ended = ended_now;
         begun = begun_now;
-        leg = ranges[place + 2];
+        leg = range.to;
     }
     broken
 }

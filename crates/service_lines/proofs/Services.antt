@@ -15,7 +15,7 @@ use Rattle.timetable.specs.Delivery.{Service}
 use Rattle.timetable.specs.Layout.{serviceHead, callSize, categorySize, daySize, extraSize, mostCalls, mostCategories, mostDays, mostExtras}
 use Rattle.timetable.specs.Table.{rowsIn, callAt, categoryAt, dayAt, extraAt, openingAt, wordCountIn, calls#, categories#, days#, extras#, categoryPlace, dayPlace, extraPlace, serviceAt, servicesIn, stops#, services#, servicesPlace, stopNumberAt, withStop, resolved, tableOf, countsSound, sizesSound, recordSound, recordsSound}
 use Rattle.timetable.specs.declared.Opening.{Opening}
-use Rattle.timetable.specs.declared.Part.the-variants.{Category, Days, Extra}
+use Rattle.timetable.specs.declared.RangeKind.the-variants.{Category, Days, Extra}
 use Rattle.timetable.proofs.Rows.{length-rows, rows-as}
 use Rattle.table.specs.JustTable.{JustTable}
 use Rattle.table.proofs.Says.{Sizes, head-word, record-says, record-sized}

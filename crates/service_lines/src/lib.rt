@@ -10,7 +10,7 @@ use timetable::DAYS_WORDS;
 use timetable::EXTRA_WORDS;
 use timetable::EXTRAS_AT;
 use timetable::FIRST_SERVICE_AT;
-use timetable::Part;
+use timetable::RangeKind;
 use timetable::SERVICE_WORDS;
 use timetable::SERVICES_AT;
 ghost use mathlib.Core.Path.{_≡_};
@@ -23,60 +23,69 @@ ghost use Rattle.timetable.specs.Table.{stops#, stopNumberAt, callAt, tableOf, 
 ghost use Rattle.table.specs.JustTable.{JustTable};
 ghost use Rattle.plan_services.specs.Services.{serviceLines, planLines};
 ghost use Rattle.writable.specs.Writable.{callWritable, serviceWritable};
-ghost use Rattle.service_lines.specs.Inner.Record.{partSize, partCount, partPlace, partRows, rangeWritable};
+ghost use Rattle.service_lines.specs.Inner.Record.{rangeSize, partCount, partPlace, partRows, rangeWritable};
 ghost use Rattle.service_lines.specs.Inner.Record.{shownCall, callRows, shown, Standing};
 
 // ---- ranges, by their part
 
 // The words of a range.
-pub fn part_words(part: Part) -> usize
-    ensures { λ r. ⌜ r ≡ partSize part ⌝ }
+pub fn range_words(part: RangeKind) -> usize
+    ensures { λ r. ⌜ r ≡ rangeSize part ⌝ }
 {
     match part {
-        Part::Category => CATEGORY_WORDS,
-        Part::Days => DAYS_WORDS,
-        Part::Extra => EXTRA_WORDS,
+        RangeKind::Category => CATEGORY_WORDS,
+        RangeKind::Days => DAYS_WORDS,
+        RangeKind::Extra => EXTRA_WORDS,
     }
 }
 
 // How many ranges the part has.
-pub fn part_count(s: &[u32], part: Part) -> u32
+pub fn part_count(s: &[u32], part: RangeKind) -> u32
     requires { ⌜ sizesSound (now s) ≡ true ⌝ }
     ensures { λ r. ⌜ r ≡ partCount part (now (s .entry)) ⌝ }
 {
     match part {
-        Part::Category => s[CATEGORIES_AT],
-        Part::Days => s[DAYS_AT],
-        Part::Extra => s[EXTRAS_AT],
+        RangeKind::Category => s[CATEGORIES_AT],
+        RangeKind::Days => s[DAYS_AT],
+        RangeKind::Extra => s[EXTRAS_AT],
     }
 }
 
 // Where they begin.
-pub fn part_place(s: &[u32], part: Part) -> usize
+pub fn part_place(s: &[u32], part: RangeKind) -> usize
     requires { ⌜ sizesSound (now s) ≡ true ⌝ }
     ensures { λ r. ⌜ r ≡ partPlace part (now (s .entry)) ⌝ }
 {
     match part {
-        Part::Category => table::category_place(s),
-        Part::Days => table::day_place(s),
-        Part::Extra => table::extra_place(s),
+        RangeKind::Category => table::category_place(s),
+        RangeKind::Days => table::day_place(s),
+        RangeKind::Extra => table::extra_place(s),
     }
 }
 
 // Whether the range at a place can be written.
-fn range_writable(s: &[u32], part: Part, p: usize) -> bool
-    requires { ⌜ p + partSize part ≤ length (now s) ⌝ }
+fn range_writable(s: &[u32], part: RangeKind, p: usize) -> bool
+    requires { ⌜ p + rangeSize part ≤ length (now s) ⌝ }
     ensures { λ r. ⌜ r ≡ rangeWritable part (drop p (now (s .entry))) ⌝ }
 {
     match part {
-        Part::Category => writable::name_writable(s[p]),
-        Part::Days => writable::field_writable(s[p]),
-        Part::Extra => writable::extra_writable(s[p], s[p + 1]),
+        RangeKind::Category => {
+            let range = timetable::category_at(s, p);
+            writable::name_writable(range.name)
+        }
+        RangeKind::Days => {
+            let range = timetable::day_at(s, p);
+            writable::field_writable(range.field)
+        }
+        RangeKind::Extra => {
+            let range = timetable::extra_at(s, p);
+            writable::extra_writable(range.code, range.field)
+        }
     }
 }
 
 // Whether all ranges of the part can.
-fn ranges_writable(s: &[u32], part: Part) -> bool
+fn ranges_writable(s: &[u32], part: RangeKind) -> bool
     requires { ⌜ sizesSound (now s) ≡ true ⌝ }
     ensures { λ r. ⌜ r ≡ every (rangeWritable part) (partRows part (now (s .entry))) ⌝ }
 {
@@ -86,7 +95,7 @@ fn ranges_writable(s: &[u32], part: Part) -> bool
         if !range_writable(s, part, p) {
             return false;
         }
-        p += part_words(part);
+        p += range_words(part);
         k -= 1;
     }
     true
@@ -147,13 +156,13 @@ fn service_writable(w: &[u32], s: &[u32]) -> bool
     if !writable::opening_writable(table::opening_at(s)) {
         return false;
     }
-    if !ranges_writable(s, Part::Category) {
+    if !ranges_writable(s, RangeKind::Category) {
         return false;
     }
-    if !ranges_writable(s, Part::Days) {
+    if !ranges_writable(s, RangeKind::Days) {
         return false;
     }
-    if !ranges_writable(s, Part::Extra) {
+    if !ranges_writable(s, RangeKind::Extra) {
         return false;
     }
     calls_writable(w, s)

@@ -13,7 +13,7 @@ use Rattle.timetable.specs.Delivery.{StopRecord, Service}
 use Rattle.timetable.specs.Table.{stopPlace, withStop, pointing, callWords, headWords, serviceWords}
 use Rattle.timetable.specs.declared.Call.{Call}
 use Rattle.timetable.specs.declared.Opening.{Opening}
-use Rattle.timetable.specs.declared.Part.the-variants.{Category, Days, Extra}
+use Rattle.timetable.specs.declared.RangeKind.the-variants.{Category, Days, Extra}
 use Rattle.timetable.specs.declared.RangeLine.{RangeLine}
 use Rattle.timetable.proofs.Records.{categories-length, days-length, extras-length, service-length}
 use Rattle.draft.specs.Inner.Draft.{draftCall, draftRange, mostRanges, callsLent, rangesLent, ranges#, Within, callsIn, rangesIn, draftedService}

@@ -4,7 +4,7 @@ use draft::DRAFT_CALL_WORDS;
 use draft::Drafted;
 use timetable::Call;
 use timetable::Opening;
-use timetable::Part;
+use timetable::RangeKind;
 ghost use mathlib.Core.Path.{_≡_};
 ghost use Prim.Native.Nat.{_+_, _-_, _*_, _/_, _≤_};
 ghost use lib.ListN.{length};
@@ -178,9 +178,9 @@ fn ranges_into(
         (now (table .exit) ≡ write (now (table .entry)) at
         (rangeWords (callsIn c (now (calls .entry))) (rangesIn n (now (ranges .entry))))) ⌝ }
 {
-    let categories = range_words::part_into(Part::Category, ranges, n, calls, c, table, at);
-    let day_ranges = range_words::part_into(Part::Days, ranges, n, calls, c, table, categories);
-    let extras = range_words::part_into(Part::Extra, ranges, n, calls, c, table, day_ranges);
+    let categories = range_words::part_into(RangeKind::Category, ranges, n, calls, c, table, at);
+    let day_ranges = range_words::part_into(RangeKind::Days, ranges, n, calls, c, table, categories);
+    let extras = range_words::part_into(RangeKind::Extra, ranges, n, calls, c, table, day_ranges);
     RangeEnds {
         categories,
         day_ranges,

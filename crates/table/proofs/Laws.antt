@@ -1,12 +1,10 @@
 -- The needs of the table's functions, a ruleset for each family. Assumes nothing.
 use mathlib.Core.Path.{_≡_, ap, _∙_, sym}
 use mathlib.Core.List.{List}
-use mathlib.Core.Bool.{Bool, true, false, not, _&&_}
+use mathlib.Core.Bool.{Bool, true, false, not}
 use Prim.Native.Nat.{ℕ, _+_, _-_, _*_, _^_, _≤_, _<_}
-use native.Mathlib.Nat.{add-zero, add-assoc}
 use native.Mathlib.Omega.{arith}
-use lib.ListN.{length, getD, drop}
-use lib.Seq.{getD-drop}
+use lib.ListN.{length, drop}
 use lib.Dec.{ltb, leb}
 use borrow.Author.Tests.{not-true, not-false}
 use Rattle.base.specs.Lists.{every}
@@ -14,6 +12,8 @@ use Rattle.base.proofs.Laws.{tests}
 use Rattle.timetable.specs.Layout.{callSize}
 use Rattle.timetable.specs.Ranges.{inOrder}
 use Rattle.timetable.specs.Table.{rowsIn, legsAt, callAt, callSound, legsSound}
+use Rattle.timetable.specs.Inner.Words.{legsRead, legsHeld}
+use Rattle.timetable.specs.declared.LegWords.{LegWords}
 use Rattle.timetable.specs.declared.Call.{Call}
 use Rattle.timetable.proofs.Rows.{stride-turn, rows-again, rows-out, rows-done}
 
@@ -38,21 +38,18 @@ module _ (loose : Bool) (f t : ℕ) where
   pub strict-order : loose ≡ false → ltb f t ≡ inOrder loose f t
   strict-order e = rw e
 
--- the legs at p; x says whether they are in order
-module _ (w : List ℕ) (p c : ℕ) (loose x : Bool) (e : x ≡ inOrder loose (getD w p 0) (getD w (p + 1) 0)) where
-  legs-are : legsSound loose c (legsAt 0 (drop p w)) ≡ (x && ltb (getD w (p + 1) 0) c)
-  legs-are = rw (e, getD-drop p w 0 0, add-zero p, getD-drop p w 1 0)
+-- a range's ends; x says whether they are in order
+module _ (g : LegWords) (c : ℕ) (loose x : Bool) (e : x ≡ inOrder loose (g .from) (g .to)) where
+  pub legs-bad : not x ≡ true → false ≡ legsSound loose c (legsHeld g)
+  legs-bad n = rw (sym e ∙ not-true x n)
 
-  pub legs-bad : not x ≡ true → false ≡ legsSound loose c (legsAt 0 (drop p w))
-  legs-bad n = sym (legs-are ∙ rw (not-true x n))
+  pub legs-end : not x ≡ false → ltb (g .to) c ≡ legsSound loose c (legsHeld g)
+  legs-end n = rw (sym e ∙ not-false x n)
 
-  pub legs-end : not x ≡ false → ltb (getD w (p + 1) 0) c ≡ legsSound loose c (legsAt 0 (drop p w))
-  legs-end n = sym (legs-are ∙ rw (not-false x n))
-
--- a range at p with so many words of its own before its legs; x says whether they are sound
-module _ (w : List ℕ) (p k own c : ℕ) (loose r x : Bool) (h : 0 < k) (e : x ≡ legsSound loose c (legsAt 0 (drop (p + own) w))) (v : every (legsSound loose c) (rowsIn (legsAt own) (own + 2) k (drop p w)) ≡ r) where
+-- those of the range at p, after so many words of its own; x says whether they are sound
+module _ (w : List ℕ) (p k own c : ℕ) (loose r x : Bool) (h : 0 < k) (g : LegWords) (q : g ≡ legsRead (legsAt own (drop p w))) (e : x ≡ legsSound loose c (legsHeld g)) (v : every (legsSound loose c) (rowsIn (legsAt own) (own + 2) k (drop p w)) ≡ r) where
   legs-here : x ≡ legsSound loose c (legsAt own (drop p w))
-  legs-here = e ∙ rw (getD-drop (p + own) w 0 0, add-zero (p + own), getD-drop (p + own) w 1 0, add-assoc p own 1, getD-drop p w own 0, getD-drop p w (own + 1) 0)
+  legs-here = e ∙ ap (λ (y : LegWords). legsSound loose c (legsHeld y)) q
 
   pub ranges-again : not x ≡ false → every (legsSound loose c) (rowsIn (legsAt own) (own + 2) (k - 1) (drop (p + (own + 2)) w)) ≡ r
   ranges-again = rows-again (legsSound loose c) (legsAt own) (own + 2) w p k r x h legs-here v
@@ -68,11 +65,8 @@ module _ (w : List ℕ) (p k own : ℕ) (h : 0 < k) (v : p + (own + 2) * k ≤ l
   pub ranges-rest : p + (own + 2) + (own + 2) * (k - 1) ≤ length w
   ranges-rest = omega (arith, stride-turn (own + 2) k h)
 
-  pub ranges-legs : p + own + 2 ≤ length w
+  pub ranges-legs : p + (own + 2) ≤ length w
   ranges-legs = omega (arith, ranges-rest)
-
-  pub ranges-place : length w < 2 ^ 64 → p + own < 2 ^ 64
-  ranges-place l = omega (arith, ranges-rest)
 
   pub ranges-size : length w < 2 ^ 64 → own + 2 < 2 ^ 64
   ranges-size l = omega (arith, ranges-rest)
@@ -80,4 +74,4 @@ module _ (w : List ℕ) (p k own : ℕ) (h : 0 < k) (v : p + (own + 2) * k ≤ l
   pub ranges-next : length w < 2 ^ 64 → p + (own + 2) < 2 ^ 64
   ranges-next l = omega (arith, ranges-rest)
 
-pub ruleset rows = (tests, calls-again, calls-out, calls-done, loose-order, strict-order, legs-bad, legs-end, ranges-again, ranges-out, ranges-done, ranges-rest, ranges-legs, ranges-place, ranges-size, ranges-next)
+pub ruleset rows = (tests, calls-again, calls-out, calls-done, loose-order, strict-order, legs-bad, legs-end, ranges-again, ranges-out, ranges-done, ranges-rest, ranges-legs, ranges-size, ranges-next)

@@ -23,6 +23,7 @@ use timetable::INTERCHANGES_AT;
 use timetable::KIND_AT;
 use timetable::LATEST_TIME;
 use timetable::LOW_AT;
+use timetable::LegWords;
 use timetable::MOST_CALLS;
 use timetable::MOST_CATEGORIES;
 use timetable::MOST_CLASS;
@@ -51,6 +52,7 @@ ghost use Rattle.timetable.specs.Table.{wordCountIn, rowsIn, legsAt, classAt, c
 ghost use Rattle.timetable.specs.Table.{categoryPlace, dayPlace, extraPlace, used, tableOf, classSound, callSound};
 ghost use Rattle.timetable.specs.Table.{legsSound, countsSound, sizesSound, recordSound, recordsSound};
 ghost use Rattle.timetable.specs.Table.{headSound, isTable};
+ghost use Rattle.timetable.specs.Inner.Words.{legsHeld};
 ghost use Rattle.table.specs.JustTable.{recordEnd, headerSound, classesPlace, boundsSound, extrasSound};
 ghost use Rattle.table.specs.Steady.{callsSteady, recordsSteady, steady, lookBy};
 
@@ -472,7 +474,7 @@ fn ranges_sound(w: &[u32], at: usize, n: u32, own: usize, loose: bool, c: u32) -
     let mut p = at;
     let mut k = n;
     while 0 < k {
-        if !legs_sound(w, p + own, loose, c) {
+        if !legs_sound(timetable::legs_at(w, p, own), loose, c) {
             return false;
         }
         p += own + 2;
@@ -481,13 +483,12 @@ fn ranges_sound(w: &[u32], at: usize, n: u32, own: usize, loose: bool, c: u32) -
     true
 }
 
-// Whether the legs at a place are in order and end below c.
-fn legs_sound(w: &[u32], p: usize, loose: bool, c: u32) -> bool
-    requires { ⌜ p + 2 ≤ length (now w) ⌝ }
-    ensures { λ r. ⌜ r ≡ legsSound loose c (legsAt 0 (drop p (now (w .entry)))) ⌝ }
+// Whether a range's ends are in order and below c.
+fn legs_sound(legs: LegWords, loose: bool, c: u32) -> bool
+    ensures { λ r. ⌜ r ≡ legsSound loose c (legsHeld legs) ⌝ }
 {
-    if !timetable::in_order(loose, w[p], w[p + 1]) {
+    if !timetable::in_order(loose, legs.from, legs.to) {
         return false;
     }
-    w[p + 1] < c
+    legs.to < c
 }

@@ -10,7 +10,7 @@ use Rattle.fields.specs.declared.Time.{Time}
 use Rattle.fields.specs.declared.Time.the-variants.{Absent, Stated, NoTime}
 use Rattle.lines.specs.Lines.{Line}
 use Rattle.timetable.specs.Plan.{flagsOf, toldIn, tolds, asRange, rangesOf, ofPart, partLines, saidOn}
-use Rattle.timetable.specs.declared.Part.{Part}
+use Rattle.timetable.specs.declared.RangeKind.{RangeKind}
 use Rattle.timetable.specs.declared.Told.{Told}
 
 pub tolds-more : (before : List Line) (l : Line) → tolds (before ++ (l ∷ [])) ≡ tolds before ++ (toldIn (l .text) ∷ [])
@@ -26,7 +26,7 @@ said-more say before l =
     ∙ ap (λ (r : List _). gathered say (tolds before) ++ r) (append-nil (say (toldIn (l .text)))))
 
 -- the ranges of one kind
-pub part-more : (p : Part) (before : List Line) (l : Line) → partLines p (before ++ (l ∷ [])) ≡ partLines p before ++ gathered (ofPart p) (asRange (toldIn (l .text)))
+pub part-more : (p : RangeKind) (before : List Line) (l : Line) → partLines p (before ++ (l ∷ [])) ≡ partLines p before ++ gathered (ofPart p) (asRange (toldIn (l .text)))
 part-more p before l = ap (gathered (ofPart p)) (said-more asRange before l) ∙ gathered-append (ofPart p) (rangesOf before) (asRange (toldIn (l .text)))
 
 -- ---- what is said, with the numbers of the lines

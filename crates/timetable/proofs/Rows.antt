@@ -12,7 +12,8 @@ use borrow.Author.Tests.{not-true, not-false}
 use Rattle.base.specs.Lists.{All, nil, cons, every, gathered}
 use Rattle.base.proofs.Loops.{and-true}
 use Rattle.base.proofs.Laws.{tests}
-use Rattle.timetable.specs.Table.{rowsIn, callAt}
+use Rattle.timetable.specs.Table.{rowsIn, callAt, legsAt, categoryAt, dayAt, extraAt}
+use Rattle.timetable.specs.Inner.Words.{legsRead, categoryRead, dayRead, extraRead}
 
 -- ---- room for rows, where their size is no literal
 
@@ -185,3 +186,25 @@ call-is w p =
     )
 
 pub ruleset calls = (tests, call-is)
+
+-- ---- and a range, for `search range-words`
+
+module _ (w : List ℕ) (p : ℕ) where
+  first-word : getD (drop p w) 0 0 ≡ getD w p 0
+  first-word = getD-drop p w 0 0 ∙ ap (λ (i : ℕ). getD w i 0) (add-zero p)
+
+  pub legs-is : (k : ℕ) → record { from = getD w (p + k) 0; to = getD w (p + k + 1) 0 } ≡ legsRead (legsAt k (drop p w))
+  legs-is k =
+      let b : getD (drop p w) (k + 1) 0 ≡ getD w (p + k + 1) 0 = getD-drop p w (k + 1) 0 ∙ ap (λ (i : ℕ). getD w i 0) (omega arith) in
+      rw (getD-drop p w k 0, b)
+
+  pub category-is : record { name = getD w p 0; from = getD w (p + 1) 0; to = getD w (p + 2) 0 } ≡ categoryRead (categoryAt (drop p w))
+  category-is = rw (first-word, getD-drop p w 1 0, getD-drop p w 2 0)
+
+  pub day-is : record { field = getD w p 0; from = getD w (p + 1) 0; to = getD w (p + 2) 0 } ≡ dayRead (dayAt (drop p w))
+  day-is = rw (first-word, getD-drop p w 1 0, getD-drop p w 2 0)
+
+  pub extra-is : record { code = getD w p 0; field = getD w (p + 1) 0; from = getD w (p + 2) 0; to = getD w (p + 3) 0 } ≡ extraRead (extraAt (drop p w))
+  extra-is = rw (first-word, getD-drop p w 1 0, getD-drop p w 2 0, getD-drop p w 3 0)
+
+pub ruleset range-words = (tests, legs-is, category-is, day-is, extra-is)

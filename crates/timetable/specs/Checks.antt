@@ -19,8 +19,8 @@ use Rattle.timetable.specs.Legs.{covering, fieldKnown, stretches, legCou
 use Rattle.timetable.specs.declared.Call.{Call}
 use Rattle.timetable.specs.declared.CallLine.{CallLine}
 use Rattle.timetable.specs.declared.Offence.{Offence}
-use Rattle.timetable.specs.declared.Part.{Part}
-use Rattle.timetable.specs.declared.Part.the-variants.{Category, Days, Extra}
+use Rattle.timetable.specs.declared.RangeKind.{RangeKind}
+use Rattle.timetable.specs.declared.RangeKind.the-variants.{Category, Days, Extra}
 use Rattle.timetable.specs.declared.RangeLine.{RangeLine}
 use Rattle.timetable.specs.declared.Told.{Told}
 use Rattle.timetable.specs.declared.Told.the-variants.{Skip, Other, Broken, Opens, Ranges, Calls}
@@ -29,13 +29,13 @@ use Rattle.timetable.specs.declared.Told.the-variants.{Skip, Other, Brok
 -- document 02, No. 1: 38 "last in its line")
 
 -- "50 *G, 50 *A VE or 100 other *A"
-abbrev pub most : Part → ℕ
+abbrev pub most : RangeKind → ℕ
 most Category = mostCategories
 most Days = mostDays
 most Extra = mostExtras
 
 -- document 02, No. 1: 38 is "for a *G category not listed"; this is its negation. A range of another kind has no category.
-abbrev pub categoryListed : Part → ℕ → List CategoryClass → Bool
+abbrev pub categoryListed : RangeKind → ℕ → List CategoryClass → Bool
 categoryListed Category name classes = hasClass name classes
 categoryListed Days name classes = true
 categoryListed Extra name classes = true

@@ -15,3 +15,4 @@ pub mod Run
 pub mod Questions
 pub mod StopNames
 pub mod Trial
+pub mod Inner

@@ -23,8 +23,8 @@ use Rattle.forms.specs.declared.Kind.the-variants.{Opening as OpeningKind, Freq
 use Rattle.timetable.specs.Layout.{kindZ, kindT}
 use Rattle.timetable.specs.declared.Opening.{Opening}
 use Rattle.timetable.specs.declared.CallLine.{CallLine}
-use Rattle.timetable.specs.declared.Part.{Part}
-use Rattle.timetable.specs.declared.Part.the-variants.{Category, Days, Extra}
+use Rattle.timetable.specs.declared.RangeKind.{RangeKind}
+use Rattle.timetable.specs.declared.RangeKind.the-variants.{Category, Days, Extra}
 use Rattle.timetable.specs.declared.RangeLine.{RangeLine}
 use Rattle.timetable.specs.declared.Told.{Told}
 use Rattle.timetable.specs.declared.Told.the-variants.{Skip, Other, Broken, Opens, Ranges, Calls}
@@ -75,7 +75,7 @@ categoryIn text = record {
 abbrev pub VE : ℕ
 VE = 22085
 
-abbrev pub attributePart : ℕ → Part
+abbrev pub attributePart : ℕ → RangeKind
 attributePart code = cond (eqb code VE) Days Extra
 
 -- "*A: 4-5 code .., 7-13 from, 15-21 to, 23-28 bit field digits or blank, 30-35 and 37-42 details"; "A blank bit field means 000000, daily."
@@ -181,19 +181,19 @@ abbrev pub rangesOf : List Line → List RangeLine
 rangesOf ls = gathered asRange (tolds ls)
 
 -- the three kinds of ranges, numbered in the table's order
-abbrev pub partNumber : Part → ℕ
+abbrev pub partNumber : RangeKind → ℕ
 partNumber Category = 0
 partNumber Days = 1
 partNumber Extra = 2
 
-abbrev pub isPart : Part → RangeLine → Bool
+abbrev pub isPart : RangeKind → RangeLine → Bool
 isPart p r = eqb (partNumber (r .part)) (partNumber p)
 
-abbrev pub ofPart : Part → RangeLine → List RangeLine
+abbrev pub ofPart : RangeKind → RangeLine → List RangeLine
 ofPart p r = cond (isPart p r) (r ∷ []) []
 
 -- the ranges of one kind, in line order
-abbrev pub partLines : Part → List Line → List RangeLine
+abbrev pub partLines : RangeKind → List Line → List RangeLine
 partLines p ls = gathered (ofPart p) (rangesOf ls)
 
 -- what is said of a kind, each with the number of its line

@@ -12,8 +12,8 @@ use Rattle.timetable.specs.declared.Opening.{Opening}
 use Rattle.timetable.specs.declared.Announced.{Announced}
 use Rattle.timetable.specs.declared.Call.{Call}
 use Rattle.timetable.specs.declared.CallLine.{CallLine}
-use Rattle.timetable.specs.declared.Part.{Part}
-use Rattle.timetable.specs.declared.Part.the-variants.{Category, Days, Extra}
+use Rattle.timetable.specs.declared.RangeKind.{RangeKind}
+use Rattle.timetable.specs.declared.RangeKind.the-variants.{Category, Days, Extra}
 use Rattle.timetable.specs.declared.RangeLine.{RangeLine}
 
 -- the lines before the first that opens a service
@@ -81,7 +81,7 @@ withLegs f none = []
 withLegs f (some g) = f g ∷ []
 
 -- "*G and operating-day ranges need from < to ..; other *A need from ≤ to" (these are loose)
-abbrev pub loose : Part → Bool
+abbrev pub loose : RangeKind → Bool
 loose Category = false
 loose Days = false
 loose Extra = true

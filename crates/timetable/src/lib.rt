@@ -20,7 +20,8 @@ ghost use Rattle.timetable.specs.Layout.{mostDays, mostExtras, mostRepea
 ghost use Rattle.timetable.specs.Layout.{kindZ, kindT};
 ghost use Rattle.timetable.specs.Ranges.{inOrder, hasArrival, hasDeparture};
 ghost use Rattle.timetable.specs.Plan.{twoBytes, threeBytes, attributePart, isOpening};
-ghost use Rattle.timetable.specs.Table.{callAt};
+ghost use Rattle.timetable.specs.Table.{callAt, legsAt, categoryAt, dayAt, extraAt};
+ghost use Rattle.timetable.specs.Inner.Words.{legsRead, categoryRead, dayRead, extraRead};
 
 // ---- what a line of FPLAN says
 
@@ -61,7 +62,7 @@ pub struct Ends {
 }
 
 // The three kinds of ranges, in the table's order: *G, *A VE, and other *A.
-pub enum Part {
+pub enum RangeKind {
     Category,
     Days,
     Extra,
@@ -69,7 +70,7 @@ pub enum Part {
 
 // The line of a range: its category as three bytes or its code as two, its bit field (0 for daily, and of a *G), and its ends.
 pub struct RangeLine {
-    pub part: Part,
+    pub part: RangeKind,
     pub name: u32,
     pub field: u32,
     pub ends: Ends,
@@ -104,10 +105,14 @@ pub fn is_opening(kind: Kind) -> bool
 const VE: u32 = b'V' as u32 * 256 + b'E' as u32;
 
 // Which ranges a line of *A has, by its code.
-pub fn attribute_part(code: u32) -> Part
+pub fn attribute_part(code: u32) -> RangeKind
     ensures { λ r. ⌜ r ≡ attributePart code ⌝ }
 {
-    if code == VE { Part::Days } else { Part::Extra }
+    if code == VE {
+        RangeKind::Days
+    } else {
+        RangeKind::Extra
+    }
 }
 
 // Columns c and c + 1 as one number, the first byte highest: a code.
@@ -181,6 +186,82 @@ pub fn has_departure(call: Call) -> bool
     ensures { λ r. ⌜ r ≡ hasDeparture call ⌝ }
 {
     call.flags / 2 % 2 == 1
+}
+
+// ---- ranges, as a table's words hold them
+
+// The calls where a range begins and ends.
+pub struct LegWords {
+    pub from: u32,
+    pub to: u32,
+}
+
+// A *G: its category, and its ends.
+pub struct CategoryWords {
+    pub name: u32,
+    pub from: u32,
+    pub to: u32,
+}
+
+// A *A VE: its bit field (0 for daily), and its ends.
+pub struct DayWords {
+    pub field: u32,
+    pub from: u32,
+    pub to: u32,
+}
+
+// Another *A: its code, its bit field (0 for daily), and its ends.
+pub struct ExtraWords {
+    pub code: u32,
+    pub field: u32,
+    pub from: u32,
+    pub to: u32,
+}
+
+// The ends of the range whose words start at a place: they stand after so many words of its own.
+pub fn legs_at(w: &[u32], at: usize, own: usize) -> LegWords
+    requires { ⌜ at + (own + 2) ≤ length (now w) ⌝ }
+    ensures { λ r. ⌜ r ≡ legsRead (legsAt own (drop at (now (w .entry)))) ⌝ }
+{
+    LegWords {
+        from: w[at + own],
+        to: w[at + own + 1],
+    }
+}
+
+// The range whose words start at a place.
+pub fn category_at(w: &[u32], at: usize) -> CategoryWords
+    requires { ⌜ at + categorySize ≤ length (now w) ⌝ }
+    ensures { λ r. ⌜ r ≡ categoryRead (categoryAt (drop at (now (w .entry)))) ⌝ }
+{
+    CategoryWords {
+        name: w[at],
+        from: w[at + 1],
+        to: w[at + 2],
+    }
+}
+
+pub fn day_at(w: &[u32], at: usize) -> DayWords
+    requires { ⌜ at + daySize ≤ length (now w) ⌝ }
+    ensures { λ r. ⌜ r ≡ dayRead (dayAt (drop at (now (w .entry)))) ⌝ }
+{
+    DayWords {
+        field: w[at],
+        from: w[at + 1],
+        to: w[at + 2],
+    }
+}
+
+pub fn extra_at(w: &[u32], at: usize) -> ExtraWords
+    requires { ⌜ at + extraSize ≤ length (now w) ⌝ }
+    ensures { λ r. ⌜ r ≡ extraRead (extraAt (drop at (now (w .entry)))) ⌝ }
+{
+    ExtraWords {
+        code: w[at],
+        field: w[at + 1],
+        from: w[at + 2],
+        to: w[at + 3],
+    }
 }
 
 // ---- offences

@@ -31,8 +31,8 @@ use Rattle.timetable.specs.Table.{classSound}
 use Rattle.timetable.specs.View.{classBy, classFor}
 use Rattle.timetable.specs.declared.Call.{Call}
 use Rattle.timetable.specs.declared.Offence.{Offence}
-use Rattle.timetable.specs.declared.Part.{Part}
-use Rattle.timetable.specs.declared.Part.the-variants.{Category}
+use Rattle.timetable.specs.declared.RangeKind.{RangeKind}
+use Rattle.timetable.specs.declared.RangeKind.the-variants.{Category}
 use Rattle.timetable.specs.declared.RangeLine.{RangeLine}
 use Rattle.timetable.specs.declared.Told.{Told}
 use Rattle.timetable.specs.declared.Told.the-variants.{Skip, Other, Broken as BrokenLine, Opens, Ranges, Calls}
@@ -93,7 +93,7 @@ module _ (d : Delivery) where
   names-of cs nil = nil
   names-of cs (cons {x = r} h t) =
       all-append (λ (r : CategoryRange). Listed (r .name))
-      (with-name (r .name) (subst (λ (p : Part). categoryListed p (r .name) (d .classes) ≡ true) (h .1) (h .0)) (legsOn cs r))
+      (with-name (r .name) (subst (λ (p : RangeKind). categoryListed p (r .name) (d .classes) ≡ true) (h .1) (h .0)) (legsOn cs r))
       (names-of cs t)
 
   -- of a service

@@ -23,8 +23,8 @@ use Rattle.timetable.specs.Checks.{most, toldOffence, ownOffence, isNone, endsF
 use Rattle.timetable.specs.declared.Call.{Call}
 use Rattle.timetable.specs.declared.CallLine.{CallLine}
 use Rattle.timetable.specs.declared.Offence.{Offence}
-use Rattle.timetable.specs.declared.Part.{Part}
-use Rattle.timetable.specs.declared.Part.the-variants.{Category, Days, Extra}
+use Rattle.timetable.specs.declared.RangeKind.{RangeKind}
+use Rattle.timetable.specs.declared.RangeKind.the-variants.{Category, Days, Extra}
 use Rattle.timetable.specs.declared.RangeLine.{RangeLine}
 use Rattle.timetable.specs.declared.Told.{Told}
 use Rattle.timetable.specs.declared.Told.the-variants.{Skip, Other, Broken, Opens, Ranges, Calls}
@@ -39,21 +39,21 @@ use Rattle.whole_runs.proofs.Clear.{first-keeps, all-said, Fair}
 
 pub record Limits (ls : List Line) : Type 0 where
   pub calls : length (callsOf ls) ≤ mostCalls
-  pub ranges : (p : Part) → length (partLines p ls) ≤ most p
+  pub ranges : (p : RangeKind) → length (partLines p ls) ≤ most p
 
 -- one line of a range more
-range-limit : (before : List Line) (r : RangeLine) → length (partLines (r .part) before) < most (r .part) → (p : Part) → length (partLines p before) ≤ most p
+range-limit : (before : List Line) (r : RangeLine) → length (partLines (r .part) before) < most (r .part) → (p : RangeKind) → length (partLines p before) ≤ most p
     → length (partLines p before) + length (gathered (ofPart p) (r ∷ [])) ≤ most p
 unfolding gathered
 range-limit before r u p h = go (isPart p r) refl
   where
     go : (t : Bool) → isPart p r ≡ t → length (partLines p before) + length (cond t (r ∷ []) [] ++ []) ≤ most p
-    go true q = let z : length (partLines p before) < most p = subst (λ (x : Part). length (partLines x before) < most x) (same-part (r .part) p q) u in omega arith
+    go true q = let z : length (partLines p before) < most p = subst (λ (x : RangeKind). length (partLines x before) < most x) (same-part (r .part) p q) u in omega arith
     go false q = omega arith
 
 module _ (fields : List BitField) (stops : List StopRecord) (classes : List CategoryClass) where
   limit : (t : Told) (before : List Line) (line : ℕ) → toldOffence fields stops classes before line t ≡ none → Limits before
-      → (length (callsOf before) + length (asCall t) ≤ mostCalls) × ((p : Part) → length (partLines p before) + length (gathered (ofPart p) (asRange t)) ≤ most p)
+      → (length (callsOf before) + length (asCall t) ≤ mostCalls) × ((p : RangeKind) → length (partLines p before) + length (gathered (ofPart p) (asRange t)) ≤ most p)
   unfolding gathered
   limit Skip before line o h = let c = h .calls in (omega arith, λ p. let r = h .ranges p in omega arith)
   limit Other before line o h = apart (cc)
@@ -79,7 +79,7 @@ pub limits : (d : Delivery) (ls : List Line) → Fair d ls → Limits ls
 unfolding tolds gathered saidOn holding calledOn
 limits d ls h = first-keeps (ownOffence (d .fields) (d .stops) (d .classes)) Limits (limits-more (d .fields) (d .stops) (d .classes)) ls (h .own) (record { calls = omega arith; ranges = none-yet })
   where
-    none-yet : (p : Part) → 0 ≤ most p
+    none-yet : (p : RangeKind) → 0 ≤ most p
     none-yet p = omega arith
 
 -- ---- 4, 11, 9 and 10, line by line
@@ -128,7 +128,7 @@ module _ (d : Delivery) where
   with-field b h none = nil
   with-field b h (some g) = cons {x = record { field = b; legs = g }} h nil
 
-  fields-of : (cs : List Call) (p : Part) {rs : List RangeLine} → All (λ (r : RangeLine). FieldKnown (r .field) × (r .part ≡ p)) rs → All (λ (r : DayRange). FieldKnown (r .field)) (gathered (dayRange cs) rs)
+  fields-of : (cs : List Call) (p : RangeKind) {rs : List RangeLine} → All (λ (r : RangeLine). FieldKnown (r .field) × (r .part ≡ p)) rs → All (λ (r : DayRange). FieldKnown (r .field)) (gathered (dayRange cs) rs)
   unfolding gathered
   fields-of cs p nil = nil
   fields-of cs p (cons {x = r} h t) = all-append (λ (r : DayRange). FieldKnown (r .field)) (with-field (r .field) (h .0) (legsOn cs r)) (fields-of cs p t)
@@ -165,7 +165,7 @@ module _ (cs : List Call) where
   found-on (r ∷ rs) e = let a = then-none _ _ e in cons {x = r .1} (given-none _ 16 (r .0) (a .0)) (found-on rs (a .1))
 
   -- as many ranges as lines, of one kind
-  one-each : {X : Type 0} (range : RangeLine → List X) → ((r : RangeLine) → Found r → length (range r) ≡ 1) → (p : Part) (ls : List Line) → All Found (rangesOf ls)
+  one-each : {X : Type 0} (range : RangeLine → List X) → ((r : RangeLine) → Found r → length (range r) ≡ 1) → (p : RangeKind) (ls : List Line) → All Found (rangesOf ls)
       → length (gathered range (partLines p ls)) ≡ length (partLines p ls)
   one-each range one p ls h = each-gives-one range (partLines p ls) (all-to (λ (r : RangeLine). Found r × (r .part ≡ p)) (λ (r : RangeLine). length (range r) ≡ 1) (λ r f. one r (f .0)) (partLines p ls) (all-part Found p ls h))
 
@@ -179,7 +179,7 @@ ranges-found : (d : Delivery) (ls : List Line) → Fair d ls → All (Found (cal
 ranges-found d ls h = subst (All (Found (callsOf ls))) (said-on asRange ls) (found-on (callsOf ls) (saidOn asRange ls) (h .ranges))
 
 -- of one kind
-pub part-found : (d : Delivery) (ls : List Line) → Fair d ls → (p : Part) → All (λ (r : RangeLine). isNone (legsOn (callsOf ls) r) ≡ false) (partLines p ls)
+pub part-found : (d : Delivery) (ls : List Line) → Fair d ls → (p : RangeKind) → All (λ (r : RangeLine). isNone (legsOn (callsOf ls) r) ≡ false) (partLines p ls)
 part-found d ls h p =
     all-to (λ (r : RangeLine). Found (callsOf ls) r × (r .part ≡ p)) (Found (callsOf ls)) (λ r f. f .0) (partLines p ls) (all-part (Found (callsOf ls)) p ls (ranges-found d ls h))
 

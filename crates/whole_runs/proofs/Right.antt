@@ -21,7 +21,7 @@ use Rattle.timetable.specs.Checks.{timesStated, timesRise, lastStated, timesFir
 use Rattle.timetable.specs.Legs.{covering, stretches, legCount, operatedLegs}
 use Rattle.timetable.specs.Load.{delivered}
 use Rattle.timetable.specs.declared.Call.{Call}
-use Rattle.timetable.specs.declared.Part.the-variants.{Category, Days, Extra}
+use Rattle.timetable.specs.declared.RangeKind.the-variants.{Category, Days, Extra}
 use Rattle.timetable.proofs.Offences.{then-none, given-none}
 use Rattle.whole_runs.specs.OldTable.{oldCallSound, oldServiceSound}
 use Rattle.whole_runs.specs.Text.{Opened, FromText}

@@ -32,8 +32,8 @@ use Rattle.timetable.specs.Table.{legsSound}
 use Rattle.timetable.specs.declared.Announced.{Announced}
 use Rattle.timetable.specs.declared.Call.{Call}
 use Rattle.timetable.specs.declared.CallLine.{CallLine}
-use Rattle.timetable.specs.declared.Part.{Part}
-use Rattle.timetable.specs.declared.Part.the-variants.{Category, Days, Extra}
+use Rattle.timetable.specs.declared.RangeKind.{RangeKind}
+use Rattle.timetable.specs.declared.RangeKind.the-variants.{Category, Days, Extra}
 use Rattle.timetable.specs.declared.RangeLine.{RangeLine}
 use Rattle.timetable.specs.declared.Told.{Told}
 use Rattle.timetable.specs.declared.Told.the-variants.{Skip, Other, Broken, Opens, Ranges, Calls}
@@ -125,13 +125,13 @@ opening-sound text = told-all (λ (t : Told). openingSound (firstOpening (asOpen
 -- ---- a service, whatever its lines
 
 -- the ranges of one kind: those that are found lie on the route, in the order that their kind asks for
-ranges-sound : {X : Type 0} (range : RangeLine → List X) (legs : X → Legs) (cs : List Call) (p : Part) (ls : List Line)
+ranges-sound : {X : Type 0} (range : RangeLine → List X) (legs : X → Legs) (cs : List Call) (p : RangeKind) (ls : List Line)
     → ((r : RangeLine) → All (λ x. legsSound (loose (r .part)) (length cs) (legs x) ≡ true) (range r))
     → every (λ x. legsSound (loose p) (length cs) (legs x)) (gathered range (partLines p ls)) ≡ true
 ranges-sound range legs cs p ls one =
     every-all (λ x. legsSound (loose p) (length cs) (legs x))
     (all-gathered (λ x. legsSound (loose p) (length cs) (legs x) ≡ true) range
-    (λ r e. subst (λ (q : Part). All (λ x. legsSound (loose q) (length cs) (legs x) ≡ true) (range r)) e (one r)) (part-lines p ls))
+    (λ r e. subst (λ (q : RangeKind). All (λ x. legsSound (loose q) (length cs) (legs x) ≡ true) (range r)) e (one r)) (part-lines p ls))
 
 pub service-sound : (ls : List Line) → oldServiceSound (serviceOf ls) ≡ true
 unfolding serviceOf

@@ -3,83 +3,69 @@ use mathlib.Core.Path.{_≡_, refl, ap, _∙_}
 use mathlib.Core.List.{List}
 use mathlib.Core.Bool.{Bool, true, false, not, _||_}
 use Prim.Native.Nat.{ℕ, zero, suc, _+_, _-_, _≤_, _<_}
-use native.Mathlib.Nat.{add-zero}
 use native.Mathlib.Omega.{arith}
-use lib.ListN.{getD, drop}
-use lib.Seq.{getD-drop}
+use lib.ListN.{drop}
 use borrow.Author.Tests.{lt-leb, le-leb, le-ltb, lt-ltb}
 use Rattle.base.specs.Lists.{every, some-of}
 use Rattle.base.proofs.Laws.{tests}
 use Rattle.bitfield.specs.BitField.{runsOn}
 use Rattle.timetable.specs.Layout.{daySize, mostPeriodDays}
-use Rattle.timetable.specs.Delivery.{DayRange}
 use Rattle.timetable.specs.View.{View}
 use Rattle.timetable.specs.Table.{rowsIn, dayAt}
+use Rattle.timetable.specs.Inner.Words.{dayRead, dayHeld}
+use Rattle.timetable.specs.declared.DayWords.{DayWords}
 use Rattle.timetable.proofs.Rows.{room-start, room-now, room-fits, room-next, rows-left, rows-again, rows-out, rows-done}
 use Rattle.course.specs.Inner.Run.{rangeKnown, rangeRuns}
 
 -- ---- one range
 
-module _ (fields : View) (field from to leg : ℕ) where
-  abbrev range : DayRange
-  range = record { field = field; legs = record { from = from; to = to } }
-
-  pub known-before : leg < from → true ≡ rangeKnown fields leg range
+module _ (fields : View) (range : DayWords) (leg : ℕ) where
+  pub known-before : leg < range .from → true ≡ rangeKnown fields leg (dayHeld range)
   unfolding rangeKnown
-  known-before h = rw (lt-leb from leg h)
+  known-before h = rw (lt-leb (range .from) leg h)
 
-  pub known-after : from ≤ leg → to ≤ leg → true ≡ rangeKnown fields leg range
+  pub known-after : range .from ≤ leg → range .to ≤ leg → true ≡ rangeKnown fields leg (dayHeld range)
   unfolding rangeKnown
-  known-after h g = rw (le-leb from leg h, le-ltb leg to g)
+  known-after h g = rw (le-leb (range .from) leg h, le-ltb leg (range .to) g)
 
-  pub known-on : from ≤ leg → leg < to → (x : Bool) → x ≡ fields .known field → x ≡ rangeKnown fields leg range
+  pub known-on : range .from ≤ leg → leg < range .to → (x : Bool) → x ≡ fields .known (range .field) → x ≡ rangeKnown fields leg (dayHeld range)
   unfolding rangeKnown
-  known-on h g x e = rw (le-leb from leg h, lt-ltb leg to g) e
+  known-on h g x e = rw (le-leb (range .from) leg h, lt-ltb leg (range .to) g) e
 
   module _ (k : ℕ) where
-    pub runs-before : leg < from → false ≡ rangeRuns fields k leg range
+    pub runs-before : leg < range .from → false ≡ rangeRuns fields k leg (dayHeld range)
     unfolding rangeRuns
-    runs-before h = rw (lt-leb from leg h)
+    runs-before h = rw (lt-leb (range .from) leg h)
 
-    pub runs-after : from ≤ leg → to ≤ leg → false ≡ rangeRuns fields k leg range
+    pub runs-after : range .from ≤ leg → range .to ≤ leg → false ≡ rangeRuns fields k leg (dayHeld range)
     unfolding rangeRuns
-    runs-after h g = rw (le-leb from leg h, le-ltb leg to g)
+    runs-after h g = rw (le-leb (range .from) leg h, le-ltb leg (range .to) g)
 
     -- ws are the words that the look-up gave
-    pub runs-on : from ≤ leg → leg < to → k < mostPeriodDays → (ws : List ℕ) → ((d : ℕ) → d < mostPeriodDays → runsOn ws d ≡ fields .runs field d) → (x : Bool) → x ≡ runsOn ws k → x ≡ rangeRuns fields k leg range
+    pub runs-on : range .from ≤ leg → leg < range .to → k < mostPeriodDays → (ws : List ℕ) → ((d : ℕ) → d < mostPeriodDays → runsOn ws d ≡ fields .runs (range .field) d) → (x : Bool) → x ≡ runsOn ws k → x ≡ rangeRuns fields k leg (dayHeld range)
     unfolding rangeRuns
-    runs-on h g l ws f x e = rw (le-leb from leg h, lt-ltb leg to g) (e ∙ f k l)
+    runs-on h g l ws f x e = rw (le-leb (range .from) leg h, lt-ltb leg (range .to) g) (e ∙ f k l)
 
--- the range at p, read word by word
-pub day-read : (v : List ℕ) (p : ℕ) → record { field = getD v p 0; legs = record { from = getD v (p + 1) 0; to = getD v (p + 2) 0 } } ≡ dayAt (drop p v)
-day-read v p =
-    let z : getD (drop p v) 0 0 ≡ getD v p 0 = getD-drop p v 0 0 ∙ ap (λ (i : ℕ). getD v i 0) (add-zero p) in
-    rw (z, getD-drop p v 1 0, getD-drop p v 2 0)
+pub ruleset ranges = (tests, known-before, known-after, known-on, runs-before, runs-after, runs-on)
 
-module _ (fields : View) (leg : ℕ) (v : List ℕ) (p : ℕ) (x : Bool) where
-  pub known-read : x ≡ rangeKnown fields leg (record { field = getD v p 0; legs = record { from = getD v (p + 1) 0; to = getD v (p + 2) 0 } }) → x ≡ rangeKnown fields leg (dayAt (drop p v))
-  known-read e = e ∙ ap (rangeKnown fields leg) (day-read v p)
+-- ---- n ranges: `left` of them stand at p and after it, and `range` is the one at p
 
-  pub runs-read : (k : ℕ) → x ≡ rangeRuns fields k leg (record { field = getD v p 0; legs = record { from = getD v (p + 1) 0; to = getD v (p + 2) 0 } }) → x ≡ rangeRuns fields k leg (dayAt (drop p v))
-  runs-read k e = e ∙ ap (rangeRuns fields k leg) (day-read v p)
+module _ (fields : View) (leg : ℕ) (v : List ℕ) (p left : ℕ) (range : DayWords) (x r : Bool) (h : 0 < left) (q : range ≡ dayRead (dayAt (drop p v))) where
+  module _ (e : x ≡ rangeKnown fields leg (dayHeld range)) (i : every (rangeKnown fields leg) (rowsIn dayAt daySize left (drop p v)) ≡ r) where
+    known-here : x ≡ rangeKnown fields leg (dayAt (drop p v))
+    known-here = e ∙ ap (λ (y : DayWords). rangeKnown fields leg (dayHeld y)) q
 
-pub ruleset ranges = (tests, known-before, known-after, known-on, runs-before, runs-after, runs-on, known-read, runs-read)
-
--- ---- n ranges: `left` of them stand at p and after it
-
-module _ (fields : View) (leg : ℕ) (v : List ℕ) (p left : ℕ) (x r : Bool) (h : 0 < left) where
-  module _ (e : x ≡ rangeKnown fields leg (dayAt (drop p v))) (i : every (rangeKnown fields leg) (rowsIn dayAt daySize left (drop p v)) ≡ r) where
     pub known-again : not x ≡ false → every (rangeKnown fields leg) (rowsIn dayAt daySize (left - 1) (drop (p + daySize) v)) ≡ r
-    known-again n = rows-again (rangeKnown fields leg) dayAt daySize v p left r x h e i n
+    known-again n = rows-again (rangeKnown fields leg) dayAt daySize v p left r x h known-here i n
 
     pub known-out : not x ≡ true → false ≡ r
-    known-out n = rows-out (rangeKnown fields leg) dayAt daySize v p left r x h e i n
+    known-out n = rows-out (rangeKnown fields leg) dayAt daySize v p left r x h known-here i n
 
-  module _ (k : ℕ) (e : x ≡ rangeRuns fields k leg (dayAt (drop p v))) (i : some-of (rangeRuns fields k leg) (rowsIn dayAt daySize left (drop p v)) ≡ r) where
+  module _ (k : ℕ) (e : x ≡ rangeRuns fields k leg (dayHeld range)) (i : some-of (rangeRuns fields k leg) (rowsIn dayAt daySize left (drop p v)) ≡ r) where
     runs-here : (x || some-of (rangeRuns fields k leg) (rowsIn dayAt daySize (left - 1) (drop (p + daySize) v))) ≡ r
     unfolding some-of
     runs-here =
-        ap (λ (b : Bool). b || some-of (rangeRuns fields k leg) (rowsIn dayAt daySize (left - 1) (drop (p + daySize) v))) e
+        ap (λ (b : Bool). b || some-of (rangeRuns fields k leg) (rowsIn dayAt daySize (left - 1) (drop (p + daySize) v))) (e ∙ ap (λ (y : DayWords). rangeRuns fields k leg (dayHeld y)) q)
         ∙ (rw (rows-left dayAt daySize left p v h) at i)
 
     pub runs-again : x ≡ false → some-of (rangeRuns fields k leg) (rowsIn dayAt daySize (left - 1) (drop (p + daySize) v)) ≡ r

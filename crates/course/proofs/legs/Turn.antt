@@ -9,11 +9,11 @@ use lib.ListN.{getD, drop}
 use borrow.Author.Tests.{not-true, not-false, eq-eqb, ne-eqb}
 use Rattle.base.proofs.Laws.{tests}
 use Rattle.timetable.specs.Layout.{daySize}
-use Rattle.timetable.specs.Delivery.{DayRange}
 use Rattle.timetable.specs.View.{View}
 use Rattle.timetable.specs.Table.{rowsIn, dayAt}
-use Rattle.timetable.proofs.Rows.{room-start, room-now, room-fits, room-next, rows-left}
-use Rattle.course.proofs.legs.Ranges.{day-read}
+use Rattle.timetable.specs.Inner.Words.{dayHeld}
+use Rattle.timetable.specs.declared.DayWords.{DayWords}
+use Rattle.timetable.proofs.Rows.{room-start, room-now, room-fits, room-next, rows-left, day-is}
 use Rattle.course.specs.declared.legs.DayLegs.{DayLegs}
 use Rattle.course.specs.Inner.Turn.{noLegs, unknownLegs, withOperated, withIdle, withRange, rangesSay}
 
@@ -54,7 +54,7 @@ module _ (d : View) (k : ℕ) (v : List ℕ) (p left : ℕ) (l r : DayLegs) (x :
   unfolding rangesSay
   say-here =
       ap (λ (b : Bool). cond b (rangesSay d k (withRange (d .runs (getD v p 0) k) (getD v (p + 1) 0) (getD v (p + 2) 0) l) (rowsIn dayAt daySize (left - 1) (drop (p + daySize) v))) unknownLegs) e
-      ∙ ap (λ (g : DayRange). rangesSay d k l (g ∷ rowsIn dayAt daySize (left - 1) (drop (p + daySize) v))) (day-read v p)
+      ∙ ap (λ (g : DayWords). rangesSay d k l (dayHeld g ∷ rowsIn dayAt daySize (left - 1) (drop (p + daySize) v))) (day-is v p)
       ∙ sym (ap (rangesSay d k l) (rows-left dayAt daySize left p v h)) ∙ i
 
   pub say-out : not x ≡ true → (u : DayLegs) → u ≡ unknownLegs → u ≡ r

@@ -2,25 +2,14 @@ use Rattle.cover.proofs.Turn.{turns}
 use Rattle.cover.proofs.end_at.Statement.{statement}
 use Rattle.cover.proofs.end_at.Tie as tie
 
-sub-result : tie.Need-sub-result
-sub-result c = search turns
+sub-legs-at : tie.Need-sub-legs-at
+sub-legs-at c = search turns
 
-add-result : tie.Need-add-result
-add-result c = search turns
-
-add-result-2 : tie.Need-add-result-2
-add-result-2 c = search turns
-
-mul-result : tie.Need-mul-result
-mul-result c = search turns
-
-shared-slice-read-result : tie.Need-shared-slice-read-result
-shared-slice-read-result c = search turns
+legs-at-requires : tie.Need-legs-at-requires
+legs-at-requires c κs = search turns
 
 returns : tie.Need-returns
 returns c = search turns
 
 pub end-at-spec : {M : Type 1} → statement M
-end-at-spec =
-    tie.close
-    (tie.spec sub-result add-result add-result-2 mul-result shared-slice-read-result returns)
+end-at-spec = tie.close (tie.spec sub-legs-at legs-at-requires returns)

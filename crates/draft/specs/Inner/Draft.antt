@@ -22,8 +22,8 @@ use Rattle.timetable.specs.declared.Call.{Call}
 use Rattle.timetable.specs.declared.CallLine.{CallLine}
 use Rattle.timetable.specs.declared.Opening.{Opening}
 use Rattle.timetable.specs.declared.End.{End}
-use Rattle.timetable.specs.declared.Part.{Part}
-use Rattle.timetable.specs.declared.Part.the-variants.{Category, Days, Extra}
+use Rattle.timetable.specs.declared.RangeKind.{RangeKind}
+use Rattle.timetable.specs.declared.RangeKind.the-variants.{Category, Days, Extra}
 use Rattle.timetable.specs.declared.RangeLine.{RangeLine}
 use Rattle.timetable.specs.declared.Told.{Told}
 use Rattle.draft.specs.declared.Counts.{Counts}
@@ -94,7 +94,7 @@ placeBack tag x = cond (eqb tag 0) Outer (cond (eqb tag 1) (Index (record { 0 = 
 abbrev pub detailBack : ℕ → ℕ → Detail
 detailBack tag x = cond (eqb tag 0) Plain (cond (eqb tag 1) (Nth (record { 0 = x })) (cond (eqb tag 2) (Timed x) NoDetail))
 
-abbrev pub partBack : ℕ → Part
+abbrev pub partBack : ℕ → RangeKind
 partBack k = cond (eqb k 0) Category (cond (eqb k 1) Days Extra)
 
 -- the end in the four words from the k-th on
@@ -150,7 +150,7 @@ abbrev pub countCalls : Counts → List CallLine → Counts
 countCalls k [] = k
 countCalls k (c ∷ cs) = record { calls = k .calls + 1; categories = k .categories; days = k .days; extras = k .extras }
 
-abbrev pub countPart : Counts → Part → Counts
+abbrev pub countPart : Counts → RangeKind → Counts
 countPart k Category = record { calls = k .calls; categories = k .categories + 1; days = k .days; extras = k .extras }
 countPart k Days = record { calls = k .calls; categories = k .categories; days = k .days + 1; extras = k .extras }
 countPart k Extra = record { calls = k .calls; categories = k .categories; days = k .days; extras = k .extras + 1 }
@@ -180,7 +180,7 @@ pub record DraftOf (ls : List Line) (k : Counts) (calls ranges : List ℕ) : Typ
 
 -- ---- the service that a draft is, where `opening` and `line` are its opening line's
 
-abbrev pub partIn : Part → List RangeLine → List RangeLine
+abbrev pub partIn : RangeKind → List RangeLine → List RangeLine
 partIn p rs = gathered (ofPart p) rs
 
 unfoldable pub draftedService : Opening → ℕ → List Call → List RangeLine → Service

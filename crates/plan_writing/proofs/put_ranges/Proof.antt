@@ -1,5 +1,5 @@
 use Rattle.plan_writing.specs.Inner.Record.{rangeText, partText}
-use Rattle.service_lines.specs.Inner.Record.{partSize, partCount, here}
+use Rattle.service_lines.specs.Inner.Record.{rangeSize, partCount, here}
 use Rattle.line_text.specs.Laid.{textOf}
 use Rattle.words.specs.Words.{write}
 use Rattle.timetable.specs.Table.{rowsIn}
@@ -12,7 +12,7 @@ use Rattle.plan_writing.proofs.put_ranges.Statement.{statement}
 use Rattle.plan_writing.proofs.put_ranges.Tie as tie
 
 abbrev Inv-loop : tie.InvT-loop
-Inv-loop s part text₀ at p₀ k₀ q₀ text p k q = (p + partSize part * k ≤ length s) × (q + 60 * k ≡ at + 60 * partCount part s) × (length text ≡ length text₀) × (write text q (textOf (map (rangeText part) (rowsIn here (partSize part) k (drop p s)))) ≡ write text₀ at (partText part s))
+Inv-loop s part text₀ at p₀ k₀ q₀ text p k q = (p + rangeSize part * k ≤ length s) × (q + 60 * k ≡ at + 60 * partCount part s) × (length text ≡ length text₀) × (write text q (textOf (map (rangeText part) (rowsIn here (rangeSize part) k (drop p s)))) ≡ write text₀ at (partText part s))
 
 abbrev μ-loop : tie.MeasureT-loop
 μ-loop s part text₀ at p₀ k₀ q₀ text p k q = k
@@ -29,8 +29,8 @@ loop-holds c = search ranges
 put-range-requires : tie.Need-put-range-requires Inv-loop μ-loop
 put-range-requires c κs = search ranges
 
-part-words-requires : tie.Need-part-words-requires Inv-loop μ-loop
-part-words-requires c κs = search ranges
+range-words-requires : tie.Need-range-words-requires Inv-loop μ-loop
+range-words-requires c κs = search ranges
 
 add-p : tie.Need-add-p Inv-loop μ-loop
 add-p c = search ranges
@@ -63,7 +63,7 @@ put-ranges-spec =
     part-count-requires
     loop-holds
     put-range-requires
-    part-words-requires
+    range-words-requires
     add-p
     add-q
     sub-k

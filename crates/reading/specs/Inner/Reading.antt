@@ -21,8 +21,8 @@ use Rattle.timetable.specs.Service.{headLines, blocks, firstLine, serviceOf}
 use Rattle.timetable.specs.Legs.{fieldKnown}
 use Rattle.timetable.specs.Checks.{most, categoryListed, ownOffence, headFirst}
 use Rattle.timetable.specs.declared.Offence.{Offence}
-use Rattle.timetable.specs.declared.Part.{Part}
-use Rattle.timetable.specs.declared.Part.the-variants.{Category, Days, Extra}
+use Rattle.timetable.specs.declared.RangeKind.{RangeKind}
+use Rattle.timetable.specs.declared.RangeKind.the-variants.{Category, Days, Extra}
 use Rattle.timetable.specs.declared.Told.{Told}
 use Rattle.timetable.specs.declared.Told.the-variants.{Skip, Other, Broken, Opens, Ranges, Calls}
 use Rattle.draft.specs.Inner.Draft.{countsOf, Within, DraftOf}
@@ -100,15 +100,15 @@ NextAs f at n (LineTold said next m) = NextLine f at n said next m
 NextAs f at n End = headLines (linesAt f at n) ≡ []
 
 -- a line's own offence where so much of its service is counted before it
-abbrev pub countOf : Part → Counts → ℕ
+abbrev pub countOf : RangeKind → Counts → ℕ
 countOf Category k = k .categories
 countOf Days k = k .days
 countOf Extra k = k .extras
 
-abbrev pub categoryAfter : List CategoryClass → ℕ → Part → ℕ → Option Offence
+abbrev pub categoryAfter : List CategoryClass → ℕ → RangeKind → ℕ → Option Offence
 categoryAfter classes line part name = given (not (categoryListed part name classes)) 38 line
 
-abbrev pub rangeAfter : List BitField → List CategoryClass → Counts → ℕ → Part → ℕ → ℕ → Option Offence
+abbrev pub rangeAfter : List BitField → List CategoryClass → Counts → ℕ → RangeKind → ℕ → ℕ → Option Offence
 rangeAfter fields classes k line part field name =
     given (leb (most part) (countOf part k)) 13 line <|> given (not (fieldKnown field fields)) 10 line <|> categoryAfter classes line part name
 

@@ -37,11 +37,8 @@ enum-told c = search sweeps
 returns : tie.Need-returns Inv-loop μ-loop
 returns c = search sweeps
 
-mul-field-days : tie.Need-mul-field-days Inv-loop μ-loop
-mul-field-days c = search sweeps
-
-shared-slice-read-field-days : tie.Need-shared-slice-read-field-days Inv-loop μ-loop
-shared-slice-read-field-days c = search sweeps
+day-at-requires : tie.Need-day-at-requires Inv-loop μ-loop
+day-at-requires c κs = search sweeps
 
 field-days-requires : tie.Need-field-days-requires Inv-loop μ-loop
 field-days-requires c κs = search tests
@@ -61,28 +58,19 @@ either-requires-2 c κs = search sweeps
 either-requires-3 : tie.Need-either-requires-3 Inv-loop μ-loop
 either-requires-3 c κs = search sweeps
 
-add-leg : tie.Need-add-leg Inv-loop μ-loop
-add-leg c = search sweeps
-
-mul-leg : tie.Need-mul-leg Inv-loop μ-loop
-mul-leg c = search sweeps
-
-shared-slice-read-leg : tie.Need-shared-slice-read-leg Inv-loop μ-loop
-shared-slice-read-leg c = search sweeps
-
 loop-less : tie.Need-loop-less Inv-loop μ-loop
 loop-less c = search sweeps
 
 loop-again : tie.Need-loop-again Inv-loop μ-loop
 loop-again c =
-    let on = c .before .before .before .before .before .before in
+    let on = c .before .before .before .before .before in
     let found = on .before .before .before in
     let turn = found .before .before .before in
     let start = turn .before .before .before .before .before .before .before .before in (
-      swept-next _ _ _ _ _ _ (start .pre .1 .0) (found .before .before .covering-place .ensures) _ (found .place .given .1) _ _ _
+      swept-next _ _ _ _ _ _ (start .pre .1 .0) (found .before .before .covering-place .ensures) _ (found .place .given .1) _ (on .before .day-at .ensures) _ _ _
           (turn .loop-test .taken) (on .field-days .ensures)
-          (c .before .before .before .before .before .both .ensures) (c .before .before .before .before .either .ensures)
-          (c .before .before .before .without .ensures) (c .before .before .either2 .ensures) (c .before .either3 .ensures) (turn .before .loop .inv .0),
+          (c .before .before .before .before .both .ensures) (c .before .before .before .either .ensures)
+          (c .before .before .without .ensures) (c .before .either2 .ensures) (c .either3 .ensures) (turn .before .loop .inv .0),
       turn .before .loop .inv .1,
     )
 
@@ -103,17 +91,13 @@ torn-days-spec =
     enum-known-place
     enum-told
     returns
-    mul-field-days
-    shared-slice-read-field-days
+    day-at-requires
     field-days-requires
     both-requires
     either-requires
     without-requires
     either-requires-2
     either-requires-3
-    add-leg
-    mul-leg
-    shared-slice-read-leg
     loop-less
     loop-again
     returns-2)

@@ -13,7 +13,7 @@ use Rattle.timetable.specs.Legs.{operated, stretches}
 use Rattle.timetable.specs.Checks.{eachOnce, timesFirst, endsFirst, legsFirst, serviceFirst}
 use Rattle.timetable.specs.Table.{serviceWords}
 use Rattle.timetable.specs.declared.Offence.{Offence}
-use Rattle.timetable.specs.declared.Part.the-variants.{Category, Days, Extra}
+use Rattle.timetable.specs.declared.RangeKind.the-variants.{Category, Days, Extra}
 use Rattle.draft.specs.Inner.Draft.{callsLent, rangesLent, callsOn, callsIn, rangesOn, rangesIn, ranges#, Within, partIn, draftedService}
 use Rattle.draft.specs.declared.Counts.{Counts}
 use Rattle.draft.specs.declared.Drafted.{Drafted}

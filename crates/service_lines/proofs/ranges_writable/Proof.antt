@@ -1,4 +1,4 @@
-use Rattle.service_lines.specs.Inner.Record.{partSize, here, partRows, rangeWritable}
+use Rattle.service_lines.specs.Inner.Record.{rangeSize, here, partRows, rangeWritable}
 use Rattle.timetable.specs.Table.{rowsIn}
 use Rattle.base.specs.Lists.{every}
 use lib.ListN.{length, drop}
@@ -9,7 +9,7 @@ use Rattle.service_lines.proofs.ranges_writable.Statement.{statement}
 use Rattle.service_lines.proofs.ranges_writable.Tie as tie
 
 abbrev Inv-loop : tie.InvT-loop
-Inv-loop s part p₀ k₀ p k = (p + partSize part * k ≤ length s) × (every (rangeWritable part) (rowsIn here (partSize part) k (drop p s)) ≡ every (rangeWritable part) (partRows part s))
+Inv-loop s part p₀ k₀ p k = (p + rangeSize part * k ≤ length s) × (every (rangeWritable part) (rowsIn here (rangeSize part) k (drop p s)) ≡ every (rangeWritable part) (partRows part s))
 
 abbrev μ-loop : tie.MeasureT-loop
 μ-loop s part p₀ k₀ p k = k
@@ -29,8 +29,8 @@ range-writable-requires c κs = search ranges
 returns : tie.Need-returns Inv-loop μ-loop
 returns c = search ranges
 
-part-words-requires : tie.Need-part-words-requires Inv-loop μ-loop
-part-words-requires c κs = search ranges
+range-words-requires : tie.Need-range-words-requires Inv-loop μ-loop
+range-words-requires c κs = search ranges
 
 add-p : tie.Need-add-p Inv-loop μ-loop
 add-p c = search ranges
@@ -58,7 +58,7 @@ ranges-writable-spec =
     loop-holds
     range-writable-requires
     returns
-    part-words-requires
+    range-words-requires
     add-p
     sub-k
     loop-less

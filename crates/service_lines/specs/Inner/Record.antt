@@ -8,24 +8,24 @@ use Rattle.timetable.specs.Delivery.{StopRecord, Service}
 use Rattle.timetable.specs.Layout.{serviceHead, callSize, categorySize, daySize, extraSize}
 use Rattle.timetable.specs.Table.{rowsIn, callAt, categoryAt, dayAt, extraAt, calls#, categories#, days#, extras#, categoryPlace, dayPlace, extraPlace, stops#, stopNumberAt, withStop, resolved, serviceAt, tableOf, recordSound}
 use Rattle.timetable.specs.declared.Call.{Call}
-use Rattle.timetable.specs.declared.Part.{Part}
-use Rattle.timetable.specs.declared.Part.the-variants.{Category, Days, Extra}
+use Rattle.timetable.specs.declared.RangeKind.{RangeKind}
+use Rattle.timetable.specs.declared.RangeKind.the-variants.{Category, Days, Extra}
 use Rattle.table.specs.JustTable.{JustTable}
 use Rattle.writable.specs.Writable.{categoryWritable, daysWritable, extraWritable}
 
 -- ---- ranges, by their part
 
-abbrev pub partSize : Part → ℕ
-partSize Category = categorySize
-partSize Days = daySize
-partSize Extra = extraSize
+abbrev pub rangeSize : RangeKind → ℕ
+rangeSize Category = categorySize
+rangeSize Days = daySize
+rangeSize Extra = extraSize
 
-abbrev pub partCount : Part → List ℕ → ℕ
+abbrev pub partCount : RangeKind → List ℕ → ℕ
 partCount Category s = categories# s
 partCount Days s = days# s
 partCount Extra s = extras# s
 
-abbrev pub partPlace : Part → List ℕ → ℕ
+abbrev pub partPlace : RangeKind → List ℕ → ℕ
 partPlace Category s = categoryPlace s
 partPlace Days s = dayPlace s
 partPlace Extra s = extraPlace s
@@ -35,10 +35,10 @@ abbrev pub here : List ℕ → List ℕ
 here u = u
 
 -- the words from each range of a part on
-unfoldable pub partRows : Part → List ℕ → List (List ℕ)
-partRows p s = rowsIn here (partSize p) (partCount p s) (drop (partPlace p s) s)
+unfoldable pub partRows : RangeKind → List ℕ → List (List ℕ)
+partRows p s = rowsIn here (rangeSize p) (partCount p s) (drop (partPlace p s) s)
 
-abbrev pub rangeWritable : Part → List ℕ → Bool
+abbrev pub rangeWritable : RangeKind → List ℕ → Bool
 rangeWritable Category u = categoryWritable (categoryAt u)
 rangeWritable Days u = daysWritable (dayAt u)
 rangeWritable Extra u = extraWritable (extraAt u)

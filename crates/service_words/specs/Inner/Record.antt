@@ -9,7 +9,7 @@ use Rattle.timetable.specs.Delivery.{StopRecord, Service}
 use Rattle.timetable.specs.Table.{stopPlace, withStop, pointing, callWords, serviceWords}
 use Rattle.timetable.specs.declared.Call.{Call}
 use Rattle.timetable.specs.declared.Opening.{Opening}
-use Rattle.timetable.specs.declared.Part.the-variants.{Category, Days, Extra}
+use Rattle.timetable.specs.declared.RangeKind.the-variants.{Category, Days, Extra}
 use Rattle.timetable.specs.declared.RangeLine.{RangeLine}
 use Rattle.draft.specs.Inner.Draft.{callsIn, rangesIn, ranges#, draftedService}
 use Rattle.draft.specs.declared.Drafted.{Drafted}

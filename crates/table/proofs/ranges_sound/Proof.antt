@@ -16,8 +16,8 @@ abbrev μ-loop : tie.MeasureT-loop
 loop-holds : tie.Need-loop-holds Inv-loop μ-loop
 loop-holds c = (search rows, refl)
 
-add-legs-sound : tie.Need-add-legs-sound Inv-loop μ-loop
-add-legs-sound c = search rows
+legs-at-requires : tie.Need-legs-at-requires Inv-loop μ-loop
+legs-at-requires c κs = search rows
 
 legs-sound-requires : tie.Need-legs-sound-requires Inv-loop μ-loop
 legs-sound-requires c κs = search rows
@@ -50,7 +50,7 @@ ranges-sound-spec =
     Inv-loop
     μ-loop
     loop-holds
-    add-legs-sound
+    legs-at-requires
     legs-sound-requires
     returns
     add-p

@@ -19,8 +19,11 @@ abbrev μ-loop : tie.MeasureT-loop
 loop-holds : tie.Need-loop-holds Inv-loop μ-loop
 loop-holds c = search loops
 
-known-at-requires : tie.Need-known-at-requires Inv-loop μ-loop
-known-at-requires c κs = search loops
+day-at-requires : tie.Need-day-at-requires Inv-loop μ-loop
+day-at-requires c κs = search loops
+
+range-known-requires : tie.Need-range-known-requires Inv-loop μ-loop
+range-known-requires c κs = search loops
 
 returns : tie.Need-returns Inv-loop μ-loop
 returns c = search loops
@@ -47,7 +50,8 @@ ranges-known-spec =
     Inv-loop
     μ-loop
     loop-holds
-    known-at-requires
+    day-at-requires
+    range-known-requires
     returns
     add-p
     sub-left

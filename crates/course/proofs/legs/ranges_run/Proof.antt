@@ -19,8 +19,11 @@ abbrev μ-loop : tie.MeasureT-loop
 loop-holds : tie.Need-loop-holds Inv-loop μ-loop
 loop-holds c = search loops
 
-runs-at-requires : tie.Need-runs-at-requires Inv-loop μ-loop
-runs-at-requires c κs = search loops
+day-at-requires : tie.Need-day-at-requires Inv-loop μ-loop
+day-at-requires c κs = search loops
+
+range-runs-requires : tie.Need-range-runs-requires Inv-loop μ-loop
+range-runs-requires c κs = search loops
 
 returns : tie.Need-returns Inv-loop μ-loop
 returns c = search loops
@@ -47,7 +50,8 @@ ranges-run-spec =
     Inv-loop
     μ-loop
     loop-holds
-    runs-at-requires
+    day-at-requires
+    range-runs-requires
     returns
     add-p
     sub-left
