@@ -104,12 +104,12 @@ fn call_refusal(s: &[u32], start: u32, legs: u32, i: u32, before: u32, call: Cal
 fn times_needed(legs: u32, i: u32, before: u32, call: Call) -> bool
     ensures { λ r. ⌜ r ≡ timesFine legs i before call ⌝ }
 {
-    if !time_fine(i == 0, call.flags % 2 == 1, before, call.arrival) {
+    if !time_fine(i == 0, timetable::has_arrival(call), before, call.arrival) {
         return false;
     }
     time_fine(
         i == legs,
-        call.flags / 2 % 2 == 1,
+        timetable::has_departure(call),
         choose(i == 0, before, call.arrival),
         call.departure,
     )
@@ -158,7 +158,7 @@ fn times_stand(s: &[u32], start: u32, legs: u32) -> bool
         return false;
     }
     let first = call_of(s, start);
-    if first.flags / 2 % 2 != 1 {
+    if !timetable::has_departure(first) {
         return false;
     }
     later_stand(s, start + 1, legs - 1, first.departure)
@@ -203,7 +203,7 @@ fn in_order(before: u32, arrival: u32, departure: u32) -> bool
 fn arrives(before: u32, call: Call) -> bool
     ensures { λ r. ⌜ r ≡ timeFine false (hasArrival call) before (call .arrival) ⌝ }
 {
-    time_fine(false, call.flags % 2 == 1, before, call.arrival)
+    time_fine(false, timetable::has_arrival(call), before, call.arrival)
 }
 
 // ---- the rows
@@ -358,7 +358,8 @@ pub fn category_on(s: &[u32], leg: u32) -> u32
     let FirstRange::At(p) = first else {
         return 0;
     };
-    g[p]
+    let range = timetable::category_at(g, p);
+    range.name
 }
 
 // The words from the first *G of a service on.

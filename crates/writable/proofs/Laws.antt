@@ -6,11 +6,13 @@ use lib.Dec.{leb, eqb}
 use borrow.Author.Tests.{not-true, not-false, lt-ltb, ne-eqb}
 use Rattle.base.specs.Lists.{every}
 use Rattle.base.proofs.Laws.{tests}
+use Rattle.timetable.specs.Ranges.{hasArrival, hasDeparture}
 use Rattle.timetable.specs.declared.Opening.{Opening}
 use Rattle.timetable.specs.declared.Call.{Call}
 use Rattle.line_text.specs.Text.{twoOf}
 use Rattle.line_text.specs.Laid.{notLF}
-use Rattle.writable.specs.Writable.{filledByte, halfWritable, administrationWritable, openingWritable, codeWritable, timeWritable, callWritable}
+use Rattle.plan_text.specs.PlanText.{noAlighting, noBoarding}
+use Rattle.writable.specs.Writable.{filledByte, halfWritable, administrationWritable, openingWritable, codeWritable, timeWritable, timesWritable, callWritable}
 
 -- x is what the first test answers
 module _ (x t : Bool) (e : x ≡ t) where
@@ -48,6 +50,16 @@ pub call-administration : (c : Call) (x : Bool) → c .stop < 10000000 → c .nu
 unfolding callWritable
 call-administration c x h i e a = rw (lt-ltb (c .stop) 10000000 h, lt-ltb (c .number) 100000 i, sym e ∙ not-true x a)
 
+-- s and t say whether a call's times are stated
+module _ (c : Call) (s x : Bool) (a : s ≡ hasArrival c) (e : x ≡ timeWritable s (noAlighting c) (c .arrival)) where
+  pub times-out : not x ≡ true → false ≡ timesWritable c
+  times-out n = rw (← a, sym e ∙ not-true x n)
+
+  pub times-on : not x ≡ false → (t y : Bool) → t ≡ hasDeparture c → y ≡ timeWritable t (noBoarding c) (c .departure) → y ≡ timesWritable c
+  times-on n t y d f = f ∙ rw (← a, sym e ∙ not-false x n, d)
+
 pub ruleset steps = (tests, and-out, and-on, and-last)
+
+pub ruleset times = (tests, times-out, times-on)
 
 pub ruleset lines = (tests, half-second, time-clear, opening-last, code-held, call-administration)

@@ -158,10 +158,14 @@ fn time_writable(stated: bool, barred: bool, minutes: u32) -> bool
 fn times_writable(c: Call) -> bool
     ensures { λ r. ⌜ r ≡ timesWritable c ⌝ }
 {
-    if !time_writable(c.flags % 2 == 1, c.flags / 4 % 2 == 1, c.arrival) {
+    if !time_writable(timetable::has_arrival(c), c.flags / 4 % 2 == 1, c.arrival) {
         return false;
     }
-    time_writable(c.flags / 2 % 2 == 1, c.flags / 8 % 2 == 1, c.departure)
+    time_writable(
+        timetable::has_departure(c),
+        c.flags / 8 % 2 == 1,
+        c.departure,
+    )
 }
 
 // Whether a schedule line can say it; its stop is a number.

@@ -14,6 +14,7 @@ use Rattle.base.proofs.Laws.{tests}
 use Rattle.timetable.specs.Layout.{serviceHead, callSize}
 use Rattle.timetable.specs.Delivery.{Service, CategoryRange}
 use Rattle.timetable.specs.Offences.{_<|>_}
+use Rattle.timetable.specs.Ranges.{hasArrival, hasDeparture}
 use Rattle.timetable.specs.Legs.{covering}
 use Rattle.timetable.specs.Table.{rowsIn, callAt, withStop}
 use Rattle.timetable.specs.View.{View}
@@ -42,14 +43,14 @@ choose-first t x y e = rw e
 pub choose-second : (t : Bool) (x y : ℕ) → t ≡ false → y ≡ cond t x y
 choose-second t x y e = rw e
 
-module _ (n i before : ℕ) (c : Call) (x : Bool) (e : x ≡ timeFine (eqb i 0) (eqb (c .flags % 2) 1) before (c .arrival)) where
+module _ (n i before : ℕ) (c : Call) (s x : Bool) (a : s ≡ hasArrival c) (e : x ≡ timeFine (eqb i 0) s before (c .arrival)) where
   pub times-no : not x ≡ true → false ≡ timesFine n i before c
   unfolding timesFine
-  times-no k = rw (sym e ∙ not-true x k)
+  times-no k = rw (← a, sym e ∙ not-true x k)
 
-  pub times-both : not x ≡ false → (b : ℕ) → b ≡ cond (eqb i 0) before (c .arrival) → (y : Bool) → y ≡ timeFine (eqb i n) (eqb (c .flags / 2 % 2) 1) b (c .departure) → y ≡ timesFine n i before c
+  pub times-both : not x ≡ false → (b : ℕ) → b ≡ cond (eqb i 0) before (c .arrival) → (t : Bool) → t ≡ hasDeparture c → (y : Bool) → y ≡ timeFine (eqb i n) t b (c .departure) → y ≡ timesFine n i before c
   unfolding timesFine
-  times-both k b q y f = rw (sym e ∙ not-false x k) (f ∙ rw q)
+  times-both k b q t d y f = rw (← a, sym e ∙ not-false x k) (f ∙ rw (q, d))
 
 pub ruleset times = (tests, fine-free, fine-missing, fine-order, choose-first, choose-second, times-no, times-both)
 

@@ -3,16 +3,16 @@ use mathlib.Core.Path.{_≡_, refl, sym, ap, _∙_}
 use mathlib.Core.List.{List}
 use mathlib.Core.Bool.{Bool, true}
 use Prim.Native.Nat.{ℕ, _+_, _*_, _^_, _≤_, _<_}
-use native.Mathlib.Nat.{add-zero}
 use native.Mathlib.Omega.{arith}
-use lib.ListN.{length, getD, drop, length-drop}
-use lib.Seq.{getD-drop}
+use lib.ListN.{length, drop, length-drop}
 use lib.Dec.{eqb}
 use Rattle.base.proofs.Laws.{tests}
 use Rattle.timetable.specs.Layout.{serviceHead, callSize, categorySize, latestTime, allFlags}
 use Rattle.timetable.specs.Delivery.{CategoryRange}
 use Rattle.timetable.specs.Legs.{covering}
 use Rattle.timetable.specs.Table.{callAt, categoryAt, calls#, categories#, categoryPlace, serviceAt, sizesSound, recordSound}
+use Rattle.timetable.specs.Inner.Words.{categoryRead}
+use Rattle.timetable.specs.declared.CategoryWords.{CategoryWords}
 use Rattle.timetable.specs.Run.{nameBy, categoryOn}
 use Rattle.timetable.specs.declared.Call.{Call}
 use Rattle.table.proofs.Says.{sizes-say, head-word, call-sound, call-says}
@@ -45,11 +45,8 @@ module _ (s : List ℕ) (e : sizesSound s ≡ true) where
   pub categories-room : (g : List ℕ) → g ≡ drop (categoryPlace s) s → categories# s * categorySize ≤ length g
   categories-room g q = rw (q, length-drop (categoryPlace s) s) (omega (arith, record-ends s e))
 
-  pub category-inside : (g : List ℕ) → g ≡ drop (categoryPlace s) s → (leg p : ℕ) (x : FirstRange) → x ≡ coverPlaceFrom leg categorySize 0 (categories# s) g → x ≡ At p → p < length g
+  pub category-inside : (g : List ℕ) → g ≡ drop (categoryPlace s) s → (leg p : ℕ) (x : FirstRange) → x ≡ coverPlaceFrom leg categorySize 0 (categories# s) g → x ≡ At p → p + categorySize ≤ length g
   category-inside g q leg p x f k = omega (arith, categories-room g q, place-fits leg categorySize (categories# s) p x g f k)
-
-  pub category-scaled : (g : List ℕ) → g ≡ drop (categoryPlace s) s → (leg p : ℕ) (x : FirstRange) → x ≡ coverPlaceFrom leg categorySize 0 (categories# s) g → x ≡ At p → length g * 4 < 2 ^ 63 → p * 4 < 2 ^ 64
-  category-scaled g q leg p x f k l = omega (arith, category-inside g q leg p x f k)
 
   module _ (k : ℕ) (h : k < calls# s) where
     pub call-fits : (y : ℕ) → y ≡ k → serviceHead + callSize * y + callSize ≤ length s
@@ -88,9 +85,7 @@ module _ (s g : List ℕ) (leg : ℕ) (q : g ≡ drop (categoryPlace s) s) where
     pub category-none : x ≡ Nowhere → 0 ≡ categoryOn (serviceAt s) leg
     category-none k = rw k at named
 
-    pub category-there : (p : ℕ) → x ≡ At p → getD g p 0 ≡ categoryOn (serviceAt s) leg
-    category-there p k =
-        let z : getD (drop p g) 0 0 ≡ getD g p 0 = getD-drop p g 0 0 ∙ ap (λ (i : ℕ). getD g i 0) (add-zero p) in
-        sym z ∙ (rw k at named)
+    pub category-there : (p : ℕ) → x ≡ At p → (range : CategoryWords) → range ≡ categoryRead (categoryAt (drop p g)) → range .name ≡ categoryOn (serviceAt s) leg
+    category-there p k range z = ap (λ (y : CategoryWords). y .name) z ∙ (rw k at named)
 
-pub ruleset held = (tests, record-ends, head-word, categories-within, categories-scaled, categories-room, category-inside, category-scaled, call-fits, call-is, rest-from, once-is, category-none, category-there)
+pub ruleset held = (tests, record-ends, head-word, categories-within, categories-scaled, categories-room, category-inside, call-fits, call-is, rest-from, once-is, category-none, category-there)

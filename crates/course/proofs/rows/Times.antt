@@ -77,7 +77,10 @@ later-room s e from left h y q = omega (arith, q, sizes-say s e .inside)
 pub later-start : (s : List ℕ) (left before from y : ℕ) → y ≡ from → laterStand left 3 before (drop (serviceHead + callSize * y) s) ≡ laterStand left 3 before (drop (serviceHead + callSize * from) s)
 later-start s left before from y q = rw q
 
-pub ruleset later = (tests, order-no, order-by, later-again, later-out, later-unstated, later-done, later-room, later-start)
+pub arrival-by : (before : ℕ) (c : Call) (s x : Bool) → s ≡ hasArrival c → x ≡ timeFine false s before (c .arrival) → x ≡ timeFine false (hasArrival c) before (c .arrival)
+arrival-by before c s x a e = e ∙ ap (λ (b : Bool). timeFine false b before (c .arrival)) a
+
+pub ruleset later = (tests, arrival-by, order-no, order-by, later-again, later-out, later-unstated, later-done, later-room, later-start)
 
 -- ---- all calls of the stretch from call a on with n legs; c is its first
 
@@ -89,11 +92,11 @@ module _ (n : ℕ) (c : Call) (w : List ℕ) where
     has-legs : ltb 0 n ≡ true
     has-legs = lt-ltb 0 n (omega arith)
 
-    pub stand-no : (d : Call) → d ≡ c → (d .flags / 2 % 2 ≡ 1 → ⊥) → false ≡ timesStand n c w
-    stand-no d q g = rw (has-legs, ← q, ne-eqb (d .flags / 2 % 2) 1 g)
+    pub stand-no : (d : Call) → d ≡ c → (t : Bool) → t ≡ hasDeparture d → not t ≡ true → false ≡ timesStand n c w
+    stand-no d q t f g = rw (has-legs, ← q, sym f ∙ not-true t g)
 
-    pub stand-by : (d : Call) → d ≡ c → d .flags / 2 % 2 ≡ 1 → (x : Bool) → x ≡ laterStand (n - 1) 3 (d .departure) w → x ≡ timesStand n c w
-    stand-by d q g x e = e ∙ sym (rw (has-legs, ← q, eq-eqb (d .flags / 2 % 2) 1 g))
+    pub stand-by : (d : Call) → d ≡ c → (t : Bool) → t ≡ hasDeparture d → not t ≡ false → (x : Bool) → x ≡ laterStand (n - 1) 3 (d .departure) w → x ≡ timesStand n c w
+    stand-by d q t f g x e = e ∙ sym (rw (has-legs, ← q, sym f ∙ not-false t g))
 
 module _ (s : List ℕ) (e : sizesSound s ≡ true) (a n : ℕ) (b : a + n < calls# s) where
   pub first-within : a < calls# s

@@ -20,11 +20,8 @@ enum-told c = search held
 returns : tie.Need-returns
 returns c = search held
 
-mul-result : tie.Need-mul-result
-mul-result c = search held
-
-shared-slice-read-result : tie.Need-shared-slice-read-result
-shared-slice-read-result c = search held
+category-at-requires : tie.Need-category-at-requires
+category-at-requires c κs = search held
 
 returns-2 : tie.Need-returns-2
 returns-2 c = search held
@@ -39,6 +36,5 @@ category-on-spec =
     enum-known-first
     enum-told
     returns
-    mul-result
-    shared-slice-read-result
+    category-at-requires
     returns-2)

@@ -8,6 +8,9 @@ returns c = search stand
 call-of-requires : tie.Need-call-of-requires
 call-of-requires c κs = search stand
 
+has-departure-requires : tie.Need-has-departure-requires
+has-departure-requires c κs = search stand
+
 returns-2 : tie.Need-returns-2
 returns-2 c = search stand
 
@@ -29,6 +32,7 @@ times-stand-spec =
     (tie.spec
     returns
     call-of-requires
+    has-departure-requires
     returns-2
     add-later-stand
     sub-later-stand
