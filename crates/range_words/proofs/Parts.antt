@@ -27,7 +27,7 @@ use Rattle.draft.specs.Inner.Draft.{draftRange, partBack, lineBack, rangesIn, p
 use Rattle.route.specs.Inner.Route.{foundOf}
 use Rattle.route.specs.declared.RangeFound.{RangeFound}
 use Rattle.route.specs.declared.RangeFound.the-variants.{Between, Missing}
-use Rattle.range_words.specs.Inner.Parts.{rangeRowWords, foundWords, rangeGives, partWords, givenWords}
+use Rattle.range_words.specs.Inner.Parts.{rangeRowWords, partRow, foundWords, rangeGives, partWords, givenWords}
 use Rattle.range_words.specs.declared.Given.{Given}
 use Rattle.range_words.specs.declared.Given.the-variants.{Nothing, Three, Four}
 use Rattle.range_words.proofs.Rows.{row-turn, no-rows, row-start, run-count, run-room, run-again}
@@ -77,11 +77,11 @@ module _ (cs : List Call) (rs : List RangeLine) where
 -- ---- what a range gives, for `search gives`
 
 -- the legs that were found are those that the answer says
-unfound : RangeFound → Option Legs
+unfoldable pub unfound : RangeFound → Option Legs
 unfound (Between from to) = some (record { from = from .0; to = to .0 })
 unfound Missing = none
 
-found-legs : (f : RangeFound) (o : Option Legs) → f ≡ foundOf o → o ≡ unfound f
+pub found-legs : (f : RangeFound) (o : Option Legs) → f ≡ foundOf o → o ≡ unfound f
 unfolding unfound
 found-legs f none k = rw k refl
 found-legs f (some g) k = rw k refl
@@ -163,6 +163,37 @@ module _ (g : Given) (t : List ℕ) (q : ℕ) where
 
 pub ruleset putting = (tests, none-count, put-none, three-room, three-count, put-three, four-room, four-count, put-four)
 
+-- ---- the row of a range that is written only to its own part, for `search rowing`: a and b are the numbers of its part and of that part
+
+module _ (part : RangeKind) (x : RangeLine) (a b : ℕ) (e : a ≡ partNumber (x .part)) (d : b ≡ partNumber part) (from to : ℕ) where
+  own-here : isPart part x ≡ eqb a b
+  own-here = rw (e, d) refl
+
+  module _ (h : a ≡ b → ⊥) where
+    no-row : partRow part x from to ≡ []
+    no-row = rw (own-here ∙ ne-eqb a b h) refl
+
+    pub other-count : (q : ℕ) → q ≡ q + length (partRow part x from to)
+    other-count q = rw no-row (sym (add-zero q))
+
+    pub other-put : (t : List ℕ) (q : ℕ) → t ≡ write t q (partRow part x from to)
+    other-put t q = rw no-row (sym (write-none t q))
+
+  module _ (h : a ≡ b) (g : Given) (k : givenWords g ≡ rangeRowWords part x from to) where
+    one-row : partRow part x from to ≡ givenWords g
+    one-row = rw (own-here ∙ eq-eqb a b h) (sym k)
+
+    pub own-room : (t : List ℕ) (q : ℕ) → q + length (partRow part x from to) ≤ length t → q + length (givenWords g) ≤ length t
+    own-room t q r = rw one-row at r
+
+    pub own-count : (q r : ℕ) → r ≡ q + length (givenWords g) → r ≡ q + length (partRow part x from to)
+    own-count q r v = rw one-row v
+
+    pub own-put : (t t′ : List ℕ) (q : ℕ) → t′ ≡ write t q (givenWords g) → t′ ≡ write t q (partRow part x from to)
+    own-put t t′ q v = rw one-row v
+
+pub ruleset rowing = (tests, other-count, other-put, own-room, own-count, own-put)
+
 -- ---- the loop of `part_into`, for `search puts`
 
 -- the words of the ranges from the i-th of n on, which is drafted at place p
@@ -177,20 +208,20 @@ module _ (part : RangeKind) (cs : List Call) where
   part-start n q w t = ap (write t q) (row-start lineBack draftRange (rangeGives part cs) w n)
 
   module _ (n i p q m : ℕ) (w : List ℕ) where
-    module _ (h : i < n) (g : Given) (k : givenWords g ≡ rangeGives part cs (lineBack (drop p w))) (t t₀ : List ℕ) (len : length t ≡ length t₀)
+    module _ (h : i < n) (vs : List ℕ) (k : vs ≡ rangeGives part cs (lineBack (drop p w))) (t t₀ : List ℕ) (len : length t ≡ length t₀)
         (count : q + length (partLeft part cs n i p w) ≡ m) (room : m ≤ length t₀) where
-      part-turn : partLeft part cs n i p w ≡ givenWords g ++ partLeft part cs n (i + 1) (p + draftRange) w
-      part-turn = row-turn lineBack draftRange (rangeGives part cs) w n i p h (givenWords g) k
+      part-turn : partLeft part cs n i p w ≡ vs ++ partLeft part cs n (i + 1) (p + draftRange) w
+      part-turn = row-turn lineBack draftRange (rangeGives part cs) w n i p h vs k
 
-      pub put-room : q + length (givenWords g) ≤ length t
-      put-room = run-room (givenWords g) (partLeft part cs n (i + 1) (p + draftRange) w) (partLeft part cs n i p w) t t₀ q m part-turn len count room
+      pub put-room : q + length vs ≤ length t
+      put-room = run-room vs (partLeft part cs n (i + 1) (p + draftRange) w) (partLeft part cs n i p w) t t₀ q m part-turn len count room
 
-      module _ (q′ : ℕ) (after : q′ ≡ q + length (givenWords g)) where
+      module _ (q′ : ℕ) (after : q′ ≡ q + length vs) where
         pub put-count : q′ + length (partLeft part cs n (i + 1) (p + draftRange) w) ≡ m
-        put-count = rw after (run-count (givenWords g) (partLeft part cs n (i + 1) (p + draftRange) w) (partLeft part cs n i p w) t t₀ q m part-turn len count)
+        put-count = rw after (run-count vs (partLeft part cs n (i + 1) (p + draftRange) w) (partLeft part cs n i p w) t t₀ q m part-turn len count)
 
-        pub put-again : (t′ r : List ℕ) → t′ ≡ write t q (givenWords g) → write t q (partLeft part cs n i p w) ≡ r → write t′ q′ (partLeft part cs n (i + 1) (p + draftRange) w) ≡ r
-        put-again t′ r z v = rw after (run-again (givenWords g) (partLeft part cs n (i + 1) (p + draftRange) w) (partLeft part cs n i p w) t t₀ q m part-turn len count room t′ r z v)
+        pub put-again : (t′ r : List ℕ) → t′ ≡ write t q vs → write t q (partLeft part cs n i p w) ≡ r → write t′ q′ (partLeft part cs n (i + 1) (p + draftRange) w) ≡ r
+        put-again t′ r z v = rw after (run-again vs (partLeft part cs n (i + 1) (p + draftRange) w) (partLeft part cs n i p w) t t₀ q m part-turn len count room t′ r z v)
 
     module _ (h : n ≤ i) where
       pub part-last : q + length (partLeft part cs n i p w) ≡ m → q ≡ m

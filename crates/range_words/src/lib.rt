@@ -11,7 +11,7 @@ ghost use lib.ListN.{length, drop};
 ghost use Rattle.words.specs.Words.{write};
 ghost use Rattle.timetable.specs.Plan.{partNumber, isPart};
 ghost use Rattle.draft.specs.Inner.Draft.{draftCall, draftRange, partBack, lineBack, callsIn, rangesIn};
-ghost use Rattle.range_words.specs.Inner.Parts.{rangeRowWords, rangeGives, partWords, givenWords};
+ghost use Rattle.range_words.specs.Inner.Parts.{rangeRowWords, partRow, rangeGives, partWords, givenWords};
 
 // What a range gives to a part of the service's words: nothing, or three or four words.
 enum Given {
@@ -82,6 +82,26 @@ fn given_by(part: RangeKind, range: RangeLine, calls: &[u32], c: u32) -> Given
         return Given::Nothing;
     };
     row_of(part, range, from.0, to.0)
+}
+
+// Writes the words of a range, from one call to another, if it is of a part; the place after them.
+pub fn row_into(
+    part: RangeKind,
+    range: RangeLine,
+    from: u32,
+    to: u32,
+    table: &mut [u32],
+    at: usize,
+) -> usize
+    requires { ⌜ at + length (partRow part range from to) ≤ length (now table) ⌝ }
+    ensures { λ r. ⌜ (r ≡ at + length (partRow part range from to))
+        × (now (table .exit) ≡ write (now (table .entry)) at (partRow part range from to)) ⌝ }
+{
+    let own = range.part;
+    if draft::part_number(own) != draft::part_number(part) {
+        return at;
+    }
+    put_given(row_of(part, range, from, to), table, at)
 }
 
 // The words of a range of a part, from one call to another.

@@ -1,11 +1,11 @@
--- 17 and 18 on the words of a service's ranges, which are read back as its ranges. Assumes nothing.
+-- 17 to 19 on the words of a service's *G and *A VE ranges, which are read back as its ranges. Assumes nothing.
 use mathlib.Core.Path.{_≡_, refl, sym, ap, _∙_}
-use mathlib.Core.List.{List, map, _++_}
-use mathlib.Core.Bool.{Bool, true, false}
-use mathlib.Core.Option.{some}
+use mathlib.Core.List.{List, [], _∷_, map, _++_}
+use mathlib.Core.Bool.{Bool, true, false, cond}
+use mathlib.Core.Option.{Option, none, some}
 use Prim.Native.Nat.{ℕ, _+_, _-_, _*_, _≤_}
 use native.Mathlib.Omega.{arith}
-use lib.ListN.{length, drop}
+use lib.ListN.{length, drop, length-append}
 use borrow.Author.Tests.{eq-eqb}
 use Rattle.base.specs.Lists.{every, countIf, below, gathered}
 use Rattle.base.proofs.Laws.{tests}
@@ -13,30 +13,72 @@ use Rattle.base.proofs.Loops.{every-one}
 use Rattle.words.specs.Words.{write}
 use Rattle.words.proofs.Laws.{write-front}
 use Rattle.timetable.specs.Layout.{categorySize, daySize, mostCategories, mostDays}
-use Rattle.timetable.specs.Delivery.{BitField, Legs as LegsOf, CategoryRange, DayRange, Service}
+use Rattle.timetable.specs.Delivery.{BitField, Legs as LegsOf, DayRange, Service}
 use Rattle.timetable.specs.Offences.{_<|>_, offenceAt, verdictBy}
-use Rattle.timetable.specs.Legs.{legCount, covers}
-use Rattle.timetable.specs.Checks.{eachOnce, legsFirst}
+use Rattle.timetable.specs.Legs.{covers}
+use Rattle.timetable.specs.Plan.{isPart}
+use Rattle.timetable.specs.Service.{legsOn}
+use Rattle.timetable.specs.Checks.{endsFirst, eachOnce}
 use Rattle.timetable.specs.Table.{rowsIn, legsAt, categoryAt, dayAt, categoryWords, dayWords}
 use Rattle.timetable.specs.declared.Call.{Call}
+use Rattle.timetable.specs.declared.Offence.{Offence}
+use Rattle.timetable.specs.declared.RangeKind.{RangeKind}
 use Rattle.timetable.specs.declared.RangeKind.the-variants.{Category, Days}
 use Rattle.timetable.specs.declared.RangeLine.{RangeLine}
 use Rattle.timetable.specs.declared.Verdict.{Verdict}
-use Rattle.timetable.specs.declared.Verdict.the-variants.{Fine}
-use Rattle.timetable.proofs.Records.{categories-back, categories-length, days-back, days-length}
+use Rattle.timetable.specs.declared.Verdict.the-variants.{Fine, Offends}
+use Rattle.timetable.proofs.Offences.{verdict-fine, verdict-offends}
+use Rattle.timetable.proofs.Records.{categories-back, days-back}
 use Rattle.cover.specs.Inner.Cover.{legsIn, onceIn, inTurn}
 use Rattle.cover.proofs.Turn.{turn-once, legs-rows}
 use Rattle.cover.proofs.Rows.{categories-once, days-once}
-use Rattle.draft.specs.Inner.Draft.{draftCall, draftRange, callsIn, rangesIn, ranges#, draftedService}
+use Rattle.draft.specs.Inner.Draft.{draftCall, draftRange, mostRanges, callsIn, rangesOn, rangesIn, ranges#, partIn, draftedService}
+use Rattle.draft.proofs.Drafts.{ranges-within}
+use Rattle.draft.specs.declared.Counts.{Counts}
 use Rattle.draft.specs.declared.Drafted.{Drafted}
-use Rattle.range_words.specs.Inner.Parts.{partWords}
+use Rattle.range_words.specs.Inner.Parts.{rangeRowWords, foundWords, partWords}
 use Rattle.range_words.proofs.Parts.{categories-part, days-part}
-use Rattle.service.specs.Inner.Answers.{Counted, EndsFound, serviceIn, rowsTorn, daysFirst}
-use Rattle.service.proofs.Size.{calls-are, categories-are, days-are}
+use Rattle.service.specs.Inner.Answers.{Counted, PartFound, serviceIn, rangesFirst, rowsFirst, rowsTorn, daysFirst}
+use Rattle.service.proofs.Size.{EndsFound, calls-are, categories-are, days-are}
 
--- ---- the words of the *G ranges and of the *A VE ranges, at the front of some words t
+-- ---- room for what is read, and for the words of the *G ranges and of the *A VE ranges
 
-module _ (d : Drafted) (calls ranges : List ℕ) (h : Counted (d .counts) calls ranges) (f : EndsFound d calls ranges) (n : ℕ) (m : n ≡ ranges# (d .counts)) where
+-- the words of a part whose rows have three words each are at most so many for each of its ranges
+module _ (p : RangeKind) (cs : List Call) (three : (r : RangeLine) (from to : ℕ) → length (rangeRowWords p r from to) ≡ 3) where
+  part-most : (rs : List RangeLine) → length (partWords p cs rs) ≤ 3 * length (partIn p rs)
+  unfolding gathered
+  part-most [] = omega arith
+  part-most (r ∷ rs) = go (isPart p r) (legsOn cs r) (part-most rs)
+    where
+      go : (b : Bool) (o : Option LegsOf) → length (partWords p cs rs) ≤ 3 * length (partIn p rs)
+          → length (cond b (foundWords p r o) [] ++ partWords p cs rs) ≤ 3 * length (cond b (r ∷ []) [] ++ partIn p rs)
+      go false o ih = ih
+      go true none ih = omega (arith, ih)
+      go true (some g) ih = omega (arith, ih, length-append (rangeRowWords p r (g .from) (g .to)) (partWords p cs rs), three r (g .from) (g .to))
+
+module _ (k : Counts) (calls ranges : List ℕ) (h : Counted k calls ranges) where
+  pub ranges-most : ranges# k ≤ mostRanges
+  ranges-most = ranges-within k (h .within)
+
+  pub calls-room : draftCall * k .calls ≤ length calls
+  calls-room = omega (arith, h .within .calls, h .calls-lent)
+
+  module _ (n : ℕ) (e : n ≡ ranges# k) where
+    pub ranges-room : draftRange * n ≤ length ranges
+    ranges-room = omega (arith, e, ranges-most, h .ranges-lent)
+
+    module _ (t : List ℕ) (cs : List Call) where
+      pub categories-room : length t ≡ categorySize * mostCategories → length (partWords Category cs (rangesIn n ranges)) ≤ length t
+      categories-room l =
+          omega (arith, part-most Category cs (λ r from to. refl) (rangesIn n ranges), ap (λ (n : ℕ). length (partIn Category (rangesIn n ranges))) e, h .categories, h .within .categories)
+
+      pub days-room : length t ≡ daySize * mostDays → length (partWords Days cs (rangesIn n ranges)) ≤ length t
+      days-room l =
+          omega (arith, part-most Days cs (λ r from to. refl) (rangesIn n ranges), ap (λ (n : ℕ). length (partIn Days (rangesIn n ranges))) e, h .days, h .within .days)
+
+-- ---- the needs of `ranges_wrong`, for `search parting`: u is what `find_ends` answered, w and w′ what it left in the words t and t′
+
+module _ (d : Drafted) (calls ranges : List ℕ) (n : ℕ) (m : n ≡ ranges# (d .counts)) where
   abbrev cs : List Call
   cs = callsIn (d .counts .calls) calls
 
@@ -54,51 +96,53 @@ module _ (d : Drafted) (calls ranges : List ℕ) (h : Counted (d .counts) calls 
   unfolding draftedService
   days-written = rw m (sym (days-part cs (rangesIn (ranges# (d .counts)) ranges)))
 
-  pub calls-lie : draftCall * d .counts .calls ≤ length calls
-  calls-lie = omega (arith, h .within .calls, h .calls-lent)
+  module _ (u : Verdict) (e : u ≡ verdictBy (endsFirst (callsIn (d .counts .calls) calls) (rangesOn n ranges))) where
+    ends-said : u ≡ verdictBy (endsFirst (callsIn (d .counts .calls) calls) (rangesOn (ranges# (d .counts)) ranges))
+    ends-said = e ∙ rw m refl
 
-  pub ranges-lie : draftRange * n ≤ length ranges
-  ranges-lie = omega (arith, m, h .within .categories, h .within .days, h .within .extras, h .ranges-lent)
+    pub ends-offend : (fields : List BitField) (days : ℕ) (o : Offence) → u ≡ Offends o → u ≡ verdictBy (rangesFirst fields days d calls ranges)
+    unfolding _<|>_
+    ends-offend fields days o y = y ∙ rw (verdict-offends (endsFirst (callsIn (d .counts .calls) calls) (rangesOn (ranges# (d .counts)) ranges)) u ends-said o y) refl
 
-  module _ (t : List ℕ) where
-    pub categories-room : length t ≡ categorySize * mostCategories → 0 + length (partWords Category cs rs) ≤ length t
-    categories-room l = omega (arith, ap length categories-written, categories-length (s .categories), categories-are d calls ranges h f, h .within .categories)
+    module _ (h : Counted (d .counts) calls ranges) (y : u ≡ Fine) where
+      found : EndsFound d calls ranges
+      found = verdict-fine (endsFirst (callsIn (d .counts .calls) calls) (rangesOn (ranges# (d .counts)) ranges)) u ends-said y
 
-    pub days-room : length t ≡ daySize * mostDays → 0 + length (partWords Days cs rs) ≤ length t
-    days-room l = omega (arith, ap length days-written, days-length (s .days), days-are d calls ranges h f, h .within .days)
+      categories-read : (t w : List ℕ) → w ≡ write t 0 (partWords Category cs rs) → rowsIn categoryAt categorySize (d .counts .categories) w ≡ s .categories
+      categories-read t w e =
+          ap (rowsIn categoryAt categorySize (d .counts .categories)) (e ∙ write-front t (partWords Category cs rs) ∙ ap (λ (vs : List ℕ). vs ++ drop (length (partWords Category cs rs)) t) categories-written)
+          ∙ ap (λ (g : ℕ). rowsIn categoryAt categorySize g (gathered categoryWords (s .categories) ++ drop (length (partWords Category cs rs)) t)) (sym (categories-are d calls ranges h found))
+          ∙ categories-back (s .categories) (drop (length (partWords Category cs rs)) t)
 
-    module _ (w : List ℕ) (fields : List BitField) (days : ℕ) (r : Verdict) where
-      -- ---- the needs of `legs_wrong`, for `search parting`: b is what `each_once` said, r what is answered
-
-      module _ (e : w ≡ write t 0 (partWords Category cs rs)) (b : Bool) (k : b ≡ every (onceIn categorySize (d .counts .categories) w) (below (d .counts .calls - 1))) where
-        rows-are : rowsIn categoryAt categorySize (d .counts .categories) w ≡ s .categories
-        rows-are =
-            ap (rowsIn categoryAt categorySize (d .counts .categories)) (e ∙ write-front t (partWords Category cs rs) ∙ ap (λ (vs : List ℕ). vs ++ drop (length (partWords Category cs rs)) t) categories-written)
-            ∙ ap (λ (g : ℕ). rowsIn categoryAt categorySize g (gathered categoryWords (s .categories) ++ drop (length (partWords Category cs rs)) t)) (sym (categories-are d calls ranges h f))
-            ∙ categories-back (s .categories) (drop (length (partWords Category cs rs)) t)
-
-        named : b ≡ eachOnce (λ (r : CategoryRange). r .legs) (legCount s) (s .categories)
-        named =
-            k ∙ categories-once (d .counts .categories) (d .counts .calls - 1) w
-            ∙ rw (rows-are, calls-are d calls ranges h f) refl
-
-        pub legs-then : b ≡ true → r ≡ verdictBy (daysFirst fields days (d .line) (d .counts .calls - 1) (s .days)) → r ≡ verdictBy (legsFirst fields days (d .line) (serviceIn d calls ranges))
-        unfolding _<|>_
-        legs-then y z = z ∙ rw (sym named ∙ y, calls-are d calls ranges h f) refl
-
-        pub legs-not : b ≡ false → r ≡ verdictBy (some (offenceAt 17 (d .line))) → r ≡ verdictBy (legsFirst fields days (d .line) (serviceIn d calls ranges))
-        unfolding _<|>_
-        legs-not y z = z ∙ rw (sym named ∙ y) refl
-
-      -- ---- the need of `operating_wrong`, for `search operating`
-
-      pub days-then : w ≡ write t 0 (partWords Days cs rs) → r ≡ verdictBy (daysFirst fields days (d .line) (d .counts .calls - 1) (rowsIn dayAt daySize (d .counts .days) w))
-          → r ≡ verdictBy (daysFirst fields days (d .line) (d .counts .calls - 1) (serviceIn d calls ranges .days))
-      days-then e z =
-          z ∙ ap (λ (rs : List DayRange). verdictBy (daysFirst fields days (d .line) (d .counts .calls - 1) rs)) (
+      days-read : (t w : List ℕ) → w ≡ write t 0 (partWords Days cs rs) → rowsIn dayAt daySize (d .counts .days) w ≡ s .days
+      days-read t w e =
           ap (rowsIn dayAt daySize (d .counts .days)) (e ∙ write-front t (partWords Days cs rs) ∙ ap (λ (vs : List ℕ). vs ++ drop (length (partWords Days cs rs)) t) days-written)
-          ∙ ap (λ (g : ℕ). rowsIn dayAt daySize g (gathered dayWords (s .days) ++ drop (length (partWords Days cs rs)) t)) (sym (days-are d calls ranges h f))
-          ∙ days-back (s .days) (drop (length (partWords Days cs rs)) t))
+          ∙ ap (λ (g : ℕ). rowsIn dayAt daySize g (gathered dayWords (s .days) ++ drop (length (partWords Days cs rs)) t)) (sym (days-are d calls ranges h found))
+          ∙ days-back (s .days) (drop (length (partWords Days cs rs)) t)
+
+      pub legs-told : (fields : List BitField) (days : ℕ) (t w t′ w′ : List ℕ) (r : Verdict)
+          → PartFound u Category (callsIn (d .counts .calls) calls) (rangesIn n ranges) t w
+          → PartFound u Days (callsIn (d .counts .calls) calls) (rangesIn n ranges) t′ w′
+          → r ≡ verdictBy (rowsFirst fields days (d .line) (d .counts .calls - 1) (rowsIn categoryAt categorySize (d .counts .categories) w) (rowsIn dayAt daySize (d .counts .days) w′))
+          → r ≡ verdictBy (rangesFirst fields days d calls ranges)
+      unfolding _<|>_
+      legs-told fields days t w t′ w′ r g k z =
+          z ∙ rw (found, categories-read t w (g .written y), days-read t′ w′ (k .written y), calls-are d calls ranges h found) refl
+
+pub ruleset parting = (tests, ranges-most, calls-room, ranges-room, categories-room, days-room, ends-offend, legs-told)
+
+-- ---- the needs of `legs_wrong`, for `search naming`: b is what `each_once` said of the *G ranges, r what is answered
+
+module _ (w : List ℕ) (g legs : ℕ) (b : Bool) (e : b ≡ every (onceIn categorySize g w) (below legs)) (fields : List BitField) (days line : ℕ) (rs : List DayRange) (r : Verdict) where
+  pub legs-then : b ≡ true → r ≡ verdictBy (daysFirst fields days line legs rs) → r ≡ verdictBy (rowsFirst fields days line legs (rowsIn categoryAt categorySize g w) rs)
+  unfolding _<|>_
+  legs-then y z = z ∙ rw (sym (categories-once g legs w) ∙ sym e ∙ y) refl
+
+  pub legs-not : b ≡ false → r ≡ verdictBy (some (offenceAt 17 line)) → r ≡ verdictBy (rowsFirst fields days line legs (rowsIn categoryAt categorySize g w) rs)
+  unfolding _<|>_
+  legs-not y z = z ∙ rw (sym (categories-once g legs w) ∙ sym e ∙ y) refl
+
+pub ruleset naming = (tests, legs-then, legs-not)
 
 -- ---- the need of `each_once`, for `search turning`: t is what `in_turn` said
 
@@ -109,10 +153,6 @@ turn-each w n width legs t e y =
     sym (every-one (onceIn width n w) legs 0 (λ k a h. eq-eqb (countIf (covers k) (legsIn width n w)) 1 (turn-once (λ (g : LegsOf). g) 0 legs k (legsIn width n w) follow a (omega arith))))
 
 pub ruleset turning = (tests, turn-each)
-
-pub ruleset parting = (tests, calls-lie, ranges-lie, categories-room, legs-then, legs-not)
-
-pub ruleset operating = (tests, calls-lie, ranges-lie, days-room, days-then)
 
 -- ---- the needs of `days_wrong`, for `search tearing`: t is what `each_once` said of the *A VE ranges, s what `two_stretches` said
 

@@ -1,39 +1,26 @@
 -- "14, 15, 16 (each by line), 17, 18, 19": which answer each check leaves. Assumes nothing.
-use mathlib.Core.Path.{_≡_, refl, _∙_}
+use mathlib.Core.Path.{_≡_, refl, sym, _∙_}
 use mathlib.Core.List.{List}
-use Prim.Native.Nat.{ℕ, _+_, _*_, _≤_, _<_}
-use native.Mathlib.Omega.{arith}
-use lib.ListN.{length}
+use mathlib.Core.Option.{none}
+use Prim.Native.Nat.{ℕ, _≤_, _<_}
 use borrow.Author.Tests.{lt-ltb, le-ltb}
 use Rattle.base.proofs.Laws.{tests}
+use Rattle.timetable.specs.Layout.{recordSize}
 use Rattle.timetable.specs.Delivery.{BitField}
 use Rattle.timetable.specs.Offences.{_<|>_, offenceAt, verdictBy}
 use Rattle.timetable.specs.Checks.{timesFirst, endsFirst, legsFirst}
 use Rattle.timetable.specs.declared.Offence.{Offence}
 use Rattle.timetable.specs.declared.Verdict.{Verdict}
 use Rattle.timetable.specs.declared.Verdict.the-variants.{Fine, Offends}
-use Rattle.timetable.proofs.Offences.{verdict-fine, verdict-offends}
-use Rattle.draft.specs.Inner.Draft.{draftCall, draftRange, mostRanges, callsOn, callsIn, rangesOn, ranges#}
-use Rattle.draft.specs.declared.Counts.{Counts}
-use Rattle.draft.proofs.Drafts.{ranges-within}
+use Rattle.timetable.proofs.Offences.{then-none, verdict-fine, verdict-offends}
+use Rattle.draft.specs.Inner.Draft.{callsOn, callsIn, rangesOn, ranges#}
 use Rattle.draft.specs.declared.Drafted.{Drafted}
-use Rattle.service.specs.Inner.Answers.{Counted, EndsFound, serviceIn, draftFirst, checkBy}
-use Rattle.service.specs.declared.ServiceCheck.{ServiceCheck}
-use Rattle.service.specs.declared.ServiceCheck.the-variants.{Refused}
+use Rattle.service.specs.Inner.Answers.{Counted, serviceIn, rangesFirst, draftFirst, checkBy}
+use Rattle.service.specs.declared.ServiceCheck.the-variants.{Takes, Refused}
+use Rattle.service.proofs.Size.{EndsFound, size-is}
+use Rattle.service.proofs.Legs.{calls-room}
 
--- ---- room for what the checks read
-
-module _ (k : Counts) (calls ranges : List ℕ) (h : Counted k calls ranges) where
-  pub ranges-most : ranges# k ≤ mostRanges
-  ranges-most = ranges-within k (h .within)
-
-  pub calls-room : draftCall * k .calls ≤ length calls
-  calls-room = omega (arith, h .within .calls, h .calls-lent)
-
-  pub ranges-room : (n : ℕ) → n ≡ ranges# k → draftRange * n ≤ length ranges
-  ranges-room n e = omega (arith, e, ranges-most, h .ranges-lent)
-
--- ---- 14, 15, 16, for `search drafting`: v and u are what the checks of times and of ends answered
+-- ---- 14, 15, and what is left, for `search drafting`: v and u are what the checks of times and of ranges answered
 
 module _ (fields : List BitField) (days : ℕ) (d : Drafted) (calls ranges : List ℕ) where
   pub draft-short : (o : Offence) → d .counts .calls < 2 → o ≡ offenceAt 14 (d .line) → Refused o ≡ checkBy (draftFirst fields days d calls ranges) (serviceIn d calls ranges) d
@@ -45,31 +32,27 @@ module _ (fields : List BitField) (days : ℕ) (d : Drafted) (calls ranges : Lis
     unfolding _<|>_
     draft-times o y = rw (le-ltb (d .counts .calls) 2 two, verdict-offends (timesFirst (d .counts .calls) 0 0 (callsOn (d .counts .calls) calls)) v e o y) refl
 
-    module _ (y : v ≡ Fine) (n : ℕ) (g : n ≡ ranges# (d .counts)) (u : Verdict) (f : u ≡ verdictBy (endsFirst (callsIn (d .counts .calls) calls) (rangesOn n ranges))) where
-      ends-said : u ≡ verdictBy (endsFirst (callsIn (d .counts .calls) calls) (rangesOn (ranges# (d .counts)) ranges))
-      ends-said = f ∙ rw g refl
-
-      pub draft-ends : (o : Offence) → u ≡ Offends o → Refused o ≡ checkBy (draftFirst fields days d calls ranges) (serviceIn d calls ranges) d
+    module _ (y : v ≡ Fine) (u : Verdict) (f : u ≡ verdictBy (rangesFirst fields days d calls ranges)) where
+      pub draft-ranges : (o : Offence) → u ≡ Offends o → Refused o ≡ checkBy (draftFirst fields days d calls ranges) (serviceIn d calls ranges) d
       unfolding _<|>_
-      draft-ends o z =
+      draft-ranges o z =
           rw (
             le-ltb (d .counts .calls) 2 two,
             verdict-fine (timesFirst (d .counts .calls) 0 0 (callsOn (d .counts .calls) calls)) v e y,
-            verdict-offends (endsFirst (callsIn (d .counts .calls) calls) (rangesOn (ranges# (d .counts)) ranges)) u ends-said o z,
+            verdict-offends (rangesFirst fields days d calls ranges) u f o z,
           ) refl
 
-      pub draft-legs : (r : ServiceCheck) → u ≡ Fine → r ≡ checkBy (legsFirst fields days (d .line) (serviceIn d calls ranges)) (serviceIn d calls ranges) d
-          → r ≡ checkBy (draftFirst fields days d calls ranges) (serviceIn d calls ranges) d
+      pub draft-takes : (z : ℕ) → Counted (d .counts) calls ranges → u ≡ Fine → z ≡ recordSize (d .counts .calls) (d .counts .categories) (d .counts .days) (d .counts .extras)
+          → Takes z (d .end) (d .no) ≡ checkBy (draftFirst fields days d calls ranges) (serviceIn d calls ranges) d
       unfolding _<|>_
-      draft-legs r z k =
+      draft-takes z h x k =
+          let none-of : rangesFirst fields days d calls ranges ≡ none = verdict-fine (rangesFirst fields days d calls ranges) u f x in
+          let found : EndsFound d calls ranges = then-none (endsFirst (callsIn (d .counts .calls) calls) (rangesOn (ranges# (d .counts)) ranges)) (legsFirst fields days (d .line) (serviceIn d calls ranges)) none-of .0 in
           rw (
             le-ltb (d .counts .calls) 2 two,
             verdict-fine (timesFirst (d .counts .calls) 0 0 (callsOn (d .counts .calls) calls)) v e y,
-            verdict-fine (endsFirst (callsIn (d .counts .calls) calls) (rangesOn (ranges# (d .counts)) ranges)) u ends-said z,
-          ) k
+            none-of,
+            k ∙ sym (size-is d calls ranges h found),
+          ) refl
 
--- u is the verdict of 16
-pub draft-ended : (d : Drafted) (calls ranges : List ℕ) (n : ℕ) (u : Verdict) → n ≡ ranges# (d .counts) → u ≡ verdictBy (endsFirst (callsIn (d .counts .calls) calls) (rangesOn n ranges)) → u ≡ Fine → EndsFound d calls ranges
-draft-ended d calls ranges n u g f z = verdict-fine (endsFirst (callsIn (d .counts .calls) calls) (rangesOn (ranges# (d .counts)) ranges)) u (f ∙ rw g refl) z
-
-pub ruleset drafting = (tests, ranges-most, calls-room, ranges-room, draft-short, draft-times, draft-ends, draft-ended, draft-legs)
+pub ruleset drafting = (tests, calls-room, draft-short, draft-times, draft-ranges, draft-takes)

@@ -7,29 +7,29 @@ use Prim.Native.Nat.{ℕ, zero, suc, _+_, _*_, _≤_}
 use native.Mathlib.Omega.{arith}
 use lib.ListN.{length, drop, length-append}
 use Rattle.base.specs.Lists.{gathered}
-use Rattle.base.proofs.Laws.{clash, tests}
+use Rattle.base.proofs.Laws.{clash}
 use Rattle.base.proofs.Lists.{gathered-append}
 use Rattle.timetable.specs.Layout.{mostCalls, mostCategories, mostDays, mostExtras, recordSize}
-use Rattle.timetable.specs.Delivery.{BitField, Legs, Service}
-use Rattle.timetable.specs.Offences.{given, verdictBy}
+use Rattle.timetable.specs.Delivery.{Legs}
+use Rattle.timetable.specs.Offences.{given}
 use Rattle.timetable.specs.Plan.{isPart, ofPart}
 use Rattle.timetable.specs.Service.{withLegs, legsOn, categoryRange, dayRange, extraRange}
-use Rattle.timetable.specs.Checks.{isNone, endsFirst, legsFirst}
+use Rattle.timetable.specs.Checks.{isNone, endsFirst}
 use Rattle.timetable.specs.Table.{rowsIn, serviceWords}
 use Rattle.timetable.specs.declared.Call.{Call}
-use Rattle.timetable.specs.declared.Offence.{Offence}
 use Rattle.timetable.specs.declared.RangeKind.{RangeKind}
 use Rattle.timetable.specs.declared.RangeKind.the-variants.{Category, Days, Extra}
 use Rattle.timetable.specs.declared.RangeLine.{RangeLine}
-use Rattle.timetable.specs.declared.Verdict.{Verdict}
-use Rattle.timetable.specs.declared.Verdict.the-variants.{Fine, Offends}
-use Rattle.timetable.proofs.Offences.{then-none, given-none, verdict-fine, verdict-offends}
+use Rattle.timetable.proofs.Offences.{then-none, given-none}
 use Rattle.timetable.proofs.Records.{service-length}
 use Rattle.timetable.proofs.Rows.{length-rows}
 use Rattle.draft.specs.Inner.Draft.{callBack, lineBack, rangeBack, draftCall, draftRange, callsIn, rangesOn, rangesIn, ranges#, partIn, draftedService}
 use Rattle.draft.specs.declared.Drafted.{Drafted}
-use Rattle.service.specs.Inner.Answers.{Counted, EndsFound, serviceIn, checkBy}
-use Rattle.service.specs.declared.ServiceCheck.the-variants.{Takes, Refused}
+use Rattle.service.specs.Inner.Answers.{Counted, serviceIn}
+
+-- the ends of every range are found: 16 has no offence
+abbrev pub EndsFound : Drafted → List ℕ → List ℕ → Type 0
+EndsFound d calls ranges = endsFirst (callsIn (d .counts .calls) calls) (rangesOn (ranges# (d .counts)) ranges) ≡ none
 
 -- ---- each range whose ends are found is one of the service's
 
@@ -56,7 +56,7 @@ module _ (cs : List Call) where
         go r true h rs ih = omega (arith, length-append (madeOf r) (gathered madeOf rs), one-made r (legsOn cs r) h, ih)
         go r false h rs ih = ih
 
--- ---- the needs of `leg_checks`, for `search sizing`
+-- ---- so it has as many of them as are counted
 
 module _ (d : Drafted) (calls ranges : List ℕ) (h : Counted (d .counts) calls ranges) (f : EndsFound d calls ranges) where
   abbrev cs : List Call
@@ -81,15 +81,5 @@ module _ (d : Drafted) (calls ranges : List ℕ) (h : Counted (d .counts) calls 
   unfolding draftedService
   calls-are = length-rows (λ (u : List ℕ). callBack u .1) draftCall (d .counts .calls) calls
 
-  size-is : length (serviceWords (serviceIn d calls ranges)) ≡ recordSize (d .counts .calls) (d .counts .categories) (d .counts .days) (d .counts .extras)
+  pub size-is : length (serviceWords (serviceIn d calls ranges)) ≡ recordSize (d .counts .calls) (d .counts .categories) (d .counts .days) (d .counts .extras)
   size-is = service-length (serviceIn d calls ranges) ∙ rw (calls-are, categories-are, days-are, extras-are) refl
-
-  module _ (fields : List BitField) (days : ℕ) (v : Verdict) (q : v ≡ verdictBy (legsFirst fields days (d .line) (serviceIn d calls ranges))) where
-    pub legs-offend : (o : Offence) → v ≡ Offends o → Refused o ≡ checkBy (legsFirst fields days (d .line) (serviceIn d calls ranges)) (serviceIn d calls ranges) d
-    legs-offend o y = rw (verdict-offends (legsFirst fields days (d .line) (serviceIn d calls ranges)) v q o y) refl
-
-    pub legs-fine : (z : ℕ) → z ≡ recordSize (d .counts .calls) (d .counts .categories) (d .counts .days) (d .counts .extras) → v ≡ Fine
-        → Takes z (d .end) (d .no) ≡ checkBy (legsFirst fields days (d .line) (serviceIn d calls ranges)) (serviceIn d calls ranges) d
-    legs-fine z x y = rw (verdict-fine (legsFirst fields days (d .line) (serviceIn d calls ranges)) v q y, x ∙ sym size-is) refl
-
-pub ruleset sizing = (tests, legs-offend, legs-fine)

@@ -1,5 +1,5 @@
 // The checks of one service of FPLAN: every line's own checks as it is read, then the service's on its draft, the last of them on the words of its
-// ranges.
+// *G and *A VE ranges.
 use cover::FirstRange;
 use draft::Counts;
 use draft::Drafted;
@@ -12,7 +12,6 @@ use timetable::EXTRA_WORDS;
 use timetable::MOST_CATEGORIES;
 use timetable::MOST_DAYS;
 use timetable::Offence;
-use timetable::RangeKind;
 use timetable::SERVICE_WORDS;
 use timetable::Verdict;
 ghost use mathlib.Core.Path.{_≡_};
@@ -22,18 +21,18 @@ ghost use lib.ListN.{length};
 ghost use Rattle.base.specs.Lists.{every, below};
 ghost use Rattle.cover.specs.Inner.Cover.{onceIn};
 ghost use Rattle.bitfield.specs.BitField.{runsOn};
-ghost use Rattle.timetable.specs.Layout.{daySize, mostPeriodDays, recordSize};
+ghost use Rattle.timetable.specs.Layout.{categorySize, daySize, mostPeriodDays, recordSize};
 ghost use Rattle.timetable.specs.Delivery.{DayRange};
 ghost use Rattle.timetable.specs.Offences.{verdictBy};
 ghost use Rattle.timetable.specs.Files.{bitFieldsIn, stopsIn, classesIn};
 ghost use Rattle.timetable.specs.Legs.{fieldRuns};
-ghost use Rattle.timetable.specs.Checks.{eachOnce, legsFirst};
-ghost use Rattle.timetable.specs.Table.{rowsIn, dayAt};
+ghost use Rattle.timetable.specs.Checks.{eachOnce};
+ghost use Rattle.timetable.specs.Table.{rowsIn, categoryAt, dayAt};
 ghost use Rattle.draft.specs.Inner.Draft.{callsLent, rangesLent, Within};
 ghost use Rattle.reading.specs.Inner.Maps.{FieldMap, StopMap, ClassIndex};
 ghost use Rattle.reading.specs.Inner.Reading.{Boundary};
-ghost use Rattle.service.specs.Inner.Answers.{CheckedAs, Counted, EndsFound, serviceIn, draftFirst, checkBy};
-ghost use Rattle.service.specs.Inner.Answers.{rowsBroken, rowsTorn, daysFirst};
+ghost use Rattle.service.specs.Inner.Answers.{CheckedAs, Counted, serviceIn, draftFirst, checkBy};
+ghost use Rattle.service.specs.Inner.Answers.{rangesFirst, rowsFirst, daysFirst, rowsBroken, rowsTorn};
 
 pub mod schedule;
 
@@ -111,33 +110,9 @@ fn draft_checks(
     if let Verdict::Offends(offence) = schedule::times_wrong(calls, c) {
         return ServiceCheck::Refused(offence);
     }
-    let n = draft::range_count(counts);
-    if let Verdict::Offends(offence) = schedule::ends_wrong(ranges, n, calls, c) {
+    if let Verdict::Offends(offence) = ranges_wrong(d, calls, ranges, bitfeld, fields, days) {
         return ServiceCheck::Refused(offence);
     }
-    leg_checks(d, calls, ranges, bitfeld, fields, days)
-}
-
-// 17 to 19, and the words that the service takes, where every range's ends are found.
-fn leg_checks(
-    d: Drafted,
-    calls: &[u32],
-    ranges: &[u32],
-    bitfeld: &[u8],
-    fields: &[u32],
-    days: u32,
-) -> ServiceCheck
-    requires { ⌜ Counted (d .counts) (now calls) (now ranges) ⌝ }
-    requires { ⌜ EndsFound d (now calls) (now ranges) ⌝ }
-    requires { ⌜ (2 ≤ d .counts .calls) × (days ≤ mostPeriodDays) ⌝ }
-    requires { ⌜ FieldMap (now bitfeld) (now fields) ⌝ }
-    ensures { λ r. ⌜ r ≡ checkBy (legsFirst (bitFieldsIn (now (bitfeld .entry))) days (d .line) (serviceIn d (now (calls .entry)) (now (ranges .entry))))
-        (serviceIn d (now (calls .entry)) (now (ranges .entry))) d ⌝ }
-{
-    if let Verdict::Offends(offence) = legs_wrong(d, calls, ranges, bitfeld, fields, days) {
-        return ServiceCheck::Refused(offence);
-    }
-    let counts = d.counts;
     ServiceCheck::Takes {
         words: words_of(counts),
         end: d.end,
@@ -156,9 +131,9 @@ fn words_of(counts: Counts) -> u32
     SERVICE_WORDS as u32 + CALL_WORDS as u32 * counts.calls + ranges
 }
 
-// ---- 17 to 19 of such a service, on the words of its *G ranges and of its *A VE ranges
+// ---- 16 to 19 of such a service: the ends of its ranges are found once
 
-fn legs_wrong(
+fn ranges_wrong(
     d: Drafted,
     calls: &[u32],
     ranges: &[u32],
@@ -167,46 +142,60 @@ fn legs_wrong(
     days: u32,
 ) -> Verdict
     requires { ⌜ Counted (d .counts) (now calls) (now ranges) ⌝ }
-    requires { ⌜ EndsFound d (now calls) (now ranges) ⌝ }
     requires { ⌜ (2 ≤ d .counts .calls) × (days ≤ mostPeriodDays) ⌝ }
     requires { ⌜ FieldMap (now bitfeld) (now fields) ⌝ }
-    ensures { λ r. ⌜ r ≡ verdictBy (legsFirst (bitFieldsIn (now (bitfeld .entry))) days (d .line)
-        (serviceIn d (now (calls .entry)) (now (ranges .entry)))) ⌝ }
+    ensures { λ r. ⌜ r ≡ verdictBy (rangesFirst (bitFieldsIn (now (bitfeld .entry))) days d (now (calls .entry))
+        (now (ranges .entry))) ⌝ }
 {
     let counts = d.counts;
-    let c = counts.calls;
     let n = draft::range_count(counts);
-    let mut words = [0u32; CATEGORY_WORDS * MOST_CATEGORIES as usize];
-    range_words::part_into(RangeKind::Category, ranges, n, calls, c, &mut words, 0);
-    if each_once(&words, counts.categories, CATEGORY_WORDS, c - 1) {
-        return operating_wrong(d, calls, ranges, bitfeld, fields, days);
-    }
-    timetable::offends(17, d.line)
+    let mut categories = [0u32; CATEGORY_WORDS * MOST_CATEGORIES as usize];
+    let mut operating = [0u32; DAYS_WORDS * MOST_DAYS as usize];
+    let ends = schedule::find_ends(
+        ranges,
+        n,
+        calls,
+        counts.calls,
+        &mut categories,
+        &mut operating,
+    );
+    let Verdict::Fine = ends else {
+        return ends;
+    };
+    legs_wrong(
+        &categories,
+        &operating,
+        counts,
+        d.line,
+        bitfeld,
+        fields,
+        days,
+    )
 }
 
-// 18 and 19.
-fn operating_wrong(
-    d: Drafted,
-    calls: &[u32],
-    ranges: &[u32],
+// 17 to 19, where `categories` holds the *G ranges and `operating` the *A VE ranges that are counted.
+fn legs_wrong(
+    categories: &[u32],
+    operating: &[u32],
+    counts: Counts,
+    line: u32,
     bitfeld: &[u8],
     fields: &[u32],
     days: u32,
 ) -> Verdict
-    requires { ⌜ Counted (d .counts) (now calls) (now ranges) ⌝ }
-    requires { ⌜ EndsFound d (now calls) (now ranges) ⌝ }
-    requires { ⌜ (2 ≤ d .counts .calls) × (days ≤ mostPeriodDays) ⌝ }
+    requires { ⌜ (counts .categories * categorySize ≤ length (now categories))
+        × (counts .days * daySize ≤ length (now operating)) ⌝ }
+    requires { ⌜ (2 ≤ counts .calls) × (days ≤ mostPeriodDays) ⌝ }
     requires { ⌜ FieldMap (now bitfeld) (now fields) ⌝ }
-    ensures { λ r. ⌜ r ≡ verdictBy
-        (daysFirst (bitFieldsIn (now (bitfeld .entry))) days (d .line) (d .counts .calls - 1)
-        (serviceIn d (now (calls .entry)) (now (ranges .entry)) .days)) ⌝ }
+    ensures { λ r. ⌜ r ≡ verdictBy (rowsFirst (bitFieldsIn (now (bitfeld .entry))) days line (counts .calls - 1)
+        (rowsIn categoryAt categorySize (counts .categories) (now (categories .entry)))
+        (rowsIn dayAt daySize (counts .days) (now (operating .entry)))) ⌝ }
 {
-    let counts = d.counts;
-    let c = counts.calls;
-    let n = draft::range_count(counts);
-    let mut words = [0u32; DAYS_WORDS * MOST_DAYS as usize];
-    range_words::part_into(RangeKind::Days, ranges, n, calls, c, &mut words, 0);
-    days_wrong(&words, counts.days, c - 1, d.line, bitfeld, fields, days)
+    let legs = counts.calls - 1;
+    if each_once(categories, counts.categories, CATEGORY_WORDS, legs) {
+        return days_wrong(operating, counts.days, legs, line, bitfeld, fields, days);
+    }
+    timetable::offends(17, line)
 }
 
 // 18 and 19, where `ranges` holds v *A VE ranges.

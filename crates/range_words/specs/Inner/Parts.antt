@@ -21,6 +21,10 @@ rangeRowWords Category r from to = r .name ∷ from ∷ to ∷ []
 rangeRowWords Days r from to = r .field ∷ from ∷ to ∷ []
 rangeRowWords Extra r from to = r .name ∷ r .field ∷ from ∷ to ∷ []
 
+-- those that it gives to a part: none if it is of another
+abbrev pub partRow : RangeKind → RangeLine → ℕ → ℕ → List ℕ
+partRow p r from to = cond (isPart p r) (rangeRowWords p r from to) []
+
 abbrev pub foundWords : RangeKind → RangeLine → Option Legs → List ℕ
 foundWords p r none = []
 foundWords p r (some g) = rangeRowWords p r (g .from) (g .to)

@@ -20,11 +20,8 @@ returns-2 c = search drafting
 enum-told : tie.Need-enum-told
 enum-told c = search drafting
 
-range-count-requires : tie.Need-range-count-requires
-range-count-requires c κs = search drafting
-
-ends-wrong-requires : tie.Need-ends-wrong-requires
-ends-wrong-requires c κs = search drafting
+ranges-wrong-requires : tie.Need-ranges-wrong-requires
+ranges-wrong-requires c κs = search drafting
 
 enum-known-offence-2 : tie.Need-enum-known-offence-2
 enum-known-offence-2 c = search drafting
@@ -35,8 +32,8 @@ returns-3 c = search drafting
 enum-told-2 : tie.Need-enum-told-2
 enum-told-2 c = search drafting
 
-leg-checks-requires : tie.Need-leg-checks-requires
-leg-checks-requires c κs = (search drafting, (search drafting, (search drafting, search drafting)))
+words-of-requires : tie.Need-words-of-requires
+words-of-requires c κs = search drafting
 
 returns-4 : tie.Need-returns-4
 returns-4 c = search drafting
@@ -51,10 +48,9 @@ draft-checks-spec =
     enum-known-offence
     returns-2
     enum-told
-    range-count-requires
-    ends-wrong-requires
+    ranges-wrong-requires
     enum-known-offence-2
     returns-3
     enum-told-2
-    leg-checks-requires
+    words-of-requires
     returns-4)

@@ -1,26 +1,37 @@
 -- What the checks of one service answer, by the definitions of the crate timetable. Nobody has to believe this file. Assumes nothing.
-use Prim.Native.Nat.{ℕ, _≤_}
+use Prim.Native.Nat.{ℕ, _+_, _≤_}
 use mathlib.Core.Path.{_≡_}
 use mathlib.Core.List.{List, map}
-use mathlib.Core.Bool.{Bool, false, not}
+use mathlib.Core.Bool.{Bool, false, not, cond}
 use mathlib.Core.Option.{Option, none, some}
 use lib.ListN.{length}
 use lib.Dec.{leb, ltb}
 use Rattle.base.specs.Lists.{some-of, below}
-use Rattle.timetable.specs.Delivery.{BitField, StopRecord, CategoryClass, DayRange, Service}
+use Rattle.words.specs.Words.{write}
+use Rattle.timetable.specs.Delivery.{BitField, StopRecord, CategoryClass, CategoryRange, DayRange, Service}
 use Rattle.timetable.specs.Offences.{_<|>_, given}
+use Rattle.timetable.specs.Service.{legsOn}
 use Rattle.timetable.specs.Legs.{operated, stretches}
-use Rattle.timetable.specs.Checks.{eachOnce, timesFirst, endsFirst, legsFirst, serviceFirst}
+use Rattle.timetable.specs.Checks.{isNone, eachOnce, timesFirst, endsFirst, legsFirst, serviceFirst}
 use Rattle.timetable.specs.Table.{serviceWords}
+use Rattle.timetable.specs.declared.Call.{Call}
 use Rattle.timetable.specs.declared.Offence.{Offence}
+use Rattle.timetable.specs.declared.RangeKind.{RangeKind}
 use Rattle.timetable.specs.declared.RangeKind.the-variants.{Category, Days, Extra}
+use Rattle.timetable.specs.declared.RangeLine.{RangeLine}
+use Rattle.timetable.specs.declared.Verdict.{Verdict}
+use Rattle.timetable.specs.declared.Verdict.the-variants.{Fine}
 use Rattle.draft.specs.Inner.Draft.{callsLent, rangesLent, callsOn, callsIn, rangesOn, rangesIn, ranges#, Within, partIn, draftedService}
 use Rattle.draft.specs.declared.Counts.{Counts}
 use Rattle.draft.specs.declared.Drafted.{Drafted}
 use Rattle.reading.specs.Inner.Reading.{serviceLinesAt}
 use Rattle.reading.specs.Inner.Services.{ServiceTaken}
+use Rattle.range_words.specs.Inner.Parts.{rangeGives, partWords}
 use Rattle.service.specs.declared.ServiceCheck.{ServiceCheck}
 use Rattle.service.specs.declared.ServiceCheck.the-variants.{Takes, Refused}
+use Rattle.service.specs.declared.schedule.RangeRow.{RangeRow}
+use Rattle.service.specs.declared.schedule.RangeRow.the-variants.{Written, Missing}
+use Rattle.service.specs.declared.schedule.RowEnds.{RowEnds}
 
 -- ---- the answer for a service of a file
 
@@ -40,21 +51,32 @@ pub record Counted (k : Counts) (calls ranges : List ℕ) : Type 0 where
   pub days : length (partIn Days (rangesIn (ranges# k) ranges)) ≡ k .days
   pub extras : length (partIn Extra (rangesIn (ranges# k) ranges)) ≡ k .extras
 
--- the ends of every range are found: 16 has no offence
-abbrev pub EndsFound : Drafted → List ℕ → List ℕ → Type 0
-EndsFound d calls ranges = endsFirst (callsIn (d .counts .calls) calls) (rangesOn (ranges# (d .counts)) ranges) ≡ none
+-- the places after the words that a range gives, or that its ends are not found
+abbrev pub rowBy : RowEnds → List Call → RangeLine → RangeRow
+rowBy z cs r =
+    cond (isNone (legsOn cs r)) Missing
+    (Written (record { categories = z .categories + length (rangeGives Category cs r); operating = z .operating + length (rangeGives Days cs r) }))
+
+-- if 16 has no offence, the words of a part stand at the front of words that were t
+pub record PartFound (v : Verdict) (p : RangeKind) (cs : List Call) (rs : List RangeLine) (t t′ : List ℕ) : Type 0 where
+  pub written : v ≡ Fine → t′ ≡ write t 0 (partWords p cs rs)
 
 -- the service that the words hold
 abbrev pub serviceIn : Drafted → List ℕ → List ℕ → Service
 serviceIn d calls ranges = draftedService (d .opening) (d .line) (callsIn (d .counts .calls) calls) (rangesIn (ranges# (d .counts)) ranges)
 
--- 14, 15, 16, then 17 to 19
+-- 16, then 17 to 19
+abbrev pub rangesFirst : List BitField → ℕ → Drafted → List ℕ → List ℕ → Option Offence
+rangesFirst fields days d calls ranges =
+    endsFirst (callsIn (d .counts .calls) calls) (rangesOn (ranges# (d .counts)) ranges)
+    <|> legsFirst fields days (d .line) (serviceIn d calls ranges)
+
+-- 14, 15, then those
 abbrev pub draftFirst : List BitField → ℕ → Drafted → List ℕ → List ℕ → Option Offence
 draftFirst fields days d calls ranges =
     given (ltb (d .counts .calls) 2) 14 (d .line)
     <|> timesFirst (d .counts .calls) 0 0 (callsOn (d .counts .calls) calls)
-    <|> endsFirst (callsIn (d .counts .calls) calls) (rangesOn (ranges# (d .counts)) ranges)
-    <|> legsFirst fields days (d .line) (serviceIn d calls ranges)
+    <|> rangesFirst fields days d calls ranges
 
 abbrev pub checkBy : Option Offence → Service → Drafted → ServiceCheck
 checkBy none s d = Takes (length (serviceWords s)) (d .end) (d .no)
@@ -72,3 +94,8 @@ rowsTorn fields n legs rs = some-of (rowsBroken fields legs rs) (below n)
 
 abbrev pub daysFirst : List BitField → ℕ → ℕ → ℕ → List DayRange → Option Offence
 daysFirst fields n line legs rs = given (not (eachOnce (λ (r : DayRange). r .legs) legs rs)) 18 line <|> given (rowsTorn fields n legs rs) 19 line
+
+-- ---- 17 to 19 of *G ranges and such
+
+abbrev pub rowsFirst : List BitField → ℕ → ℕ → ℕ → List CategoryRange → List DayRange → Option Offence
+rowsFirst fields n line legs gs rs = given (not (eachOnce (λ (r : CategoryRange). r .legs) legs gs)) 17 line <|> daysFirst fields n line legs rs
