@@ -1,19 +1,18 @@
 -- A drafted service whose ranges' ends are all found: it has the ranges that are counted, and takes so many words. Assumes nothing.
-use mathlib.Core.Path.{_≡_, refl, sym, ap, _∙_}
+use mathlib.Core.Path.{_≡_, refl, sym, _∙_}
 use mathlib.Core.List.{List, [], _∷_, _++_}
 use mathlib.Core.Bool.{Bool, true, false, cond}
 use mathlib.Core.Option.{Option, none, some}
-use Prim.Native.Nat.{ℕ, zero, suc, _+_, _*_, _≤_}
+use Prim.Native.Nat.{ℕ, zero, suc}
 use native.Mathlib.Omega.{arith}
 use lib.ListN.{length, drop, length-append}
 use Rattle.base.specs.Lists.{gathered}
 use Rattle.base.proofs.Laws.{clash}
-use Rattle.base.proofs.Lists.{gathered-append}
-use Rattle.timetable.specs.Layout.{mostCalls, mostCategories, mostDays, mostExtras, recordSize}
+use Rattle.timetable.specs.Layout.{recordSize}
 use Rattle.timetable.specs.Delivery.{Legs}
 use Rattle.timetable.specs.Offences.{given}
-use Rattle.timetable.specs.Plan.{isPart, ofPart}
-use Rattle.timetable.specs.Service.{withLegs, legsOn, categoryRange, dayRange, extraRange}
+use Rattle.timetable.specs.Plan.{isPart}
+use Rattle.timetable.specs.Service.{withLegs, legsOn}
 use Rattle.timetable.specs.Checks.{isNone, endsFirst}
 use Rattle.timetable.specs.Table.{rowsIn, serviceWords}
 use Rattle.timetable.specs.declared.Call.{Call}

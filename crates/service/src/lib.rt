@@ -64,8 +64,8 @@ pub fn check_service(
     requires { ⌜ Boundary (now fplan) at no ⌝ }
     requires { ⌜ FieldMap (now bitfeld) (now fields) × StopMap (now bahnhof) (now stops) × ClassIndex (now zugart)
         (now index) ⌝ }
-    ensures { λ r. ⌜ CheckedAs (bitFieldsIn (now (bitfeld .entry))) (stopsIn (now (bahnhof .entry))) (classesIn (now (zugart .entry))) days
-        (now (fplan .entry)) at no r ⌝ }
+    ensures { λ r. ⌜ CheckedAs (bitFieldsIn (now (bitfeld .entry))) (stopsIn (now (bahnhof .entry)))
+        (classesIn (now (zugart .entry))) days (now (fplan .entry)) at no r ⌝ }
 {
     let read = reading::read_checked(
         fplan,
@@ -99,7 +99,8 @@ fn draft_checks(
     requires { ⌜ Counted (d .counts) (now calls) (now ranges) ⌝ }
     requires { ⌜ days ≤ mostPeriodDays ⌝ }
     requires { ⌜ FieldMap (now bitfeld) (now fields) ⌝ }
-    ensures { λ r. ⌜ r ≡ checkBy (draftFirst (bitFieldsIn (now (bitfeld .entry))) days d (now (calls .entry)) (now (ranges .entry)))
+    ensures { λ r. ⌜ r ≡ checkBy
+        (draftFirst (bitFieldsIn (now (bitfeld .entry))) days d (now (calls .entry)) (now (ranges .entry)))
         (serviceIn d (now (calls .entry)) (now (ranges .entry))) d ⌝ }
 {
     let counts = d.counts;
@@ -264,8 +265,8 @@ fn torn_days(ranges: &[u32], v: u32, legs: u32, bitfeld: &[u8], fields: &[u32]) 
     requires { ⌜ v * daySize ≤ length (now ranges) ⌝ }
     requires { ⌜ eachOnce (λ (r : DayRange). r .legs) legs (rowsIn dayAt daySize v (now ranges)) ≡ true ⌝ }
     requires { ⌜ FieldMap (now bitfeld) (now fields) ⌝ }
-    ensures { λ r. ⌜
-        ((d : ℕ) → d < mostPeriodDays → runsOn r d ≡ rowsBroken (bitFieldsIn (now (bitfeld .entry))) legs (rowsIn dayAt daySize v (now (ranges .entry))) d) ⌝ }
+    ensures { λ r. ⌜ ((d : ℕ) → d < mostPeriodDays → runsOn r d ≡
+        rowsBroken (bitFieldsIn (now (bitfeld .entry))) legs (rowsIn dayAt daySize v (now (ranges .entry))) d) ⌝ }
 {
     let mut begun = bitfield::no_bits();
     let mut ended = bitfield::no_bits();

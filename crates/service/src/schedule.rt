@@ -1,4 +1,5 @@
-// The checks of a service by line, on its draft: the times of its calls (15) and the ends of its ranges (16).
+// The checks of a service by line, on its draft: the times of its calls (15), and the ends of its ranges (16), which leaves the words of those that 17
+// to 19 look at.
 use draft::DRAFT_CALL_WORDS;
 use draft::DRAFT_RANGE_WORDS;
 use route::RangeFound;
@@ -171,10 +172,10 @@ fn range_into(
     ends: RowEnds,
 ) -> RangeRow
     requires { ⌜ (at + draftRange ≤ length (now ranges)) × (draftCall * c ≤ length (now calls)) ⌝ }
-    requires { ⌜ ends .categories
-        + length (rangeGives Category (callsIn c (now calls)) (lineBack (drop at (now ranges)))) ≤ length (now categories) ⌝ }
-    requires { ⌜ ends .operating
-        + length (rangeGives Days (callsIn c (now calls)) (lineBack (drop at (now ranges)))) ≤ length (now operating) ⌝ }
+    requires { ⌜ ends .categories + length
+        (rangeGives Category (callsIn c (now calls)) (lineBack (drop at (now ranges)))) ≤ length (now categories) ⌝ }
+    requires { ⌜ ends .operating + length
+        (rangeGives Days (callsIn c (now calls)) (lineBack (drop at (now ranges)))) ≤ length (now operating) ⌝ }
     ensures { λ r. ⌜ r ≡ rowBy ends (callsIn c (now (calls .entry))) (lineBack (drop at (now (ranges .entry)))) ⌝ }
     ensures { λ r. ⌜ now (categories .exit) ≡ write (now (categories .entry)) (ends .categories)
         (rangeGives Category (callsIn c (now (calls .entry))) (lineBack (drop at (now (ranges .entry))))) ⌝ }

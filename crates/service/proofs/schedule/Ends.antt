@@ -1,7 +1,7 @@
 -- The ends of a service's ranges (16), and the words of its *G and *A VE ranges as they are found: the needs of the loop over the ranges. Assumes
 -- nothing.
 use mathlib.Core.Path.{_≡_, refl, sym, ap, _∙_}
-use mathlib.Core.List.{List, [], _∷_}
+use mathlib.Core.List.{List, []}
 use mathlib.Core.Bool.{Bool, true, false, cond}
 use mathlib.Core.Option.{Option, none, some}
 use Prim.Native.Nat.{ℕ, _+_, _-_, _≤_, _<_}
@@ -32,42 +32,27 @@ use Rattle.route.specs.declared.RangeFound.{RangeFound}
 use Rattle.route.specs.declared.RangeFound.the-variants.{Between, Missing}
 use Rattle.range_words.specs.Inner.Parts.{foundWords, partRow, rangeGives, partWords}
 use Rattle.range_words.proofs.Parts.{unfound, found-legs, partLeft, part-count, part-start, put-room, put-count, put-again, part-done}
-use Rattle.service.specs.Inner.Answers.{PartFound, rowBy}
+use Rattle.service.specs.Inner.Answers.{PartFound, endsAfter, rowBy}
 use Rattle.service.specs.declared.schedule.RangeRow.{RangeRow}
 use Rattle.service.specs.declared.schedule.RangeRow.the-variants.{Written as RowWritten, Missing as RowMissing}
 use Rattle.service.specs.declared.schedule.RowEnds.{RowEnds}
 
--- ---- what is said of a range
+-- ---- what is said of a range says whether its ends are found
 
 module _ (z : RowEnds) (cs : List Call) (r : RangeLine) where
-  -- by the legs that are found
-  rowOf : Bool → RangeRow
-  rowOf b = cond b RowMissing (RowWritten (record { categories = z .categories + length (rangeGives Category cs r); operating = z .operating + length (rangeGives Days cs r) }))
-
   row-lost : rowBy z cs r ≡ RowMissing → isNone (legsOn cs r) ≡ true
-  unfolding rowOf
   row-lost e = go (isNone (legsOn cs r)) e
     where
-      go : (b : Bool) → rowOf b ≡ RowMissing → b ≡ true
+      go : (b : Bool) → cond b RowMissing (RowWritten (endsAfter z cs r)) ≡ RowMissing → b ≡ true
       go true e = refl
       go false e = apart (cc)
 
-  module _ (z′ : RowEnds) where
-    row-found : rowBy z cs r ≡ RowWritten z′ → isNone (legsOn cs r) ≡ false
-    unfolding rowOf
-    row-found e = go (isNone (legsOn cs r)) e
-      where
-        go : (b : Bool) → rowOf b ≡ RowWritten z′ → b ≡ false
-        go true e = apart (cc)
-        go false e = refl
-
-    rows-after : rowBy z cs r ≡ RowWritten z′ → z′ ≡ record { categories = z .categories + length (rangeGives Category cs r); operating = z .operating + length (rangeGives Days cs r) }
-    unfolding rowOf
-    rows-after e = go (isNone (legsOn cs r)) e
-      where
-        go : (b : Bool) → rowOf b ≡ RowWritten z′ → z′ ≡ record { categories = z .categories + length (rangeGives Category cs r); operating = z .operating + length (rangeGives Days cs r) }
-        go true e = apart (cc)
-        go false e = cc
+  row-found : (z′ : RowEnds) → rowBy z cs r ≡ RowWritten z′ → (isNone (legsOn cs r) ≡ false) × (z′ ≡ endsAfter z cs r)
+  row-found z′ e = go (isNone (legsOn cs r)) e
+    where
+      go : (b : Bool) → cond b RowMissing (RowWritten (endsAfter z cs r)) ≡ RowWritten z′ → (b ≡ false) × (z′ ≡ endsAfter z cs r)
+      go true e = apart (cc)
+      go false e = (refl, cc)
 
 -- ---- one range, for `search finding`: f is what was found of it
 
@@ -129,7 +114,7 @@ module _ (cs : List Call) (w : List ℕ) (n i at : ℕ) (o : Verdict) (v : verdi
 
     pub ends-again : (z′ : RowEnds) → x ≡ RowWritten z′ → verdictBy (endsFirst cs (rowsIn rangeBack draftRange (n - (i + 1)) (drop (at + draftRange) w))) ≡ o
     unfolding _<|>_
-    ends-again z′ y = rw (row-found z cs (lineBack (drop at w)) z′ (sym e ∙ y)) at turn
+    ends-again z′ y = rw (row-found z cs (lineBack (drop at w)) z′ (sym e ∙ y) .0) at turn
 
     pub ends-out : (line : ℕ) (r : Verdict) → x ≡ RowMissing → line ≡ rangeBack (drop at w) .0 → r ≡ verdictBy (some (offenceAt 16 line)) → r ≡ o
     unfolding _<|>_
@@ -168,19 +153,19 @@ module _ (cs : List Call) (n i at m : ℕ) (w : List ℕ) (h : i < n) (z z′ : 
     (t t₀ : List ℕ) (len : length t ≡ length t₀) (room : m ≤ length t₀) where
   module _ (count : z .categories + length (partLeft Category cs n i at w) ≡ m) where
     pub category-count : z′ .categories + length (partLeft Category cs n (i + 1) (at + draftRange) w) ≡ m
-    category-count = next-count Category cs n w i at (z .categories) m h t t₀ len count room (z′ .categories) (ap (λ (z : RowEnds). z .categories) (rows-after z cs (lineBack (drop at w)) z′ (sym e ∙ y)))
+    category-count = next-count Category cs n w i at (z .categories) m h t t₀ len count room (z′ .categories) (ap (λ (z : RowEnds). z .categories) (row-found z cs (lineBack (drop at w)) z′ (sym e ∙ y) .1))
 
     pub category-again : (t′ r : List ℕ) → t′ ≡ write t (z .categories) (rangeGives Category cs (lineBack (drop at w))) → write t (z .categories) (partLeft Category cs n i at w) ≡ r
         → write t′ (z′ .categories) (partLeft Category cs n (i + 1) (at + draftRange) w) ≡ r
-    category-again = next-again Category cs n w i at (z .categories) m h t t₀ len count room (z′ .categories) (ap (λ (z : RowEnds). z .categories) (rows-after z cs (lineBack (drop at w)) z′ (sym e ∙ y)))
+    category-again = next-again Category cs n w i at (z .categories) m h t t₀ len count room (z′ .categories) (ap (λ (z : RowEnds). z .categories) (row-found z cs (lineBack (drop at w)) z′ (sym e ∙ y) .1))
 
   module _ (count : z .operating + length (partLeft Days cs n i at w) ≡ m) where
     pub day-count : z′ .operating + length (partLeft Days cs n (i + 1) (at + draftRange) w) ≡ m
-    day-count = next-count Days cs n w i at (z .operating) m h t t₀ len count room (z′ .operating) (ap (λ (z : RowEnds). z .operating) (rows-after z cs (lineBack (drop at w)) z′ (sym e ∙ y)))
+    day-count = next-count Days cs n w i at (z .operating) m h t t₀ len count room (z′ .operating) (ap (λ (z : RowEnds). z .operating) (row-found z cs (lineBack (drop at w)) z′ (sym e ∙ y) .1))
 
     pub day-again : (t′ r : List ℕ) → t′ ≡ write t (z .operating) (rangeGives Days cs (lineBack (drop at w))) → write t (z .operating) (partLeft Days cs n i at w) ≡ r
         → write t′ (z′ .operating) (partLeft Days cs n (i + 1) (at + draftRange) w) ≡ r
-    day-again = next-again Days cs n w i at (z .operating) m h t t₀ len count room (z′ .operating) (ap (λ (z : RowEnds). z .operating) (rows-after z cs (lineBack (drop at w)) z′ (sym e ∙ y)))
+    day-again = next-again Days cs n w i at (z .operating) m h t t₀ len count room (z′ .operating) (ap (λ (z : RowEnds). z .operating) (row-found z cs (lineBack (drop at w)) z′ (sym e ∙ y) .1))
 
 -- nothing is said of them where 16 has an offence
 pub rows-unsaid : (r : Verdict) (o : Offence) (part : RangeKind) (cs : List Call) (rs : List RangeLine) (t t′ : List ℕ) → r ≡ verdictBy (some o) → PartFound r part cs rs t t′

@@ -51,11 +51,13 @@ pub record Counted (k : Counts) (calls ranges : List ℕ) : Type 0 where
   pub days : length (partIn Days (rangesIn (ranges# k) ranges)) ≡ k .days
   pub extras : length (partIn Extra (rangesIn (ranges# k) ranges)) ≡ k .extras
 
--- the places after the words that a range gives, or that its ends are not found
+-- the places after the words that a range gives
+abbrev pub endsAfter : RowEnds → List Call → RangeLine → RowEnds
+endsAfter z cs r = record { categories = z .categories + length (rangeGives Category cs r); operating = z .operating + length (rangeGives Days cs r) }
+
+-- those, or that its ends are not found
 abbrev pub rowBy : RowEnds → List Call → RangeLine → RangeRow
-rowBy z cs r =
-    cond (isNone (legsOn cs r)) Missing
-    (Written (record { categories = z .categories + length (rangeGives Category cs r); operating = z .operating + length (rangeGives Days cs r) }))
+rowBy z cs r = cond (isNone (legsOn cs r)) Missing (Written (endsAfter z cs r))
 
 -- if 16 has no offence, the words of a part stand at the front of words that were t
 pub record PartFound (v : Verdict) (p : RangeKind) (cs : List Call) (rs : List RangeLine) (t t′ : List ℕ) : Type 0 where
@@ -82,7 +84,7 @@ abbrev pub checkBy : Option Offence → Service → Drafted → ServiceCheck
 checkBy none s d = Takes (length (serviceWords s)) (d .end) (d .no)
 checkBy (some o) s d = Refused o
 
--- ---- 18 and 19 of operating-day ranges over so many legs
+-- ---- 17, and 18 and 19 of operating-day ranges, over so many legs
 
 -- on a day the operated legs form two or more separate stretches
 abbrev pub rowsBroken : List BitField → ℕ → List DayRange → ℕ → Bool
@@ -95,7 +97,6 @@ rowsTorn fields n legs rs = some-of (rowsBroken fields legs rs) (below n)
 abbrev pub daysFirst : List BitField → ℕ → ℕ → ℕ → List DayRange → Option Offence
 daysFirst fields n line legs rs = given (not (eachOnce (λ (r : DayRange). r .legs) legs rs)) 18 line <|> given (rowsTorn fields n legs rs) 19 line
 
--- ---- 17 to 19 of *G ranges and such
-
+-- 17, and those, of *G ranges beside them
 abbrev pub rowsFirst : List BitField → ℕ → ℕ → ℕ → List CategoryRange → List DayRange → Option Offence
 rowsFirst fields n line legs gs rs = given (not (eachOnce (λ (r : CategoryRange). r .legs) legs gs)) 17 line <|> daysFirst fields n line legs rs
