@@ -179,7 +179,15 @@ fn ranges_into(
         (rangeWords (callsIn c (now (calls .entry))) (rangesIn n (now (ranges .entry))))) ⌝ }
 {
     let categories = range_words::part_into(RangeKind::Category, ranges, n, calls, c, table, at);
-    let day_ranges = range_words::part_into(RangeKind::Days, ranges, n, calls, c, table, categories);
+    let day_ranges = range_words::part_into(
+        RangeKind::Days,
+        ranges,
+        n,
+        calls,
+        c,
+        table,
+        categories,
+    );
     let extras = range_words::part_into(RangeKind::Extra, ranges, n, calls, c, table, day_ranges);
     RangeEnds {
         categories,
