@@ -43,7 +43,7 @@ pub(super) fn index_of(table: &Table<'_>) -> Vec<u32> {
     let mut made = look_ups_of(table);
     made.extend(table.services.iter().map(|service| service.at as u32));
     made.extend(calls(table));
-    // "An index has one word more, its last: 1 where the table's calls are steady, else 0."
+    // the mark: 1 where the table's calls are steady, else 0
     made.push(u32::from(table.services.iter().all(is_steady)));
     made
 }
@@ -97,8 +97,8 @@ fn calls(table: &Table<'_>) -> Vec<u32> {
     last
 }
 
-/// A steady service: "its first call's departure is stated ..; each call between the first and the last has both times stated ..; its last call's arrival is
-/// stated ..; and from the first call's departure on to the last call's arrival no time is below the one before it".
+/// A steady service: the first call's departure, both times of each call between and the last call's arrival are stated, and none of these is below the one before it. The first
+/// call's arrival and the last call's departure do not matter.
 fn is_steady(service: &Service) -> bool {
     let last = service.calls.len() - 1;
     let needed = |(i, call): (usize, &Call)| {

@@ -10,8 +10,8 @@ use crate::layout::{FIRST_SERVICE_AT, NO_BOARDING, ROW_DEPARTURE_AT, SERVICES_AT
 /// Words of a call in an index.
 const ENTRY_WORDS: usize = 4;
 
-/// The departures of a quick board, and its refusals but 29. `None` where the papers do not say the answer: the words are not this table's in what finds records by their numbers, or
-/// hold calls that no index has.
+/// The departures of a quick board, and its refusals but 29. `None` where the papers do not say the answer: the words are not this table's in what finds records by their
+/// numbers, or hold calls that no index has.
 pub fn quick_departures(words: &[u32], index: &[u32], asked: &BoardQuestion) -> Option<Result<Vec<Departure>, u32>> {
     let table = match headed(words) {
         Some(table) => table,
@@ -56,7 +56,7 @@ struct Beside<'a> {
     /// The last call at each stop.
     last: &'a [u32],
     calls: &'a [u32],
-    /// "the last word of the words lent as an index"
+    /// The last word.
     mark: u32,
 }
 
@@ -66,7 +66,7 @@ fn front(words: &[u32], count: usize) -> Option<(&[u32], &[u32])> {
 }
 
 impl<'a> Beside<'a> {
-    /// `None` where 43 is told by the length (D119): an index has "at least the look-ups' words and one for each stop, and whole entries of four words behind them", and the mark.
+    /// `None` where 43 is told by the length (D119): "at least the look-ups' words and one for each stop", whole entries of four words behind them, and the mark.
     fn of(table: &'a Table<'a>, index: &'a [u32]) -> Option<Beside<'a>> {
         let (mark, rest) = index.split_last()?;
         let (look_ups, rest) = front(rest, look_ups_of(table).len())?;
@@ -79,8 +79,8 @@ impl<'a> Beside<'a> {
         self.look_ups == look_ups_of(self.table)
     }
 
-    /// Service and place in the route of each call at a stop: "every place of the stop section that has it" (D127), from its last call on. `None` where a call is not before the one
-    /// that names it, its service is none or has its record elsewhere, or it comes twice.
+    /// Service and place in the route of each call at a stop: "every place of the stop section that has it" (D127), from its last call on. `None` where a call is not before
+    /// the one that names it, its service is none or has its record elsewhere, or it comes twice.
     fn calls_at(&self, stop: u32) -> Option<Vec<[u32; 2]>> {
         let entries: Vec<&[u32]> = self.calls.chunks_exact(ENTRY_WORDS).collect();
         let mut found = Vec::new();
@@ -100,13 +100,13 @@ impl<'a> Beside<'a> {
         Some(found).filter(|found| found.windows(2).all(|pair| pair[0] != pair[1]))
     }
 
-    /// The record "that the index's place word names", if its sizes and its opening line are sound; `None` if that is no place of a service.
+    /// The record that the place word of a service names, if its sizes and its opening line are sound; `None` if that is no place of a service.
     fn record(&self, service: u32) -> Option<Option<Service>> {
         let at = self.places[service as usize];
         Some(self.table.sized_at(at as usize)).filter(|_| at >= self.table.words[FIRST_SERVICE_AT])
     }
 
-    /// When run 0 leaves a place of its route for passengers who board at the stop asked for; `None` if it does not.
+    /// When run 0 leaves a place of its route, with boarding allowed at the stop asked for; `None` if it does not. The mark is trusted where the ranges follow each other.
     fn departure(&self, record: &Service, place: u32, day: u32, stop: u32) -> Option<u32> {
         let last = record.calls.len() as u32 - 1;
         let follow = follow_each_other(&record.days, last) && follow_each_other(&record.categories, last);
@@ -117,18 +117,17 @@ impl<'a> Beside<'a> {
         }
     }
 
-    /// "then the run leaves p exactly if: every operating-day range's bit field is known; p is in the first stretch of operated legs of that day .. and no other stretch of operated legs
-    /// begins after it; and the call at p is sound".
+    /// D152: by the operating days and the one call alone. Every range's bit field is known, the place is in the day's only stretch and not its end, and the call there is
+    /// sound. That its departure is stated the mark says.
     fn by_mark(&self, record: &Service, place: usize, day: u32, stop: u32) -> Option<u32> {
         let operated = self.table.operated(record, day).ok()?;
         let call = record.calls.get(place).filter(|call| call.is_sound(self.table.stops()))?;
         let leaves = operated.get(place) == Some(&true) && stretches(&operated) == 1;
-        // "The rest (the stop shows the number asked for, boarding allowed, ..) is as ever."
         let boards = || self.table.stop_at(call.place) == stop && call.flags & NO_BOARDING == 0;
         Some(call.departure).filter(|_| leaves && boards())
     }
 
-    /// "the board is told as before: the record sound, and its walk on that day not refused"
+    /// Without the mark: the record is sound, and its walk on that day is not refused.
     fn by_walk(&self, record: &Service, place: usize, day: u32, stop: u32) -> Option<u32> {
         let sound = Some(record).filter(|record| self.table.is_sound(record))?;
         let stretch = self.table.walked_along(sound, 0, day).ok()??;
@@ -137,7 +136,7 @@ impl<'a> Beside<'a> {
     }
 }
 
-/// "its operating-day ranges follow each other (the first begins at call 0, each begins where the one before ends and ends later, the last ends at the last call), so do its *G"
+/// Whether the first range begins at call 0, each other where the one before ends, each ends later than it begins, and the last ends at the last call.
 fn follow_each_other(ranges: &[Over], last: u32) -> bool {
     let mut end = 0;
     for range in ranges {
