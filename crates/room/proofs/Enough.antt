@@ -1,30 +1,34 @@
 -- So many words are enough: specs/Room.antt states it. Assumes nothing.
-use mathlib.Core.Path.{_≡_, refl, _∙_}
-use mathlib.Core.List.{List, map}
+use mathlib.Core.Path.{_≡_, refl, sym, ap, _∙_}
+use mathlib.Core.List.{List, [], _∷_, _++_, map}
 use mathlib.Core.Bool.{Bool, true, false, cond}
 use mathlib.Core.Option.{Option, none, some}
-use Prim.Native.Nat.{ℕ, _*_, _≤_}
+use Prim.Native.Nat.{ℕ, _+_, _-_, _*_, _/_, _≤_, _<_}
 use native.Mathlib.Omega.{arith}
 use lib.ListN.{length}
-use lib.Dec.{ltb}
+use lib.Dec.{ltb, eqb}
 use borrow.Author.Tests.{ltb-true, ltb-false}
-use Rattle.base.specs.Lists.{All, gathered}
-use Rattle.base.proofs.Laws.{apart, by-ltb}
-use Rattle.columns.specs.Columns.{isHex, number}
+use Rattle.base.specs.Lists.{All, every, gathered}
+use Rattle.base.proofs.Laws.{apart, clash, by-ltb}
+use Rattle.columns.specs.Columns.{columns, isHex, number}
+use Rattle.bitfield.specs.BitField.{bitsIn}
 use Rattle.columns.proofs.Laws.{every-long}
+use Rattle.forms.specs.Form.{formOf}
 use Rattle.forms.specs.Columns.{bitFieldColumns, stopColumns, interchangeColumns, classColumns}
+use Rattle.forms.specs.declared.Form.the-variants.{Fits}
 use Rattle.forms.proofs.Laws.{row-holds}
-use Rattle.lines.specs.Lines.{linesOf}
-use Rattle.timetable.specs.Layout.{bitFieldSize, stopSize, interchangeSize, classSize, mostFileBytes}
+use Rattle.lines.specs.Lines.{Line, linesOf}
+use Rattle.timetable.specs.Layout.{headerSize, bitFieldSize, stopSize, interchangeSize, classSize, mostFileBytes}
 use Rattle.timetable.specs.Delivery.{Files, Delivery}
 use Rattle.timetable.specs.Files.{bitFieldsIn, stopsIn, interchangesIn, classesIn}
+use Rattle.timetable.specs.Offences.{_<|>_}
 use Rattle.timetable.specs.Service.{blocks, serviceOf}
-use Rattle.timetable.specs.Table.{serviceWords, tableWords}
+use Rattle.timetable.specs.Table.{serviceWords, sections, tableWords}
 use Rattle.timetable.specs.Load.{delivered, Where, lengthOffence, contentOffence, offence, loaded, refusedOr, shortOr, helperNeeded, tooLong}
 use Rattle.timetable.specs.declared.Loaded.{Loaded}
 use Rattle.timetable.specs.declared.Loaded.the-variants.{Accepted, Refused}
 use Rattle.timetable.proofs.Offences.{then-none, given-none, in-none}
-use Rattle.whole_runs.proofs.Accepted.{clear-sound}
+use Rattle.whole_runs.proofs.Accepted.{Sound, clear-sound}
 use Rattle.whole_runs.proofs.Back.{words-length, sections-length}
 use Rattle.whole_runs.proofs.Clear.{Clear, Fair, clear}
 use Rattle.whole_runs.proofs.OldTable.{words-same}
