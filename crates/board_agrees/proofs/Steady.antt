@@ -32,7 +32,7 @@ each-steady stops w (suc v) p (suc i) h e =
 pub marked-steady : (w : List ℕ) → JustTable w → steadyMark w ≡ 1 → (i : ℕ) → i < services# w → callsSteady (stops# w) (drop (servicePlace w i) w) ≡ true
 marked-steady w j e i h = each-steady (stops# w) w (services# w) (servicesPlace w) i h (rw (just-used w j) at (yes (steady w) e))
   where
-    yes : (b : Bool) → cond b 1 0 ≡ 1 → b ≡ true
+    yes : (b : Bool) → _≡_ {A = ℕ} (cond b 1 0) 1 → b ≡ true
     yes true q = refl
     yes false q = absurd (omega (arith, q))
 
