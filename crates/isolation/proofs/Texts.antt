@@ -11,9 +11,8 @@ use borrow.Author.Tests.{ne-eqb}
 use Rattle.base.specs.Lists.{every}
 use Rattle.base.proofs.Loops.{and-true}
 use Rattle.columns.specs.Columns.{columns, isDigit, digits, number}
-use Rattle.columns.proofs.Laws.{columns-lt}
+use Rattle.columns.proofs.Laws.{columns-lt, every-long}
 use Rattle.forms.specs.Kinds.{kindOf}
-use Rattle.room.proofs.Bytes.{every-long}
 use Rattle.line_text.specs.Text.{decimal}
 use Rattle.line_text.specs.Laid.{notLF}
 use Rattle.line_text.proofs.Numbers.{every-append, length-decimal, every-decimal, digits-decimal, number-decimal}
