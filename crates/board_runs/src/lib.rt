@@ -11,6 +11,7 @@ use timetable::Call;
 use timetable::Course;
 use timetable::DAYS_AT;
 use timetable::DAYS_WORDS;
+use timetable::NO_BOARDING;
 use timetable::Opening;
 use timetable::REPEATS_AT;
 use timetable::SERVICE_WORDS;
@@ -361,7 +362,7 @@ fn boards_at(w: &[u32], x: &[u32], place: u32, flags: u32, n: u32) -> bool
     if index::stop_number(w, x, place) != n {
         return false;
     }
-    flags / 8 % 2 != 1
+    flags / NO_BOARDING % 2 != 1
 }
 
 // The runs within two minutes of the day.

@@ -5,6 +5,8 @@ use index::ServiceRecord;
 use lookups::PeriodDay;
 use timetable::Call;
 use timetable::Course;
+use timetable::NO_ALIGHTING;
+use timetable::NO_BOARDING;
 ghost use mathlib.Core.Path.{_≡_};
 ghost use mathlib.Core.Bool.{true, _&&_};
 ghost use Prim.Native.Nat.{_+_, _-_, _/_, _%_, _^_, _≤_, _<_};
@@ -364,10 +366,10 @@ fn may_ride(board: u32, alight: u32, boarding: u32, alighting: u32) -> bool
     if alight <= board {
         return false;
     }
-    if boarding / 8 % 2 != 0 {
+    if boarding / NO_BOARDING % 2 != 0 {
         return false;
     }
-    alighting / 4 % 2 == 0
+    alighting / NO_ALIGHTING % 2 == 0
 }
 
 // A minute of a run that starts on day k of the period and is late, counted from the period's first day on.

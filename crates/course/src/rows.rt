@@ -6,6 +6,9 @@ use timetable::CALLS_AT;
 use timetable::CATEGORIES_AT;
 use timetable::CATEGORY_WORDS;
 use timetable::Call;
+use timetable::DEPARTURE;
+use timetable::NO_ALIGHTING;
+use timetable::NO_BOARDING;
 use timetable::ROW_WORDS;
 use timetable::SERVICE_WORDS;
 ghost use mathlib.Core.Path.{_≡_};
@@ -313,8 +316,16 @@ fn row_flags(legs: u32, i: u32, flags: u32) -> u32
     requires { ⌜ flags ≤ allFlags ⌝ }
     ensures { λ r. ⌜ r ≡ rowFlags legs i flags ⌝ }
 {
-    choose(i == 0, 0, flags % 2 + flags / 4 % 2 * 4)
-        + choose(i == legs, 0, flags / 2 % 2 * 2 + flags / 8 * 8)
+    choose(
+        i == 0,
+        0,
+        flags % 2 + flags / NO_ALIGHTING % 2 * NO_ALIGHTING,
+    )
+        + choose(
+            i == legs,
+            0,
+            flags / DEPARTURE % 2 * DEPARTURE + flags / NO_BOARDING * NO_BOARDING,
+        )
 }
 
 // The category of a leg, 0 after the last call.

@@ -8,6 +8,9 @@ ghost use lib.ListN.{length, drop, replicate, getD};
 ghost use Rattle.map.specs.Inner.Map.{mapRecordSize, wordValues, Chained, Mapped, Finds};
 ghost use Rattle.map.specs.Inner.Map.{Added};
 
+// The words of a record.
+const RECORD_WORDS: usize = 4;
+
 // Which record, counted from 0.
 pub enum Found {
     At(usize),
@@ -21,16 +24,16 @@ pub fn find(m: &[u32], number: u32) -> Found
     requires { ⌜ Mapped (now m) ⌝ }
     ensures { λ r. ⌜ Finds number (now (m .entry)) r ⌝ }
 {
-    if m.len() < 4 {
+    if m.len() < RECORD_WORDS {
         return Found::Nowhere;
     }
-    let b = chains::bucket(m.len() / 4, number);
-    let mut next = wide(m[4 * b]);
+    let b = chains::bucket(m.len() / RECORD_WORDS, number);
+    let mut next = wide(m[RECORD_WORDS * b]);
     while next != 0 {
-        if m[4 * next - 3] == number {
+        if m[RECORD_WORDS * next - 3] == number {
             return Found::At(next - 1);
         }
-        next = wide(m[4 * next - 1]);
+        next = wide(m[RECORD_WORDS * next - 1]);
     }
     Found::Nowhere
 }
@@ -41,13 +44,13 @@ pub fn put(m: &mut [u32], count: usize, number: u32, place: u32)
     requires { ⌜ mapRecordSize * count + mapRecordSize ≤ length (now m) ⌝ }
     ensures { λ _. ⌜ Added count number place (now (m .entry)) (now (m .exit)) ⌝ }
 {
-    let b = chains::bucket(m.len() / 4, number);
-    let before = m[4 * b];
-    let at = 4 * count;
+    let b = chains::bucket(m.len() / RECORD_WORDS, number);
+    let before = m[RECORD_WORDS * b];
+    let at = RECORD_WORDS * count;
     m[at + 1] = number;
     m[at + 2] = place;
     m[at + 3] = before;
-    m[4 * b] = narrow(count + 1);
+    m[RECORD_WORDS * b] = narrow(count + 1);
 }
 
 // The place of record i.
@@ -55,7 +58,7 @@ pub fn place_of(m: &[u32], i: usize) -> usize
     requires { ⌜ mapRecordSize * i + mapRecordSize ≤ length (now m) ⌝ }
     ensures { λ r. ⌜ r ≡ getD (now (m .entry)) (mapRecordSize * i + 2) 0 ⌝ }
 {
-    wide(m[4 * i + 2])
+    wide(m[RECORD_WORDS * i + 2])
 }
 
 // Zeros the first words; the words after them stay.

@@ -6,6 +6,7 @@ use fields::RangeEnd;
 use fields::RouteIndex;
 use fields::StopNumber;
 use timetable::Call;
+use timetable::DEPARTURE;
 use timetable::End;
 use timetable::Ends;
 use timetable::RangeKind;
@@ -258,7 +259,7 @@ fn is_sought(s: Sought, call: Call) -> bool
     let stop = StopNumber(call.stop);
     match s {
         Sought::Calling(n) => same_stop(stop, n),
-        Sought::Departing(n, m) => timed(stop, n, call.flags / 2, call.departure, m),
+        Sought::Departing(n, m) => timed(stop, n, call.flags / DEPARTURE, call.departure, m),
         Sought::Arriving(n, m) => timed(stop, n, call.flags, call.arrival, m),
     }
 }

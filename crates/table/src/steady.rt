@@ -4,6 +4,7 @@ use timetable::ALL_FLAGS;
 use timetable::CALL_WORDS;
 use timetable::CALLS_AT;
 use timetable::Call;
+use timetable::DEPARTURE;
 use timetable::LATEST_TIME;
 use timetable::SERVICE_WORDS;
 ghost use mathlib.Core.Path.{_≡_};
@@ -106,7 +107,7 @@ fn opens(c: Call, stops: u32) -> bool
     if ALL_FLAGS < c.flags {
         return false;
     }
-    c.flags / 2 % 2 == 1
+    c.flags / DEPARTURE % 2 == 1
 }
 
 // A call between: since times do not fall, only the last has to be compared with the latest.

@@ -185,7 +185,7 @@ pub fn has_arrival(call: Call) -> bool
 pub fn has_departure(call: Call) -> bool
     ensures { λ r. ⌜ r ≡ hasDeparture call ⌝ }
 {
-    call.flags / 2 % 2 == 1
+    call.flags / DEPARTURE % 2 == 1
 }
 
 // ---- ranges, as a table's words hold them
@@ -452,7 +452,15 @@ pub const MOST_RUNNING: u32 = 9999;
 // 999 hours and 59 minutes.
 pub const LATEST_TIME: u32 = 59999;
 
-// Every flag of a call.
+// "flags: 1 arrival, 2 departure, 4 no alighting, 8 no boarding", and all of them.
+pub const ARRIVAL: u32 = 1;
+
+pub const DEPARTURE: u32 = 2;
+
+pub const NO_ALIGHTING: u32 = 4;
+
+pub const NO_BOARDING: u32 = 8;
+
 pub const ALL_FLAGS: u32 = 15;
 
 // Whether a range's ends are in order; other *A ranges are loose: from may equal to.

@@ -1,5 +1,7 @@
 // What the columns of FPLAN's clean text can hold and give back (44, document 02, No. 11): a test for each kind of line.
 use timetable::Call;
+use timetable::NO_ALIGHTING;
+use timetable::NO_BOARDING;
 use timetable::Opening;
 ghost use mathlib.Core.Path.{_≡_};
 ghost use mathlib.Core.Bool.{_&&_};
@@ -158,12 +160,16 @@ fn time_writable(stated: bool, barred: bool, minutes: u32) -> bool
 fn times_writable(c: Call) -> bool
     ensures { λ r. ⌜ r ≡ timesWritable c ⌝ }
 {
-    if !time_writable(timetable::has_arrival(c), c.flags / 4 % 2 == 1, c.arrival) {
+    if !time_writable(
+        timetable::has_arrival(c),
+        c.flags / NO_ALIGHTING % 2 == 1,
+        c.arrival,
+    ) {
         return false;
     }
     time_writable(
         timetable::has_departure(c),
-        c.flags / 8 % 2 == 1,
+        c.flags / NO_BOARDING % 2 == 1,
         c.departure,
     )
 }
