@@ -226,8 +226,8 @@ typedef struct EstelunyaDayCountResult {
  *     V words: the place of each service;
  *     S words: the last call at each stop, 0 if there is none. Calls are numbered through the table, from 1;
  *     4 words for each call: the call before it at the same stop (0 if there is none), its service, the place of that service's record, and its place in the route;
- *     1 word, its last, the mark: 1 if all calls are steady, else 0. In a steady service the first call's departure, both times of each call between and the last
- *     call's arrival are stated, and none of them is below the one before it. Every table that a load leaves is marked 1.
+ *     1 word, its last, the mark: 1 if all services are steady, else 0. In a steady service the first call's departure, both times of each call between and the
+ *     last call's arrival are stated, and none of them is below the one before it. That holds of every delivery that is accepted (15).
  *
  * The chains of a section of n records: its records are counted from the end, 1 to n, so that the first is record n. Word 2 * b is the greatest record in
  * bucket b, and word 2 * e - 1 the next lower record in the bucket of record e; 0 ends a chain. A record whose first word is k is in bucket (k * 2654435761 mod
@@ -407,8 +407,8 @@ EstelunyaWalkResult estelunya_quick_walk(
  * them: all words of `list` hold what they held; a call with none asks for their number. `first` after `last` is an empty board.
  *
  * estelunya_board looks through all words of table and index each time (21, and 43 exactly if the index is not this table's). estelunya_quick_board costs as
- * much as its answer and the calls at the stop, and is for an index that is known to be this table's: where its mark is 1, of a run's calls only those at the
- * stop are looked at.
+ * much as its answer and the calls at the stop, and is for an index that is known to be this table's. Where its mark is 1 and a service's ranges
+ * follow each other, only its calls at the stop are looked at: of words altered since, it may list a run that a walk refuses.
  */
 EstelunyaBoardResult estelunya_board(
     const uint32_t *table, size_t table_len,

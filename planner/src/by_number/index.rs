@@ -36,8 +36,8 @@ impl<'a> Table<'a> {
     /// Makes the index of the table in the words lent, and says how many it has: so many from the first, later ones stay. The time grows with the
     /// table, once.
     ///
-    /// Its last word is the mark: 1 if all times that a run can need are stated and never fall, as in every table that was loaded, else 0. A board by the
-    /// index then looks at no other calls than those at its stop.
+    /// Its last word is the mark: 1 if all times that a run can need are stated and never fall, as in every table that was loaded, else 0. Under a mark of 1 a
+    /// board by the index looks at no other calls than those at its stop.
     ///
     /// # Errors
     ///

@@ -317,8 +317,8 @@ extern "C" {
     /// them: all words of `list` hold what they held; a call with none asks for their number. `first` after `last` is an empty board.
     ///
     /// estelunya_board looks through all words of table and index each time (21, and 43 exactly if the index is not this table's). estelunya_quick_board costs as
-    /// much as its answer and the calls at the stop, and is for an index that is known to be this table's: where its mark is 1, of a run's calls only those at the
-    /// stop are looked at.
+    /// much as its answer and the calls at the stop, and is for an index that is known to be this table's. Where its mark is 1 and a service's ranges
+    /// follow each other, only its calls at the stop are looked at: of words altered since, it may list a run that a walk refuses.
     pub fn estelunya_board(
         table: *const u32,
         table_len: usize,
