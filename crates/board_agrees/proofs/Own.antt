@@ -1,4 +1,4 @@
--- By a table's own index a board is the board of the table (`own-board`): `y` are the words of its calls and a mark m, which is 1 only where the calls of every service pass.
+-- By a table's own index a board is the board of the table (`own-board`): `y` are the words of its calls and a mark m, which is 1 only where the calls of every service are steady.
 -- Assumes nothing.
 use mathlib.Core.Path.{_≡_, refl, ap, _∙_, sym, fun-ext}
 use mathlib.Core.List.{List, [], _∷_, _++_, List·Permᴰ, List·Permᴰ·trans}
@@ -27,7 +27,7 @@ use Rattle.lookups.proofs.Services.{service-is}
 use Rattle.chains.specs.Chains.{greatest, hasKey, keyOf, nextBy}
 use Rattle.chains.proofs.Agrees.{first-agrees, next-agrees}
 use Rattle.index.specs.Index.{stopsFrom, fieldSection, stopSection, interchangeSection, classSection, sectionEnd, chainsOf, placesOf, indexOf, viewIn}
-use Rattle.index.proofs.Agrees.{view-agrees, length-of}
+use Rattle.index.proofs.Agrees.{view-agrees, place-agrees, length-of}
 use Rattle.calls.specs.Calls.{Stand, standAt, standsFrom, standsIn, allCalls, callOf, stopPlaceOf, atStop, lastAt, entryBy, entryOf, callIndexOf}
 use Rattle.calls.proofs.Calls.{call-number, each-inside, all-few}
 use Rattle.calls.proofs.Words.{index-long}
@@ -48,7 +48,7 @@ use Rattle.boards.specs.ByWords.{steadyIn, departuresBy, boardBy}
 use Rattle.boards.specs.ByWords as B
 use Rattle.boards.proofs.Bounds.{gathered-few}
 use Rattle.whole_index.specs.Whole.{steadyMark, markedCalls}
-use Rattle.board_agrees.proofs.Steady.{marked-steady, place-own}
+use Rattle.board_agrees.proofs.Steady.{marked-steady}
 use Rattle.board_agrees.proofs.Gather.{passing, chained-right, passing-each, gathered-map, gathered-twice, gathered-same, all-upto, all-at, gathered-perm, gathered-swap, perm-length, none-of, pick}
 
 module _ (w x y : List ℕ) (m : ℕ) (h : JustTable w) (ex : x ≡ indexOf w) (ey : y ≡ callIndexOf w ++ (m ∷ []))
@@ -90,7 +90,7 @@ module _ (w x y : List ℕ) (m : ℕ) (h : JustTable w) (ex : x ≡ indexOf w) (
   unfolding steadyIn
   steady-own e i l =
       let q : m ≡ 1 = sym mark-own ∙ eqb-true (getD y (length y - 1) 0) 1 (and-true (ltb (stops# w) (length y)) _ e .1) in
-      ap (λ (p : ℕ). callsSteady (stops# w) (drop p w)) (place-own w x ex i l) ∙ st q i l
+      ap (λ (p : ℕ). callsSteady (stops# w) (drop p w)) (place-agrees w x ex i l) ∙ st q i l
 
   -- ---- the calls at a stop
 

@@ -28,7 +28,7 @@ foundAt v n k t u i p (aService s) = placeDepartures v n k t u i s p
 unfoldable pub departuresAt : View → ℕ → ℕ → ℕ → ℕ → ℕ → ℕ → List Departure
 departuresAt v n k t u i p = foundAt v n k t u i p (v .service i)
 
--- ---- where the words of the calls mark the table as steady (the calls of every service pass, specs/Inner/Plain), the calls of a record are not looked at again
+-- ---- where the words of the calls mark the table as steady (table/specs/Steady), the other calls of a record are not looked at
 
 -- the operating-day ranges of the record at the front of s follow each other
 abbrev pub daysFollow : List ℕ → Bool

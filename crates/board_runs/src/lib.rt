@@ -51,7 +51,7 @@ pub struct Batch {
 // ---- which runs
 
 // From place p of the i-th service, where that is at stop n, on day k of the period, within two minutes of the day; the places of the services begin at `places` of
-// the index. In a steady table the calls of a record are not looked at.
+// the index. In a steady table the other calls of a record whose ranges follow each other are not looked at.
 pub fn runs_at(
     w: &[u32],
     x: &[u32],
@@ -175,8 +175,8 @@ fn wide(x: u32) -> usize
     x as usize
 }
 
-// Of the service whose record stands at the front of `s`: none where that is not sound, or where the day's course does not go on from there. What is looked at in a
-// moment comes first, the calls of the record last.
+// Of the service whose record stands at the front of `s`: none where what is looked at of it is not sound, or where the day's course does not go on from there. What is
+// looked at in a moment comes first, the calls of the record last.
 fn record_runs(
     w: &[u32],
     x: &[u32],
@@ -205,7 +205,7 @@ fn record_runs(
     call_runs(w, x, s, n, first, last, i, p)
 }
 
-// ---- whether the record is sound, and the day's course goes on
+// ---- whether the record is sound, as far as it is looked at, and the day's course goes on
 
 // From place p, by the operating-day ranges: where they follow each other the day's stretch is known before the calls are looked at.
 fn goes_from(w: &[u32], x: &[u32], s: &[u32], steady: bool, k: u32, p: u32) -> bool

@@ -414,7 +414,7 @@ fn call_batch(
     board_runs::runs_at(w, x, places, steady_in(y, s), n, k, first, last, i, p)
 }
 
-// Whether the words of the calls, beside so many stops, mark the table as steady: then no record's calls are looked at.
+// Whether the words of the calls, beside so many stops, mark the table as steady: then a record's other calls are not looked at where its ranges follow each other.
 fn steady_in(y: &[u32], s: u32) -> bool
     ensures { λ r. ⌜ r ≡ steadyIn s (now (y .entry)) ⌝ }
 {

@@ -1,5 +1,6 @@
--- A table whose calls are as nearly all are: both times of each call between the first and the last of a route are stated, and no time falls. Then its calls are sound
--- (`steady-sound`), and no call of any stretch is refused. Assumes nothing.
+-- A table whose calls are as nearly all are: of each route the first call's departure, both times of each call between and the last call's arrival are stated, and none of
+-- these is below the one before it. Then its calls are sound (`steady-sound`), and none of them is refused by 36. In a table the bounds that are said here add nothing.
+-- Assumes nothing.
 use Prim.Native.Nat.{ℕ, zero, suc, _-_, _+_, _/_, _%_}
 use mathlib.Core.List.{List}
 use mathlib.Core.Bool.{Bool, true, _&&_}

@@ -95,6 +95,7 @@ pub fn look_at(w: &[u32]) -> Look
     )
 }
 
+// What it tells of words that are no table.
 fn no_table() -> Look
     ensures { λ r. ⌜ r ≡ lookBy false false ⌝ }
 {
@@ -251,6 +252,7 @@ fn records_look(w: &[u32], v: u32, stops: u32) -> Look
     looked(at == w.len(), steady)
 }
 
+// What it tells of words that are a table, or not.
 fn looked(table: bool, steady: bool) -> Look
     ensures { λ r. ⌜ r ≡ lookBy table steady ⌝ }
 {

@@ -1,5 +1,5 @@
-// Whether the calls of a record are as nearly all are: both times of each call between the first and the last are stated, and no time falls. Then they are sound, and no call
-// of any stretch is refused (specs/Steady).
+// Whether the calls of a record are as nearly all are: the first one's departure, both times of each call between and the last one's arrival are stated, and none of these is
+// below the one before it. Then they are sound, and none is refused by 36 (specs/Steady).
 use timetable::ALL_FLAGS;
 use timetable::CALL_WORDS;
 use timetable::CALLS_AT;
@@ -28,7 +28,7 @@ pub fn calls_steady(s: &[u32], stops: u32) -> bool
     later_steady(s, stops, s[CALLS_AT] - 2, first.departure)
 }
 
-// Of the calls after the first, which leaves at `departure`: `left` calls between, and the last. Four calls a turn: most of a board's instructions go here.
+// Of the calls after the first, which leaves at `departure`: `left` calls between, and the last. Four calls a turn: most instructions of a look at a table go here.
 fn later_steady(s: &[u32], stops: u32, left: u32, departure: u32) -> bool
     requires { ⌜ serviceHead + callSize * (left + 2) ≤ length (now s) ⌝ }
     ensures { λ r. ⌜ r ≡ laterSteady stops left departure (drop (serviceHead + callSize) (now (s .entry))) ⌝ }

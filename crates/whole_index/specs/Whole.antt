@@ -13,10 +13,11 @@ use Rattle.calls.specs.Calls.{callIndexSize, callIndexOf}
 use Rattle.whole_index.specs.declared.Made.{Made}
 use Rattle.whole_index.specs.declared.Made.the-variants.{Index, Refused}
 
--- the calls at each stop, and the mark: 1 where the table's calls are steady, else 0
+-- the mark: 1 where the table's calls are steady, else 0
 abbrev pub steadyMark : List ℕ → ℕ
 steadyMark w = cond (steady w) 1 0
 
+-- the calls at each stop, and the mark
 unfoldable pub markedCalls : List ℕ → List ℕ
 markedCalls w = callIndexOf w ++ (steadyMark w ∷ [])
 

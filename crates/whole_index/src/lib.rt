@@ -1,4 +1,5 @@
-// The index of a table, made: the words of the look-ups, then the words of the calls at each stop, and a mark whether those are steady. It is never longer than the table (`whole-within`, proofs/Whole).
+// The index of a table, made: the words of the look-ups, then the words of the calls at each stop, and a mark whether the table's calls are steady. It is never longer
+// than the table (`whole-within`, proofs/Whole).
 ghost use mathlib.Core.Path.{_≡_};
 ghost use mathlib.Core.Bool.{cond};
 ghost use Prim.Native.Nat.{_≤_};
