@@ -1,5 +1,7 @@
 // The question for a departure board: of any words, with an index that is checked (`board`: 43 unless it is this table's own), and without that check (`quick_board`).
 // A refusal leaves the list as lent.
+#![tactic(auto)]
+
 ghost use Rattle.std.specs.Prelude.{◌≡◌, true, ◌<◌, length};
 ghost use Rattle.timetable.specs.Layout.{most_period_days};
 ghost use Rattle.timetable.specs.Questions.{dated};

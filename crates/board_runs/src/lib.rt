@@ -1,5 +1,7 @@
 // The departures from one call of a service: which runs they are, by arithmetic and one look at the day's course, and their rows.
 // `w` are words with a sound header, `x` an index of look-ups, or none.
+#![tactic(auto)]
+
 ghost use Rattle.std.specs.Prelude.{◌≡◌, [], map, true, ◌&&◌, ◌+◌, ◌-◌, ◌*◌, ◌≤◌, ◌<◌, length, drop, eqb, leb, ltb};
 ghost use Rattle.base.specs.Lists.{gathered, upto};
 ghost use Rattle.timetable.specs.Layout.{most_period_days, service_head, call_size, latest_time};
@@ -25,7 +27,7 @@ use timetable::{
 };
 
 // Departures from one place of a service's route: of the runs from `low` on and below `high`, where run 0 leaves at `departure`.
-#[derive(Drop)]
+#[derive(Clone, Copy)]
 pub struct Batch {
     pub service: u32,
     pub place: u32,

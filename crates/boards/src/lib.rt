@@ -1,5 +1,7 @@
 // A departure board by an index: the departures from each call at the stop are counted, then written, then put in order (specs/ByWords).
 // `w` are words with a sound header, `x` the words of the look-ups, `y` those of the calls.
+#![tactic(auto)]
+
 ghost use Rattle.std.specs.Prelude.{◌≡◌, true, ◌+◌, ◌*◌, ◌≤◌, ◌<◌, length};
 ghost use Rattle.base.specs.Lists.{gathered};
 ghost use Rattle.timetable.specs.Layout.{most_period_days};

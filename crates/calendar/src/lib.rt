@@ -1,18 +1,20 @@
 // Gregorian dates from 01.01.1900, day 0, to 31.12.2199, and periods of 1 to 380 days.
+#![tactic(auto)]
+
 ghost use Rattle.std.specs.Prelude.{◌≡◌, ◌≤◌, ◌-◌};
 ghost use Rattle.calendar.specs.Calendar.{is_leap, month_days, years_before, months_before, day_of, date_in, period_of};
 
 use columns::line_fields::date;
 
 // What day, month and year say: a day number, or that there is no such date.
-#[derive(Drop)]
+#[derive(Clone, Copy)]
 pub enum Date {
     Day(u32),
     NoSuchDate,
 }
 
 // The number of days of a period, or that it is none.
-#[derive(Drop)]
+#[derive(Clone, Copy)]
 pub enum PeriodLength {
     OfDays(u32),
     NoPeriod,

@@ -1,6 +1,8 @@
 // ZUGART: the own checks of its lines, and look-ups of a category by its code. Its lines may be as many as codes are, and no words are lent for them. So a
 // repeated code is found by passes over the file, one for each first byte that codes have, with a bit for each two bytes behind it; and the index for
 // look-ups takes what UMSTEIGB's check has left, for as many lines as it has room for.
+#![tactic(auto)]
+
 ghost use Rattle.std.specs.Prelude.{◌≡◌, true, not, ◌+◌, ◌-◌, ◌≤◌, ◌<◌, length, drop, replicate};
 ghost use Rattle.columns.specs.LineFields.{class_code};
 ghost use Rattle.lines.specs.Lines.{lines_at, lines_of};
@@ -25,14 +27,14 @@ use timetable::{Checked, Offence};
 // ---- the check
 
 // A line by its place and its number; or the end of a file.
-#[derive(Drop)]
+#[derive(Clone, Copy)]
 struct Stand {
     pub at: usize,
     pub no: u32,
 }
 
 // The first line that breaks its form, the column, and how many records stand before it.
-#[derive(Drop)]
+#[derive(Clone, Copy)]
 struct Formed {
     pub at: usize,
     pub no: u32,
@@ -41,7 +43,7 @@ struct Formed {
 }
 
 // The first line that repeats a code, and the next first byte that the codes before it have.
-#[derive(Drop)]
+#[derive(Clone, Copy)]
 struct Pass {
     pub at: usize,
     pub no: u32,

@@ -1,5 +1,7 @@
 // The columns of a line: its bytes, parts of it, and what the bytes of a field say.
 // A column is one byte, counted from 1; columns past the line's end read as blank (byte 32).
+#![tactic(auto)]
+
 ghost use Rattle.std.specs.Prelude.{◌≡◌, ◌&&◌, ◌-◌, ◌≤◌, get_or, take, drop, leb};
 ghost use Rattle.base.specs.Lists.{every};
 ghost use Rattle.columns.specs.Columns.{pad_to, columns, column, is_digit, is_hex, digit_value, hex_value, is_of};
@@ -8,7 +10,7 @@ ghost use Rattle.columns.specs.Columns.{count, number, count_to};
 pub mod line_fields;
 
 // What every byte of a field may have to be.
-#[derive(Drop)]
+#[derive(Clone, Copy)]
 pub enum ByteClass {
     Digit,
     Hex,

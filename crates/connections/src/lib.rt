@@ -1,5 +1,7 @@
 // Whether a proposed connection holds (document 02, No. 12): of its parts, one after another, the stage along the day's run, and the change from the stage before.
 // `w` are words with a sound header, `x` their index or none (crate index).
+#![tactic(auto)]
+
 ghost use Rattle.std.specs.Prelude.{◌≡◌, true, ◌&&◌, ◌+◌, ◌-◌, ◌/◌, ◌%◌, ◌^◌, ◌≤◌, ◌<◌, length, drop, ltb, leb, eqb};
 ghost use Rattle.timetable.specs.Layout.{most_period_days, latest_time, most_delay};
 ghost use Rattle.timetable.specs.Table.{stops#, calls#, opening_at, service_at, sizes_sound, record_sound};
@@ -19,7 +21,7 @@ use lookups::PeriodDay;
 use timetable::{Call, Course, NO_ALIGHTING, NO_BOARDING};
 
 // A part: a run by its service, its repeat and its date, and the calls where it is boarded and left, counted from 0 along the route.
-#[derive(Drop)]
+#[derive(Clone, Copy)]
 pub struct Part {
     pub service: u32,
     pub repeat: u32,
@@ -32,7 +34,7 @@ pub struct Part {
 
 // What a part that is right makes: the stop, the moment and the category where it departs, and those where it arrives. A moment is in minutes from the period's
 // first day on.
-#[derive(Drop)]
+#[derive(Clone, Copy)]
 pub struct Stage {
     pub from: u32,
     pub departs: u32,
@@ -43,14 +45,14 @@ pub struct Stage {
 }
 
 // A stage, or the number of the refusal.
-#[derive(Drop)]
+#[derive(Clone, Copy)]
 pub enum Staged {
     Is(Stage),
     Refused(u32),
 }
 
 // That a connection holds, or the refusal and the first bad part, counted from 1 (0 for 21 and 46, and for 43 of the index as a whole).
-#[derive(Drop)]
+#[derive(Clone, Copy)]
 pub enum ConnectionAnswer {
     Holds,
     Refused { number: u32, part: u32 },

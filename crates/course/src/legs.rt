@@ -17,7 +17,7 @@ use timetable::{DAYS_AT, DAYS_WORDS, DayWords};
 
 // The operated legs of a day: where the first stretch of them begins and ends, and where another begins; all three are the end where there is none. Not `known`: a
 // range has an unknown bit field, and the others say nothing.
-#[derive(Drop)]
+#[derive(Clone, Copy)]
 pub struct DayLegs {
     pub known: bool,
     pub start: u32,

@@ -22,7 +22,7 @@ use timetable::{
 };
 
 // A row of a walk.
-#[derive(Drop)]
+#[derive(Clone, Copy)]
 pub struct WalkRow {
     pub stop: u32,
     pub arrival: u32,

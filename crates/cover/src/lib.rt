@@ -1,5 +1,7 @@
 // Which ranges of a service cover a leg (17, 18), on the words of the ranges, and whether they follow each other, so that each leg is covered once. A range is so
 // many words wide; its last two are from and to.
+#![tactic(auto)]
+
 ghost use Rattle.std.specs.Prelude.{◌≡◌, ◌+◌, ◌-◌, ◌*◌, ◌≤◌, length, drop};
 ghost use Rattle.base.specs.Lists.{every, count_if, below};
 ghost use Rattle.timetable.specs.Legs.{covers};
@@ -10,7 +12,7 @@ ghost use Rattle.cover.specs.Inner.Cover.{legs_in, once_in, cover_place_from, be
 use timetable::LegWords;
 
 // The place of the first range that covers a leg, or that none does.
-#[derive(Drop)]
+#[derive(Clone, Copy)]
 pub enum FirstRange {
     At(usize),
     Nowhere,

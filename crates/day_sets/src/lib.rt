@@ -1,5 +1,7 @@
 // Arithmetic on operating days: union, intersection, first without second and complement inside a period of n days, each a bit field with a proper
 // frame, and the number of days. First on words that a caller lends, which may be refused; then on fields by value.
+#![tactic(auto)]
+
 ghost use Rattle.std.specs.Prelude.{◌≡◌, cond, ◌-◌, ◌≤◌, ◌<◌, length};
 ghost use Rattle.base.specs.Lists.{count_if, upto};
 ghost use Rattle.bitfield.specs.BitField.{bit_words, bit_count, bit, runs_on};
@@ -11,7 +13,7 @@ ghost use Rattle.day_sets.specs.DaySets.{count_asked};
 use timetable::{BIT_WORDS, MOST_PERIOD_DAYS};
 
 // What of two sets of days is wanted: the days of either, those of both, those of the first that the second has not.
-#[derive(Drop)]
+#[derive(Clone, Copy)]
 pub enum Operation {
     Union,
     Intersection,
@@ -19,14 +21,14 @@ pub enum Operation {
 }
 
 // That the result holds the field, or a refusal.
-#[derive(Drop)]
+#[derive(Clone, Copy)]
 pub enum SetAnswer {
     Given,
     Refused(u32),
 }
 
 // The number of days, or a refusal.
-#[derive(Drop)]
+#[derive(Clone, Copy)]
 pub enum CountAnswer {
     Days(u32),
     Refused(u32),

@@ -1,6 +1,8 @@
 // The draft of a service: what its lines say, in words of its own, so that each line is read once. Calls stand with the numbers of their lines,
 // ranges in line order with their ends as they are written; `calls` and `ranges` are lent for it, and hold the drafts from their front on.
 // The draft holds stop numbers, whatever the table's calls hold.
+#![tactic(auto)]
+
 ghost use Rattle.std.specs.Prelude.{◌≡◌, [], ◌∷◌, ◌++◌, cond, ◌+◌, ◌*◌, ◌≤◌, length, drop};
 ghost use Rattle.timetable.specs.Plan.{as_call, as_range, part_number};
 ghost use Rattle.timetable.specs.Service.{opened, call_by};
@@ -33,7 +35,7 @@ pub const CALLS_LENT: usize = DRAFT_CALL_WORDS * timetable::MOST_CALLS as usize;
 pub const RANGES_LENT: usize = DRAFT_RANGE_WORDS * MOST_RANGES;
 
 // How many calls, and ranges of each kind.
-#[derive(Drop)]
+#[derive(Clone, Copy)]
 pub struct Counts {
     pub calls: u32,
     pub categories: u32,
@@ -43,7 +45,7 @@ pub struct Counts {
 
 // A service as drafted: what its opening line says and that line's number, how many calls and ranges it has, and where the next service begins:
 // the place and the number of its opening line, or of the file's end.
-#[derive(Drop)]
+#[derive(Clone, Copy)]
 pub struct Drafted {
     pub opening: Opening,
     pub line: u32,
@@ -53,7 +55,7 @@ pub struct Drafted {
 }
 
 // An end's place or detail in two words: which it is, and its number.
-#[derive(Drop)]
+#[derive(Clone, Copy)]
 struct Code {
     pub tag: u32,
     pub value: u32,

@@ -1,5 +1,7 @@
 // The C boundary: the version, words enough for a load, load, walk, day, interchange (between classes and between categories) and stop name; an index and the same questions by it; departure boards; a proposed connection; FPLAN written back; and the arithmetic on operating days, with numbers and slices. Nothing is asked of
 // the caller: bad input gets its numbered refusal, and table, rows and result words then hold what they held (the helper words of a load: `helped`, timetable/specs/Load).
+#![tactic(auto)]
+
 ghost use Rattle.std.specs.Prelude.{◌≡◌, length};
 ghost use Rattle.timetable.specs.Delivery.{files_of};
 ghost use Rattle.timetable.specs.Load.{loaded, written, helped};
@@ -34,7 +36,7 @@ use whole_index::Made;
 // number 0: accepted, and words is the words used; else the refusal's number, file and line, words is the words needed (0 unless 20 or 51), and column is
 // where the line breaks its form (0 unless 4).
 #[repr(C)]
-#[derive(Drop)]
+#[derive(Clone, Copy)]
 pub struct LoadResult {
     pub number: u32,
     pub file: u32,
@@ -45,7 +47,7 @@ pub struct LoadResult {
 
 // number 0: runs is 1 where the bit field runs on the day, else 0; other numbers are refusals.
 #[repr(C)]
-#[derive(Drop)]
+#[derive(Clone, Copy)]
 pub struct DayResult {
     pub number: u32,
     pub runs: u32,
@@ -53,7 +55,7 @@ pub struct DayResult {
 
 // number 0: the interchange time in minutes; other numbers are refusals.
 #[repr(C)]
-#[derive(Drop)]
+#[derive(Clone, Copy)]
 pub struct InterchangeResult {
     pub number: u32,
     pub minutes: u32,
@@ -61,7 +63,7 @@ pub struct InterchangeResult {
 
 // number 0: the byte of BAHNHOF where the name starts, from 0, and how many bytes it has; other numbers are refusals, with 0 and 0.
 #[repr(C)]
-#[derive(Drop)]
+#[derive(Clone, Copy)]
 pub struct NameResult {
     pub number: u32,
     pub start: usize,
@@ -70,7 +72,7 @@ pub struct NameResult {
 
 // number 0: how many rows (of `ROW_WORDS` words) are listed, 0 where the service is not running; other numbers are refusals, 29 with the words needed.
 #[repr(C)]
-#[derive(Drop)]
+#[derive(Clone, Copy)]
 pub struct WalkResult {
     pub number: u32,
     pub rows: u32,
@@ -79,7 +81,7 @@ pub struct WalkResult {
 
 // number 0: so many words of index stand at the front; 29 with the words needed; another number is a refusal.
 #[repr(C)]
-#[derive(Drop)]
+#[derive(Clone, Copy)]
 pub struct IndexResult {
     pub number: u32,
     pub words: usize,
@@ -87,7 +89,7 @@ pub struct IndexResult {
 
 // number 0: how many rows (of four words) are listed; 29 with the words needed; another number is a refusal.
 #[repr(C)]
-#[derive(Drop)]
+#[derive(Clone, Copy)]
 pub struct BoardResult {
     pub number: u32,
     pub rows: usize,
@@ -96,7 +98,7 @@ pub struct BoardResult {
 
 // number 0: the connection holds; another number is a refusal, and part the first bad part, from 1 (0 for 21, 43 by the index's length, and 46).
 #[repr(C)]
-#[derive(Drop)]
+#[derive(Clone, Copy)]
 pub struct ConnectionResult {
     pub number: u32,
     pub part: u32,
@@ -104,7 +106,7 @@ pub struct ConnectionResult {
 
 // number 0: so many bytes of FPLAN stand at the front; 45 with the bytes needed; another number is a refusal.
 #[repr(C)]
-#[derive(Drop)]
+#[derive(Clone, Copy)]
 pub struct WriteResult {
     pub number: u32,
     pub bytes: usize,
@@ -112,14 +114,14 @@ pub struct WriteResult {
 
 // number 0: the result holds the field; another number is a refusal.
 #[repr(C)]
-#[derive(Drop)]
+#[derive(Clone, Copy)]
 pub struct DaySetResult {
     pub number: u32,
 }
 
 // number 0: the number of days; another number is a refusal.
 #[repr(C)]
-#[derive(Drop)]
+#[derive(Clone, Copy)]
 pub struct DayCountResult {
     pub number: u32,
     pub days: u32,

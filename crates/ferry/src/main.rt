@@ -1,4 +1,6 @@
 // The program: reads the six files by name from its directory, up to 8,192 bytes each, loads them into a table of 4,096 words, and says what came of it.
+#![tactic(auto)]
+
 ghost use Rattle.std.specs.Prelude.{length, ◌≡◌};
 ghost use Rattle.io.specs.Counts.{IsPrefixLen};
 

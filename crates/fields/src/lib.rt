@@ -1,4 +1,6 @@
 // The fields of a line that are more than digits: "#" and digits, times, range ends and their details.
+#![tactic(auto)]
+
 ghost use Rattle.std.specs.Prelude.{◌≡◌, ◌≤◌, drop};
 ghost use Rattle.columns.specs.Columns.{pad_to, columns};
 ghost use Rattle.fields.specs.Fields.{hash_digits, after_hash, hash, clock, time, index_by, range_end, timed_by};
@@ -8,24 +10,24 @@ use columns::ByteClass;
 
 // Three counters that never stand for each other: the place of a call in its route from 0, which appearance of a stop in the route
 // from 0, and a stop's number.
-#[derive(Drop)]
+#[derive(Clone, Copy)]
 pub struct RouteIndex(pub u32);
 
-#[derive(Drop)]
+#[derive(Clone, Copy)]
 pub struct Appearance(pub u32);
 
-#[derive(Drop)]
+#[derive(Clone, Copy)]
 pub struct StopNumber(pub u32);
 
 // What "#" and digits say.
-#[derive(Drop)]
+#[derive(Clone, Copy)]
 pub enum Hash {
     Numbered(u32),
     NoNumber,
 }
 
 // A time: nothing, or minutes and whether "-" forbids alighting or boarding.
-#[derive(Drop)]
+#[derive(Clone, Copy)]
 pub enum Time {
     Absent,
     Stated { minutes: u32, barred: bool },
@@ -33,7 +35,7 @@ pub enum Time {
 }
 
 // Where a range starts or ends: at the route's first or last call, at a route index, or at a stop.
-#[derive(Drop)]
+#[derive(Clone, Copy)]
 pub enum RangeEnd {
     Outer,
     Index(RouteIndex),
@@ -42,7 +44,7 @@ pub enum RangeEnd {
 }
 
 // Which of a stop's appearances is meant: the outermost, one by its count, or one by its minutes.
-#[derive(Drop)]
+#[derive(Clone, Copy)]
 pub enum Detail {
     Plain,
     Nth(Appearance),

@@ -1,5 +1,7 @@
 // The kinds of lines and their forms. A form is data: a table of rows (columns from, to, and what is asked of them) in the paper's
 // order, read by one loop. Columns that no row names are blank.
+#![tactic(auto)]
+
 ghost use Rattle.std.specs.Prelude.{◌≡◌, true, not, ◌||◌, ◌-◌, ◌<◌, get_or, eqb};
 ghost use Rattle.base.specs.Lists.{every};
 ghost use Rattle.columns.specs.Columns as C;
@@ -21,7 +23,7 @@ use columns::line_fields::{
 use fields::{Detail, RangeEnd, Time};
 
 // Which kind a line of FPLAN is.
-#[derive(Drop)]
+#[derive(Clone, Copy)]
 pub enum Kind {
     Opening,
     Frequency,
@@ -32,7 +34,7 @@ pub enum Kind {
 }
 
 // The kinds of lines that have a form: a row of the paper's table of columns each.
-#[derive(Drop)]
+#[derive(Clone, Copy)]
 pub enum LineKind {
     Date,
     BitField,
@@ -47,7 +49,7 @@ pub enum LineKind {
 }
 
 // A line has the form, or breaks it: the column, from 1, where the leftmost field or unnamed column that does so starts.
-#[derive(Drop)]
+#[derive(Clone, Copy)]
 pub enum Form {
     Fits,
     Broken(usize),

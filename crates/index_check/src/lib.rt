@@ -1,5 +1,7 @@
 // Whether words are a table's index (43), told exactly, without other words and in time that grows with the table only: each section's chains (`chain_check`),
 // the place of each service by going from record to record, the calls (`calls_check`) and their mark.
+#![tactic(auto)]
+
 ghost use Rattle.std.specs.Prelude.{◌≡◌, ◌&&◌, ◌+◌, ◌*◌, ◌≤◌, length, drop};
 ghost use Rattle.timetable.specs.Table.{services#};
 ghost use Rattle.table.specs.JustTable.{JustTable};
@@ -15,7 +17,7 @@ use index::Section;
 use timetable::{FIRST_SERVICE_AT, SERVICES_AT};
 
 // That the words are the table's index; or 21 no table, 43 another's words.
-#[derive(Drop)]
+#[derive(Clone, Copy)]
 pub enum IndexCheck {
     Right,
     Refused(u32),

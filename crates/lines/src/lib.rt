@@ -1,4 +1,6 @@
 // Walks a file line by line, by place and line number, without copying: a line is the part of its file from a place to a stop.
+#![tactic(auto)]
+
 ghost use Rattle.std.specs.Prelude.{◌≡◌, cond, not, ◌&&◌, ◌+◌, ◌-◌, ◌≤◌, ◌<◌, length, take, drop, eqb, leb};
 ghost use Rattle.lines.specs.Lines.{lines_of, no_cr, to_lf, past_lf, cut_at, skipped};
 
@@ -7,7 +9,7 @@ use columns::ByteClass;
 pub mod reader;
 
 // The line that starts at a known place: where its text stops, where the next line starts, and the next line's number.
-#[derive(Drop)]
+#[derive(Clone, Copy)]
 pub struct Cut {
     pub stop: usize,
     pub next: usize,

@@ -7,7 +7,7 @@ ghost use Rattle.lines.specs.Inner.Skips.{past_skipped};
 use crate::Cut;
 
 // A file, the place where its next line starts, and that line's number.
-#[derive(Drop)]
+#[derive(Clone, Copy)]
 pub struct Reader<'a> {
     pub file: &'a [u8],
     pub at: usize,

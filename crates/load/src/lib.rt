@@ -1,5 +1,7 @@
 // A delivery of six files to the table, or its first offence. Nothing is written into the table before everything is checked; meanwhile the helper
 // words hold the maps of BITFELD, BAHNHOF and UMSTEIGB and, where UMSTEIGB's was, the index of ZUGART, until all is written.
+#![tactic(auto)]
+
 ghost use Rattle.std.specs.Prelude.{◌≡◌, ◌++◌, ◌+◌, ◌-◌, ◌≤◌, length, take, drop, replicate};
 ghost use Rattle.lines.specs.Lines.{lines_of};
 ghost use Rattle.timetable.specs.Layout.{helper_head, most_file_bytes, most_period_days};
@@ -25,7 +27,7 @@ use timetable::{
 };
 
 // What the checks of the files say: the header of the table, or the first offence and its file.
-#[derive(Drop)]
+#[derive(Clone, Copy)]
 pub enum Delivered {
     Holds(Header),
     Refused { file: u32, offence: Offence },
@@ -86,7 +88,7 @@ pub fn load(
 // ---- the helper words
 
 // What the maps take of them: the words for the lines of BITFELD and of BAHNHOF; and all words needed.
-#[derive(Drop)]
+#[derive(Clone, Copy)]
 struct Needed {
     pub fields: usize,
     pub stops: usize,

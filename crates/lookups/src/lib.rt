@@ -1,5 +1,7 @@
 // Look-ups in words: "lookups take the first match". The search itself, what stands at a place, and the day of a period that a date is. By which section and which index a
 // thing is looked up: crate index.
+#![tactic(auto)]
+
 ghost use Rattle.std.specs.Prelude.{◌≡◌, ◌+◌, ◌*◌, ◌≤◌, ◌<◌, length, drop};
 ghost use Rattle.bitfield.specs.BitField.{runs_on};
 ghost use Rattle.timetable.specs.Layout.{stop_size, interchange_size, most_period_days};
@@ -11,35 +13,35 @@ use calendar::Date;
 use timetable::BIT_WORDS;
 
 // A day of the period, counted from 0, or the number of a refusal.
-#[derive(Drop)]
+#[derive(Clone, Copy)]
 pub enum PeriodDay {
     On(u32),
     Refused(u32),
 }
 
 // A bit field: whether there is one of that number, and its days.
-#[derive(Drop)]
+#[derive(Clone, Copy)]
 pub struct Field {
     pub known: bool,
     pub words: [u32; BIT_WORDS],
 }
 
 // The two times of an interchange record.
-#[derive(Drop)]
+#[derive(Clone, Copy)]
 pub struct Times {
     pub first: u32,
     pub second: u32,
 }
 
 // What the record of a stop says of its name: where it begins in BAHNHOF and how long it is. Or no stop has the number.
-#[derive(Drop)]
+#[derive(Clone, Copy)]
 pub enum StopName {
     Place { offset: u32, size: u32 },
     Unknown,
 }
 
 // The place of a record.
-#[derive(Drop)]
+#[derive(Clone, Copy)]
 pub enum RecordFound {
     At(usize),
     Nothing,

@@ -1,6 +1,8 @@
 // A look-up map in lent words: which record has this number. The words are four for each record that there is room for. Of the four of place i
 // the first belongs to bucket i: the last record of that bucket, counted from 1, or 0. The others are record i's: its number, its place, and the
 // record before it in its bucket, counted from 1, or 0.
+#![tactic(auto)]
+
 ghost use Rattle.std.specs.Prelude.{◌≡◌, ◌++◌, ◌+◌, ◌*◌, ◌≤◌, ◌<◌, length, drop, replicate, get_or};
 ghost use Rattle.map.specs.Inner.Map.{map_record_size, word_values, Chained, Mapped, Finds};
 ghost use Rattle.map.specs.Inner.Map.{Added};
@@ -9,7 +11,7 @@ ghost use Rattle.map.specs.Inner.Map.{Added};
 const RECORD_WORDS: usize = 4;
 
 // Which record, counted from 0.
-#[derive(Drop)]
+#[derive(Clone, Copy)]
 pub enum Found {
     At(usize),
     Nowhere,

@@ -1,5 +1,7 @@
 // The name field of a stop: names parted by "$", each with its patterns of languages and types, and the name that a language and a type ask for
 // (request No. 3, section 5.1 of the standard).
+#![tactic(auto)]
+
 ghost use Rattle.std.specs.Prelude.{◌≡◌, ◌+◌, ◌≤◌, ◌<◌, length, drop};
 ghost use Rattle.names.specs.Grammar.{is_plain, among, is_language, is_type};
 ghost use Rattle.names.specs.Names.{span, names_of, patterns_of, is_name_list, language_known, type_digit, allows};
@@ -12,21 +14,21 @@ use columns::byte_at;
 pub mod name_field;
 
 // A name inside its field: where it begins, from 0, and how many bytes it has.
-#[derive(Drop)]
+#[derive(Clone, Copy)]
 pub struct Name {
     pub place: usize,
     pub size: usize,
 }
 
 // What is asked for: the letter of a language and the digit of a type, 0 for any.
-#[derive(Drop)]
+#[derive(Clone, Copy)]
 pub struct Wanted {
     pub letter: u8,
     pub digit: u8,
 }
 
 // The name that is asked for, or that the field is no name list.
-#[derive(Drop)]
+#[derive(Clone, Copy)]
 pub enum Chosen {
     Is(Name),
     NoList,
@@ -93,7 +95,7 @@ fn first_name(field: &[u8]) -> Name
 // ---- what is asked for
 
 // What a language, by its letter, and a type, by its number, ask for (0 for any); or that one is outside the standard's list.
-#[derive(Drop)]
+#[derive(Clone, Copy)]
 pub enum Asked {
     For(Wanted),
     Outside,
@@ -141,7 +143,7 @@ fn type_digit(nametype: u32) -> u8
 // ---- the field read from a place on: names read on into patterns, and patterns into further names
 
 // What reading on tells: that it is no name list, that no name of it fits, or the first that fits.
-#[derive(Drop)]
+#[derive(Clone, Copy)]
 enum NameFound {
     Broken,
     Unfit,
@@ -220,7 +222,7 @@ fn first_of(fits: bool, name: Name, onward: NameFound) -> NameFound
 // ---- a pattern
 
 // A pattern: where it ends, and whether it fits; or that there is none.
-#[derive(Drop)]
+#[derive(Clone, Copy)]
 enum PatternRead {
     To { end: usize, fits: bool },
     Nothing,
@@ -282,7 +284,7 @@ fn part_allows(part: &[u8], b: u8) -> bool
 // ---- bytes
 
 // What the bytes of a span are.
-#[derive(Drop)]
+#[derive(Clone, Copy)]
 enum NameByte {
     Plain,
     Letter,

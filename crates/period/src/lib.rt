@@ -1,4 +1,6 @@
 // ECKDATEN: the period, or the file's first offence.
+#![tactic(auto)]
+
 ghost use Rattle.std.specs.Prelude.{◌≡◌, ◌≤◌, length};
 ghost use Rattle.lines.specs.Lines.{lines_of};
 ghost use Rattle.timetable.specs.Layout.{most_file_bytes};

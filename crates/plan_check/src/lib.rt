@@ -1,4 +1,6 @@
 // FPLAN checked, service by service.
+#![tactic(auto)]
+
 ghost use Rattle.std.specs.Prelude.{◌≡◌, ◌≤◌, length};
 ghost use Rattle.lines.specs.Lines.{lines_of, lines_at};
 ghost use Rattle.timetable.specs.Layout.{most_file_bytes, most_period_days};

@@ -1,4 +1,6 @@
 // The words of FPLAN written, service by service, where it has no offence.
+#![tactic(auto)]
+
 ghost use Rattle.std.specs.Prelude.{◌≡◌, true, ◌+◌, ◌≤◌, ◌<◌, length};
 ghost use Rattle.std.proofs.Math.Option.{none};
 ghost use Rattle.lines.specs.Lines.{lines_of, lines_at};
@@ -18,7 +20,7 @@ use reading::Head;
 
 // A service that was written: the words that it took, and where the next service begins (the place and the number of its opening line, or of the file's
 // end).
-#[derive(Drop)]
+#[derive(Clone, Copy)]
 struct Put {
     pub words: u32,
     pub end: usize,

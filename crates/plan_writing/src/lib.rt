@@ -1,5 +1,7 @@
 // FPLAN written from a table into lent bytes, in one clean form (document 02, No. 11). `w` are the words of just a table, `s` those from a service's record
 // on; each line has 59 columns and LF.
+#![tactic(auto)]
+
 ghost use Rattle.std.specs.Prelude.{◌≡◌, true, ◌+◌, ◌*◌, ◌≤◌, length, drop};
 ghost use Rattle.timetable.specs.Layout.{service_head};
 ghost use Rattle.timetable.specs.Table.{calls#, opening_at, table_of, sizes_sound};
@@ -16,7 +18,7 @@ use timetable::{
 };
 
 // What writing answers: the bytes written, or the refusal and the bytes needed (0 unless 45).
-#[derive(Drop)]
+#[derive(Clone, Copy)]
 pub enum WriteAnswer {
     Bytes(usize),
     Refused { number: u32, needed: usize },

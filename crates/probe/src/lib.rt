@@ -1,5 +1,7 @@
 // The ground's public functions over the C boundary, for the comparison with the independent Rust reader only. Answers are flat:
 // numbers, or structs of numbers. Where a called function requires something, that is tested first, and else a fixed value answered.
+#![tactic(auto)]
+
 ghost use Rattle.std.specs.Prelude.{◌≡◌, cond, not, true, false, ◌&&◌, ◌||◌, ℕ, ◌-◌, ◌<◌, ltb, leb, length};
 ghost use Rattle.base.specs.Lists.{every};
 ghost use Rattle.columns.specs.Columns.{columns, column, is_of, number, count_to};
@@ -22,7 +24,7 @@ use lines::{Cut, reader};
 
 // Where a line's text stops, where the next line starts, and its number.
 #[repr(C)]
-#[derive(Drop)]
+#[derive(Clone, Copy)]
 pub struct Step {
     pub stop: usize,
     pub next: usize,
@@ -31,7 +33,7 @@ pub struct Step {
 
 // One case of an enum, and its value (0 where it has none).
 #[repr(C)]
-#[derive(Drop)]
+#[derive(Clone, Copy)]
 pub struct Told {
     pub kind: u32,
     pub value: u32,
@@ -39,7 +41,7 @@ pub struct Told {
 
 // A bit field.
 #[repr(C)]
-#[derive(Drop)]
+#[derive(Clone, Copy)]
 pub struct Words {
     pub words: [u32; BIT_WORDS],
 }

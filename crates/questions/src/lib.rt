@@ -1,5 +1,7 @@
 // The questions that go by no service: whether a bit field runs on a date, and how long an interchange takes, between two classes or two categories.
 // Each of any words, and (`day_by`, `interchange_by`, `between_by`, which the quick questions share) of words and an index that look-ups may go by.
+#![tactic(auto)]
+
 ghost use Rattle.std.specs.Prelude.{◌≡◌, cond, ◌&&◌, ◌<◌, leb};
 ghost use Rattle.timetable.specs.Layout.{most_class, most_period_days};
 ghost use Rattle.timetable.specs.Questions.{dated, day_by, day_in, day_asked, first_time_class, minutes_for, interchange_in};

@@ -1,5 +1,7 @@
 // The words of a service's ranges of one kind, from its draft: `calls` holds c drafted calls, `ranges` n drafted ranges. The check counts legs on them,
 // and the service is written with them.
+#![tactic(auto)]
+
 ghost use Rattle.std.specs.Prelude.{◌≡◌, true, ◌+◌, ◌*◌, ◌≤◌, length, drop};
 ghost use Rattle.words.specs.Words.{write};
 ghost use Rattle.timetable.specs.Plan.{part_number, is_part};
@@ -11,7 +13,7 @@ use route::RangeFound;
 use timetable::{RangeKind, RangeLine};
 
 // What a range gives to a part of the service's words: nothing, or three or four words.
-#[derive(Drop)]
+#[derive(Clone, Copy)]
 enum Given {
     Nothing,
     Three(u32, u32, u32),

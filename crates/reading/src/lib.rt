@@ -1,5 +1,7 @@
 // Reads FPLAN service by service: each line of a service is cut and told once, and drafted. A service ends where the next line that opens one
 // starts, or with the file.
+#![tactic(auto)]
+
 ghost use Rattle.std.specs.Prelude.{◌≡◌, ◌++◌, true, ◌+◌, ◌-◌, ◌≤◌, ◌<◌, length, take, drop, leb};
 ghost use Rattle.lines.specs.Lines.{cut_at};
 ghost use Rattle.timetable.specs.Layout.{most_file_bytes, most_calls};
@@ -26,7 +28,7 @@ use lines::{Cut, reader};
 use timetable::{Offence, Opening, RangeKind, Told, Verdict};
 
 // A service as it was read and drafted, or the first own offence of its lines.
-#[derive(Drop)]
+#[derive(Clone, Copy)]
 pub enum Read {
     Service(Drafted),
     Refused(Offence),
@@ -34,14 +36,14 @@ pub enum Read {
 
 // Where the first service begins: the place and the number of its line (the file's end, where there is none); or the first line before it
 // that is not skipped (12).
-#[derive(Drop)]
+#[derive(Clone, Copy)]
 pub enum Head {
     Clear(usize, u32),
     Stray(Offence),
 }
 
 // The next line of a service: what it says, and the place and the number of the line after it; or that the service has no more.
-#[derive(Drop)]
+#[derive(Clone, Copy)]
 enum Next {
     Line(Told, usize, u32),
     End,

@@ -1,4 +1,6 @@
 // Words that are enough for a delivery, from the sizes of its files alone: so nobody has to load twice to learn how many.
+#![tactic(auto)]
+
 ghost use Rattle.std.specs.Prelude.{◌≡◌, ◌≤◌};
 ghost use Rattle.timetable.specs.Layout.{most_file_bytes};
 ghost use Rattle.room.specs.Room.{counted, room_for, Enough};

@@ -1,4 +1,6 @@
 // Where a range starts and ends, on the calls of its route as the draft holds them (5.3.1).
+#![tactic(auto)]
+
 ghost use Rattle.std.specs.Prelude.{◌≡◌, ◌+◌, ◌*◌, ◌-◌, ◌%◌, ◌≤◌, cond, ◌&&◌, eqb, ltb, length, drop};
 ghost use Rattle.std.proofs.Math.Option.{none, some};
 ghost use Rattle.std.proofs.Math.ListN.{get_elem?};
@@ -13,7 +15,7 @@ use fields::{Appearance, Detail, RangeEnd, RouteIndex, StopNumber};
 use timetable::{Call, DEPARTURE, End, Ends, RangeKind, RangeLine};
 
 // Which calls are sought: those at a stop, those that depart there at a time, or those that arrive there at one.
-#[derive(Drop)]
+#[derive(Clone, Copy)]
 enum Sought {
     Calling(StopNumber),
     Departing(StopNumber, u32),
@@ -21,14 +23,14 @@ enum Sought {
 }
 
 // A call of the route, or that there is none.
-#[derive(Drop)]
+#[derive(Clone, Copy)]
 enum Place {
     At(RouteIndex),
     Nowhere,
 }
 
 // Both ends of a range in order, or that one is not found or they are not.
-#[derive(Drop)]
+#[derive(Clone, Copy)]
 pub enum RangeFound {
     Between(RouteIndex, RouteIndex),
     Missing,

@@ -1,4 +1,6 @@
 // The runs of a service, by what its opening line says: which there are, how late each is, and what a table asks of the line's numbers (21).
+#![tactic(auto)]
+
 ghost use Rattle.std.specs.Prelude.{◌≡◌, true, ◌&&◌, ◌*◌, ◌≤◌, leb};
 ghost use Rattle.timetable.specs.Layout.{most_running, most_delay};
 ghost use Rattle.timetable.specs.Runs as R;

@@ -1,6 +1,8 @@
 // BITFELD, BAHNHOF and UMSTEIGB: each line's own checks, and look-ups by number. The checks put each record into a map in lent words, four for each line, and
 // a look-up takes no longer in a long file than in a short one. ZUGART's lines are given no words of their own: what is here of them is what a line holds; the
 // crate `classes` checks them.
+#![tactic(auto)]
+
 ghost use Rattle.std.specs.Prelude.{◌≡◌, true, cond, not, ◌||◌, ◌%◌, ◌≤◌, length, take, drop, eqb};
 ghost use Rattle.base.specs.Lists.{every};
 ghost use Rattle.columns.specs.Columns.{columns, is_hex, number};
@@ -31,7 +33,7 @@ use names::name_field;
 use timetable::{BIT_WORDS, Checked, Offence, Verdict};
 
 // The sections of the table that files 2 to 4 and 6 give.
-#[derive(Drop)]
+#[derive(Clone, Copy)]
 pub enum Section {
     BitFields,
     Stops,
@@ -40,7 +42,7 @@ pub enum Section {
 }
 
 // The number of the record on a line; a line that is skipped has none, nor has one whose form is broken (the column where it is).
-#[derive(Drop)]
+#[derive(Clone, Copy)]
 pub enum Numbered {
     Number(u32),
     Skipped,

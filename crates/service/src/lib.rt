@@ -1,5 +1,7 @@
 // The checks of one service of FPLAN: every line's own checks as it is read, then the service's on its draft, the last of them on the words of its
 // *G and *A VE ranges.
+#![tactic(auto)]
+
 ghost use Rattle.std.specs.Prelude.{◌≡◌, true, ℕ, ◌+◌, ◌-◌, ◌*◌, ◌≤◌, ◌<◌, length};
 ghost use Rattle.base.specs.Lists.{every, below};
 ghost use Rattle.cover.specs.Inner.Cover.{once_in};
@@ -29,7 +31,7 @@ pub mod schedule;
 
 // What checking a service answers: the words that it takes and where the next service begins (the place and the number of its opening line, or of
 // the file's end); or its first offence.
-#[derive(Drop)]
+#[derive(Clone, Copy)]
 pub enum ServiceCheck {
     Takes { words: u32, end: usize, no: u32 },
     Refused(Offence),

@@ -15,14 +15,14 @@ use route::RangeFound;
 use timetable::{Call, RangeKind, Verdict};
 
 // The places after the *G ranges and after the *A VE ranges that are written.
-#[derive(Drop)]
+#[derive(Clone, Copy)]
 struct RowEnds {
     pub categories: usize,
     pub operating: usize,
 }
 
 // Where they are after one range more, or that its ends are not found, or are in wrong order.
-#[derive(Drop)]
+#[derive(Clone, Copy)]
 enum RangeRow {
     Written(RowEnds),
     Missing,

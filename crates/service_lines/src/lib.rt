@@ -1,5 +1,7 @@
 // The record of a service as lines of FPLAN: where its ranges stand, its calls with their stops' numbers, how many lines it has; and whether all that a
 // table holds can be written (44). `w` are the words of just a table, `s` those from a service's record on.
+#![tactic(auto)]
+
 ghost use Rattle.std.specs.Prelude.{◌≡◌, true, ◌+◌, ◌^◌, ◌≤◌, ◌<◌, length, drop};
 ghost use Rattle.base.specs.Lists.{every};
 ghost use Rattle.timetable.specs.Layout.{call_size};

@@ -1,5 +1,7 @@
 // Writes a service's words from its draft: `calls` holds c drafted calls, `ranges` n drafted ranges; the words stand in `table` from `at` on. A call is
 // written with the place of its stop (document 02, No. 10), which is found by `stops`, the map of BAHNHOF.
+#![tactic(auto)]
+
 ghost use Rattle.std.specs.Prelude.{◌≡◌, ◌+◌, ◌-◌, ◌*◌, ◌/◌, ◌≤◌, length};
 ghost use Rattle.base.specs.Lists.{gathered};
 ghost use Rattle.words.specs.Words.{write};
@@ -15,7 +17,7 @@ use draft::{DRAFT_CALL_WORDS, Drafted};
 use timetable::{Call, Opening, RangeKind};
 
 // How many calls and ranges a service has, and how many words it takes.
-#[derive(Drop)]
+#[derive(Clone, Copy)]
 struct Sizes {
     pub calls: u32,
     pub categories: u32,
@@ -25,7 +27,7 @@ struct Sizes {
 }
 
 // The places after a service's *G, *A VE and other *A ranges.
-#[derive(Drop)]
+#[derive(Clone, Copy)]
 struct RangeEnds {
     pub categories: usize,
     pub day_ranges: usize,

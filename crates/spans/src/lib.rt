@@ -1,4 +1,6 @@
 // The runs of a service that leave a call within a span of time, found by arithmetic: no run is tried (specs/Spans).
+#![tactic(auto)]
+
 ghost use Rattle.std.specs.Prelude.{◌≡◌, true};
 ghost use Rattle.timetable.specs.Runs.{opening_sound};
 ghost use Rattle.spans.specs.Spans as S;
@@ -6,7 +8,7 @@ ghost use Rattle.spans.specs.Spans as S;
 use timetable::{KIND_T, Opening};
 
 // Runs: from one on, and below another.
-#[derive(Drop)]
+#[derive(Clone, Copy)]
 pub struct Span {
     pub low: u32,
     pub high: u32,

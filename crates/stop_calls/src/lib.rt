@@ -1,6 +1,8 @@
 // The calls at a stop, one after the other, by its number: along the chain of the stops with that number in the words `x`, and for each along the chain of its calls in
 // the words `y`. Any words will do: a chain goes on only to a smaller number, and no more calls are met than are asked for (specs/StopCalls).
 // The stop section has n records and ends at `end` of the table's words `w`; its chains begin at `from`.
+#![tactic(auto)]
+
 ghost use Rattle.std.specs.Prelude.{◌≡◌, ◌∷◌, ◌+◌, ◌-◌, ◌*◌, ◌≤◌, ◌<◌, length, take};
 ghost use Rattle.base.specs.Lists.{gathered};
 ghost use Rattle.timetable.specs.Layout.{stop_size};
@@ -11,7 +13,7 @@ ghost use Rattle.stop_calls.specs.StopCalls.{last_on, before_on};
 use timetable::STOP_WORDS;
 
 // A call by its number (0 for none), its stop, counted from the end of the stop section, and how many calls may still come, with it.
-#[derive(Drop)]
+#[derive(Clone, Copy)]
 pub struct Cursor {
     pub call: u32,
     pub stop: u32,

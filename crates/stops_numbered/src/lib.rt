@@ -1,5 +1,7 @@
 // The places of the stop section that have a number, one after the other: a board goes by a stop's number, and words from elsewhere may list it twice.
 // On any words and any index each place that is told has the number, and the next is a later one (proofs/Numbered).
+#![tactic(auto)]
+
 ghost use Rattle.std.specs.Prelude.{◌≡◌, true, ◌+◌, ◌-◌, ◌*◌, ◌≤◌, ◌<◌, length};
 ghost use Rattle.timetable.specs.Layout.{stop_size};
 ghost use Rattle.timetable.specs.Table.{stops#};

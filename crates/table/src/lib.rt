@@ -1,5 +1,7 @@
 // Whether any words are a table (21), the words that a table uses, and the sections of its records.
 // Sums of words are taken in 64 bits, and no word is read before its place is known to be there.
+#![tactic(auto)]
+
 ghost use Rattle.std.specs.Prelude.{◌≡◌, true, false, ◌&&◌, ◌+◌, ◌*◌, ◌≤◌, length, drop, leb, eqb};
 ghost use Rattle.base.specs.Lists.{every};
 ghost use Rattle.timetable.specs.Layout.{header_size, class_size, service_head, call_size, record_size, first_service};
@@ -26,7 +28,7 @@ pub mod steady;
 const AFTER_LAST_DAY: u64 = calendar::LAST_DAY as u64 + 1;
 
 // What a look at words tells: whether they are a table, and of a table whether its calls are steady (specs/Steady).
-#[derive(Drop)]
+#[derive(Clone, Copy)]
 pub struct Look {
     pub table: bool,
     pub steady: bool,

@@ -1,4 +1,6 @@
 // The words of a delivery that was checked, written into a table that has room for them.
+#![tactic(auto)]
+
 ghost use Rattle.std.specs.Prelude.{◌≡◌, ◌++◌, true, ◌+◌, ◌≤◌, length};
 ghost use Rattle.std.proofs.Math.Option.{none};
 ghost use Rattle.lines.specs.Lines.{lines_of};
@@ -18,7 +20,7 @@ pub mod section_words;
 
 // The table's header: the words used, the period, how many records each section has, and the place of the first service. "The last being the count of
 // categories".
-#[derive(Drop)]
+#[derive(Clone, Copy)]
 pub struct Header {
     pub words: u32,
     pub start: u32,

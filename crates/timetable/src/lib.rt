@@ -1,5 +1,7 @@
 // What a delivery and its table are made of: the types and the sizes that the loader, the table and the questions share.
 // The rules of document 01 on them stand in specs/; the code that keeps them stands in the crates above.
+#![tactic(auto)]
+
 ghost use Rattle.std.specs.Prelude.{◌≡◌, [], ◌∷◌, ◌+◌, ◌^◌, ◌≤◌, ◌<◌, length, drop};
 ghost use Rattle.std.proofs.Math.Option.{some};
 ghost use Rattle.timetable.specs.Offences.{offence_at, verdict_by};
@@ -24,7 +26,7 @@ pub use forms::MOST_FILE_BYTES;
 
 // A line that opens a service: number, administration (two words of three bytes), and its kind; of a *Z its repeats and offset in minutes, of a *T its
 // running time in minutes and its density in seconds, in their places.
-#[derive(Drop)]
+#[derive(Clone, Copy)]
 pub struct Opening {
     pub number: u32,
     pub high: u32,
@@ -36,7 +38,7 @@ pub struct Opening {
 
 // A schedule line: stop, times, and flags (1 arrival stated, 2 departure stated, 4 no alighting, 8 no boarding); a number, where it says one, and an
 // administration (two words of three bytes), where it says one.
-#[derive(Drop)]
+#[derive(Clone, Copy)]
 pub struct CallLine {
     pub stop: u32,
     pub arrival: u32,
@@ -50,20 +52,20 @@ pub struct CallLine {
 }
 
 // Where a range starts or ends, as its line says it; the detail counts only beside a stop.
-#[derive(Drop)]
+#[derive(Clone, Copy)]
 pub struct End {
     pub place: RangeEnd,
     pub detail: Detail,
 }
 
-#[derive(Drop)]
+#[derive(Clone, Copy)]
 pub struct Ends {
     pub from: End,
     pub to: End,
 }
 
 // The three kinds of ranges, in the table's order: *G, *A VE, and other *A.
-#[derive(Drop)]
+#[derive(Clone, Copy)]
 pub enum RangeKind {
     Category,
     Days,
@@ -71,7 +73,7 @@ pub enum RangeKind {
 }
 
 // The line of a range: its category as three bytes or its code as two, its bit field (0 for daily, and of a *G), and its ends.
-#[derive(Drop)]
+#[derive(Clone, Copy)]
 pub struct RangeLine {
     pub part: RangeKind,
     pub name: u32,
@@ -81,7 +83,7 @@ pub struct RangeLine {
 
 // What a line of FPLAN says: nothing (skipped), something of another kind, something whose form is broken (the column where it is), or one of
 // the kinds.
-#[derive(Drop)]
+#[derive(Clone, Copy)]
 pub enum Told {
     Skip,
     Other,
@@ -145,7 +147,7 @@ fn wide(b: u8) -> u32
 // ---- calls
 
 // What conductors announce: the number and the administration that hold at a call.
-#[derive(Drop)]
+#[derive(Clone, Copy)]
 pub struct Announced {
     pub number: u32,
     pub high: u32,
@@ -154,7 +156,7 @@ pub struct Announced {
 
 // A call of a service: what its line says of stop, times and flags, and the number and the administration that hold there. Its stop is a number; in a
 // table's own calls it is a place in the stop section.
-#[derive(Drop)]
+#[derive(Clone, Copy)]
 pub struct Call {
     pub stop: u32,
     pub arrival: u32,
@@ -197,14 +199,14 @@ pub fn has_departure(call: Call) -> bool
 // ---- ranges, as a table's words hold them
 
 // The calls where a range begins and ends.
-#[derive(Drop)]
+#[derive(Clone, Copy)]
 pub struct LegWords {
     pub from: u32,
     pub to: u32,
 }
 
 // A *G: its category, and its ends.
-#[derive(Drop)]
+#[derive(Clone, Copy)]
 pub struct CategoryWords {
     pub name: u32,
     pub from: u32,
@@ -212,7 +214,7 @@ pub struct CategoryWords {
 }
 
 // A *A VE: its bit field (0 for daily), and its ends.
-#[derive(Drop)]
+#[derive(Clone, Copy)]
 pub struct DayWords {
     pub field: u32,
     pub from: u32,
@@ -220,7 +222,7 @@ pub struct DayWords {
 }
 
 // Another *A: its code, its bit field (0 for daily), and its ends.
-#[derive(Drop)]
+#[derive(Clone, Copy)]
 pub struct ExtraWords {
     pub code: u32,
     pub field: u32,
@@ -277,7 +279,7 @@ pub fn extra_at(w: &[u32], at: usize) -> ExtraWords
 // ---- offences
 
 // An offence of a file: its number, its line, and the column where a form is broken (0 unless 4).
-#[derive(Drop)]
+#[derive(Clone, Copy)]
 pub struct Offence {
     pub number: u32,
     pub line: u32,
@@ -296,7 +298,7 @@ pub fn offence_at(number: u32, line: u32) -> Offence
 }
 
 // No offence, or the first.
-#[derive(Drop)]
+#[derive(Clone, Copy)]
 pub enum Verdict {
     Fine,
     Offends(Offence),
@@ -310,7 +312,7 @@ pub fn offends(number: u32, line: u32) -> Verdict
 }
 
 // What checking a part of a delivery answers: the two numbers that it is asked for, or its first offence.
-#[derive(Drop)]
+#[derive(Clone, Copy)]
 pub enum Checked {
     Holds(u32, u32),
     Refused(Offence),
@@ -319,7 +321,7 @@ pub enum Checked {
 // ---- answers
 
 // What load answers: the words used, or number, file, line and column (0 unless 4) of the first offence, and the words needed (0 unless 20 or 51).
-#[derive(Drop)]
+#[derive(Clone, Copy)]
 pub enum Loaded {
     Accepted(u32),
     Refused {
@@ -332,7 +334,7 @@ pub enum Loaded {
 }
 
 // What a day question answers.
-#[derive(Drop)]
+#[derive(Clone, Copy)]
 pub enum DayAnswer {
     Runs,
     Idle,
@@ -340,21 +342,21 @@ pub enum DayAnswer {
 }
 
 // What an interchange question answers.
-#[derive(Drop)]
+#[derive(Clone, Copy)]
 pub enum InterchangeAnswer {
     Minutes(u32),
     Refused(u32),
 }
 
 // What a question for a stop's name answers: the part of BAHNHOF that holds the name, by the byte where it starts, from 0, and its length.
-#[derive(Drop)]
+#[derive(Clone, Copy)]
 pub enum NameAnswer {
     Part { start: usize, size: usize },
     Refused(u32),
 }
 
 // What a service does on a day: the stretch that it runs along, by its first call and its number of legs; that it does not run; or the number of the refusal.
-#[derive(Drop)]
+#[derive(Clone, Copy)]
 pub enum Course {
     Along { start: u32, legs: u32 },
     NotRunning,
@@ -362,7 +364,7 @@ pub enum Course {
 }
 
 // What a walk answers: how many rows it lists, that the service is not running, or the refusal and the words needed (0 unless 29).
-#[derive(Drop)]
+#[derive(Clone, Copy)]
 pub enum Walked {
     Listed(u32),
     NotRunning,

@@ -1,5 +1,7 @@
 // The index of a table, made: the words of the look-ups, then the words of the calls at each stop, and a mark whether the table's calls are steady. It is never longer
 // than the table (`whole-within`, proofs/Whole).
+#![tactic(auto)]
+
 ghost use Rattle.std.specs.Prelude.{◌≡◌, cond, ◌≤◌, length};
 ghost use Rattle.table.specs.JustTable.{JustTable};
 ghost use Rattle.table.specs.Steady.{steady};
@@ -9,7 +11,7 @@ ghost use Rattle.whole_index.specs.Whole.{marked_calls, marked_size, whole_index
 ghost use Rattle.whole_index.specs.Whole.{made_of, index_into};
 
 // That an index was made, of so many words; or 21 and 29, with the words needed.
-#[derive(Drop)]
+#[derive(Clone, Copy)]
 pub enum Made {
     Index(usize),
     Refused { number: u32, needed: usize },

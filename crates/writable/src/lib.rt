@@ -1,4 +1,6 @@
 // What the columns of FPLAN's clean text can hold and give back (44, document 02, No. 11): a test for each kind of line.
+#![tactic(auto)]
+
 ghost use Rattle.std.specs.Prelude.{◌≡◌, ◌&&◌};
 ghost use Rattle.base.specs.Lists.{every};
 ghost use Rattle.line_text.specs.Text.{two_of, three_of};

@@ -1,0 +1,18 @@
+use Prim.Native.Nat.{◌-◌}
+use Rattle.columns.proofs.Laws.{turns}
+use Rattle.columns.proofs.count_of.Goals as goal
+
+pub byte_at-requires : goal.byte_at-requires
+byte_at-requires c = search turns
+
+pub every_from-requires : goal.every_from-requires
+every_from-requires c = search turns
+
+pub returns-then-byte_at-ne32 : goal.returns-then-byte_at-ne32
+returns-then-byte_at-ne32 c = search turns
+
+pub overflow_add-i : goal.overflow_add-i
+overflow_add-i c = search turns
+
+pub returns : goal.returns
+returns c = search turns

@@ -1,0 +1,17 @@
+use Rattle.base.proofs.Laws.{tests}
+use Rattle.columns.proofs.digit_value.Goals as goal
+
+pub overflow_cast-result-in-48-to-57 : goal.overflow_cast-result-in-48-to-57
+overflow_cast-result-in-48-to-57 c = search tests
+
+pub overflow_sub-result : goal.overflow_sub-result
+overflow_sub-result c = search tests
+
+pub returns-in-48-to-57 : goal.returns-in-48-to-57
+returns-in-48-to-57 c = search tests
+
+pub returns-in_default : goal.returns-in_default
+returns-in_default c = search tests
+
+pub returns-in_default-2 : goal.returns-in_default-2
+returns-in_default-2 c = search tests

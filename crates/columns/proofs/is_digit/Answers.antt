@@ -1,0 +1,11 @@
+use Rattle.base.proofs.Laws.{tests}
+use Rattle.columns.proofs.is_digit.Goals as goal
+
+pub returns-in-48-to-57 : goal.returns-in-48-to-57
+returns-in-48-to-57 c = search tests
+
+pub returns-in_default : goal.returns-in_default
+returns-in_default c = search tests
+
+pub returns-in_default-2 : goal.returns-in_default-2
+returns-in_default-2 c = search tests
