@@ -18,8 +18,6 @@ returns-in-48-to-57 c = search tests
 pub returns-in-65-to-70 : goal.returns-in-65-to-70
 returns-in-65-to-70 c = search tests
 
-pub returns-in_default : goal.returns-in_default
-returns-in_default c = rw (lt-leb 48 c.args.b c.if-b-lt48.true, lt-leb 65 c.args.b (omega arith))
 
 pub returns-in_default-2 : goal.returns-in_default-2
 returns-in_default-2 c = search tests

@@ -18,15 +18,3 @@ enum_told-in-Filled c = search tests
 
 pub enum_known-class : goal.enum_known-class
 enum_known-class c = search tests
-
-pub returns-in-Digit : goal.returns-in-Digit
-returns-in-Digit c = rw c.enum_told-1.given.1 c.is_digit.ensures
-
-pub returns-in-Hex : goal.returns-in-Hex
-returns-in-Hex c = rw c.enum_told-in-Hex-1.given.1 c.is_hex.ensures
-
-pub returns-in-Filled : goal.returns-in-Filled
-returns-in-Filled c = rw c.enum_told-in-Filled-1.given.1
-
-pub returns-in-Byte : goal.returns-in-Byte
-returns-in-Byte c = rw c.class-1.given.1
