@@ -1,0 +1,10 @@
+use mathlib.Core.Path.{◌≡◌}
+use Prim.Native.Nat.{◌+◌, ◌≤◌}
+use Rattle.chain_check.specs.Tally.{count_from, chain_count}
+use Rattle.chain_check.proofs.chain_count.Given as goal
+
+abbrev pub invariant-loop-e : goal.invariant-loop-e
+invariant-loop-e l = (l.bound ≤ l.n) × (l.c + l.bound ≤ l.n) × (count_from l.w l.end l.size l.n l.m l.b l.c l.bound l.e ≡ chain_count l.w l.end l.size l.n l.m l.b)
+
+abbrev pub decreases-loop-e : goal.decreases-loop-e
+decreases-loop-e l = l.bound
