@@ -1,0 +1,5 @@
+use Rattle.byte_words.proofs.Numbers.{flips}
+use Rattle.byte_words.proofs.eight_values.Goals as goal
+
+pub returns : goal.returns
+returns c = search flips

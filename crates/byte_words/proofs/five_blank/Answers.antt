@@ -1,0 +1,5 @@
+use Rattle.byte_words.proofs.Times.{timing}
+use Rattle.byte_words.proofs.five_blank.Goals as goal
+
+pub returns : goal.returns
+returns c = search timing
