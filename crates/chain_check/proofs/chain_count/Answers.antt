@@ -23,7 +23,6 @@ count-requires c = search counts
 pub overflow_add-result : goal.overflow_add-result
 overflow_add-result c = search counts
 
-
 pub bucket_at-requires : goal.bucket_at-requires
 bucket_at-requires c = search counts
 
@@ -32,7 +31,6 @@ count-requires-then-bucket_at-j c = search counts
 
 pub overflow_add-result-then-bucket_at-j : goal.overflow_add-result-then-bucket_at-j
 overflow_add-result-then-bucket_at-j c = search counts
-
 
 pub overflow_add-c : goal.overflow_add-c
 overflow_add-c c = search counts
@@ -61,3 +59,11 @@ loop-e-smaller c = search counts
 pub loop-e-preserved : goal.loop-e-preserved
 loop-e-preserved c = (omega arith, omega arith, search counts)
 
+pub returns-then-bound-e-clause-value : goal.returns-then-bound-e-clause-value
+returns-then-bound-e-clause-value c = search counts
+
+pub returns-then-bucket_at-j-clause-value : goal.returns-then-bucket_at-j-clause-value
+returns-then-bucket_at-j-clause-value c = search counts
+
+pub returns-clause-value : goal.returns-clause-value
+returns-clause-value c = search counts

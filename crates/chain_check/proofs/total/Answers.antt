@@ -1,4 +1,3 @@
-use Prim.Native.Nat.{◌-◌}
 use native.Mathlib.Omega.{arith}
 use Rattle.chain_check.proofs.Needs.{totals}
 use Rattle.chain_check.proofs.total.Goals as goal
