@@ -1,4 +1,6 @@
 use Rattle.base.proofs.Laws.{tests}
+use native.Mathlib.Omega.{arith}
+use Rattle.words.proofs.Laws.{twelve}
 use Rattle.words.proofs.put12.Goals as goal
 
 pub bounds-w-0 : goal.bounds-w-0
@@ -54,3 +56,8 @@ put4-requires-3 c = search tests
 
 pub shape_of-t : goal.shape_of-t
 shape_of-t c = search tests
+
+pub returns : goal.returns
+returns c =
+    twelve c.args.t.now c.put4.new.t c.put4-2.new.t c.put4-3.new.t c.args.w c.args.at c.requires
+    (omega arith) c.put4.ensures c.put4-2.ensures c.put4-3.ensures
