@@ -1,0 +1,11 @@
+use Prim.Native.Nat.{◌-◌}
+use Rattle.bitfield.specs.BitField.{bit_words}
+use Rattle.bitfield.proofs.Fill.{Filled}
+use Rattle.bitfield.proofs.Sets.{less, wordwise}
+use Rattle.bitfield.proofs.without.Given as goal
+
+abbrev pub invariant-loop-i : goal.invariant-loop-i
+invariant-loop-i l = Filled (wordwise less l.a l.b) l.r l.i
+
+abbrev pub decreases-loop-i : goal.decreases-loop-i
+decreases-loop-i l = bit_words - l.i
