@@ -2,12 +2,12 @@
 use Prim.Native.Nat.{ℕ}
 use mathlib.Core.Path.{◌≡◌, refl}
 use mathlib.Core.List.{List, [], ◌∷◌, ◌++◌}
-use mathlib.Core.Bool.{Bool, true, false}
+use mathlib.Core.Bool.{true, false}
 use mathlib.Core.Option.{Option, none, some}
 use lib.ListN.{length, take, drop}
 use Rattle.base.specs.Lists.{some_of, find}
 use Rattle.base.specs.Text.{bytes}
-use Rattle.names.specs.Grammar.{among, languages, is_language, Named}
+use Rattle.names.specs.Grammar.{among, languages}
 use Rattle.names.specs.Names.{span, closed, body_of, body_size, has_pattern, pattern_of, pattern_size, names_from, patterns_from, name_list, is_name_list, askable, wanted_by, allows, fits, name_for}
 use Rattle.names.specs.declared.Name.{Name}
 

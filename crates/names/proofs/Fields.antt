@@ -1,16 +1,15 @@
 -- The needs of `is_name_list` and `name_for`, for `search answering`. Assumes nothing.
 use mathlib.Core.Path.{◌≡◌, refl, sym, ap, ◌∙◌}
-use mathlib.Core.List.{List, [], ◌∷◌, ◌++◌}
-use mathlib.Core.Bool.{Bool, true, false, cond}
+use mathlib.Core.List.{List, [], ◌∷◌}
+use mathlib.Core.Bool.{true, false}
 use mathlib.Core.Option.{Option, none, some}
-use Prim.Native.Nat.{ℕ, zero, suc, ◌+◌, ◌≤◌, ◌<◌}
+use Prim.Native.Nat.{ℕ, ◌≤◌, ◌<◌}
 use lib.ListN.{length, drop}
-use lib.Dec.{leb}
 use borrow.Author.Tests.{le-leb, lt-leb}
-use Rattle.base.specs.Lists.{find, some_of}
+use Rattle.base.specs.Lists.{find}
 use Rattle.base.proofs.Laws.{tests, apart}
 use Rattle.names.specs.Grammar.{dollar, is_plain, Named, IsNames, last_name, then-name, then-patterns}
-use Rattle.names.specs.Names.{span, names_of, name_list, is_name_list, is_read, fitting, name_else, answer_in, answer_by, name_for}
+use Rattle.names.specs.Names.{span, names_of, name_list, is_name_list, is_read, fitting, name_else, answer_by, name_for}
 use Rattle.names.specs.Inner.Answers.{fit_by, found_in, chosen_by}
 use Rattle.names.specs.declared.Name.{Name}
 use Rattle.names.specs.declared.Wanted.{Wanted}

@@ -5,12 +5,12 @@ use mathlib.Core.Bool.{Bool, true, false, cond}
 use mathlib.Core.Option.{Option, none, some}
 use Prim.Native.Nat.{ℕ, zero, suc, ◌+◌, ◌≤◌, ◌<◌}
 use native.Mathlib.Omega.{arith}
-use lib.ListN.{length, take, drop, length-append, length-drop}
-use lib.Seq.{drop-drop, drop-append-add, drop-append_seam, take-append_seam, take-length}
+use lib.ListN.{length, drop, length-append, length-drop}
+use lib.Seq.{drop-drop, drop-append-add, drop-append_seam, take-append_seam}
 use Rattle.base.specs.Lists.{All, nil, cons, find}
 use Rattle.base.proofs.Laws.{apart, clash}
-use Rattle.names.specs.Grammar.{dollar, Pattern, Named, named, IsName, IsPattern, IsNames, IsPatterns, last_name, then-name, then-patterns, last-pattern, more-patterns, dollar-name, name-at-once}
-use Rattle.names.specs.Names.{names_of, name_list, is_read, is_name_list, fitting, name_else, answer_by, name_for, IsPart}
+use Rattle.names.specs.Grammar.{dollar, Pattern, Named, IsName, IsNames, IsPatterns, last_name, then-name, then-patterns, last-pattern, more-patterns, dollar-name, name-at-once}
+use Rattle.names.specs.Names.{name_list, is_read, is_name_list, fitting, name_else, answer_by, name_for, IsPart}
 use Rattle.names.specs.declared.Name.{Name}
 use Rattle.names.specs.declared.Wanted.{Wanted}
 use Rattle.names.proofs.Spans.{inside}

@@ -1,8 +1,8 @@
 -- The needs of the code, a ruleset for each family: `loops`, `patterns`, `names`, `asking`. Assumes nothing.
-use mathlib.Core.Path.{◌≡◌, refl, sym, ap, ◌∙◌}
+use mathlib.Core.Path.{◌≡◌, refl, sym, ◌∙◌}
 use mathlib.Core.List.{List, [], ◌∷◌}
 use mathlib.Core.Bool.{Bool, true, false, cond, not, ◌&&◌, ◌||◌}
-use Prim.Native.Nat.{ℕ, zero, suc, ◌+◌, ◌-◌, ◌≤◌, ◌<◌}
+use Prim.Native.Nat.{ℕ, suc, ◌+◌, ◌≤◌, ◌<◌}
 use native.Mathlib.Nat.{zero-add}
 use native.Mathlib.Omega.{arith}
 use lib.ListN.{length, get_or, drop, drop_of_length-le}
@@ -10,7 +10,7 @@ use lib.Dec.{eqb, leb}
 use borrow.Author.Tests.{eq-eqb, ne_eqb, le-leb, lt-leb, leb-true, not-true, not-false}
 use Rattle.base.specs.Lists.{every}
 use Rattle.base.proofs.Laws.{tests, clash, drop-next}
-use Rattle.names.specs.Grammar.{is_plain, among, languages, is_language, is_type, Pattern}
+use Rattle.names.specs.Grammar.{is_plain, among, languages, is_language, is_type}
 use Rattle.names.specs.Names.{span, language_known, type_digit, wanted_by, allows, fits}
 use Rattle.names.specs.Inner.Answers.{is_of, asked_by, first_of}
 use Rattle.names.specs.declared.Name.{Name}

@@ -1,23 +1,22 @@
 -- The needs of `pattern_at`, for `search opening`, and of `behind_opening`, for `search behind`. Assumes nothing.
-use mathlib.Core.Path.{◌≡◌, refl, sym, ap, ◌∙◌}
+use mathlib.Core.Path.{◌≡◌, refl, sym, ◌∙◌}
 use mathlib.Core.List.{List, [], ◌∷◌}
-use mathlib.Core.Bool.{Bool, true, false, cond, ◌&&◌}
+use mathlib.Core.Bool.{Bool, true, false, ◌&&◌}
 use Prim.Native.Nat.{ℕ, zero, suc, ◌+◌, ◌-◌, ◌≤◌, ◌<◌, ◌^◌}
 use native.Mathlib.Nat.{add-zero}
-use native.Mathlib.Numerals.{add-one}
 use native.Mathlib.Omega.{arith}
-use lib.ListN.{length, get_or, take, drop, length-drop, get_or-eq_default}
+use lib.ListN.{length, get_or, take, drop, length-drop}
 use lib.Seq.{drop-drop, get_or-drop}
-use lib.Dec.{eqb, leb, ltb}
-use borrow.Author.Tests.{eq-eqb, ne_eqb, lt-ltb, le-ltb}
+use lib.Dec.{eqb, ltb}
+use borrow.Author.Tests.{ne_eqb, lt-ltb}
 use Rattle.base.proofs.Laws.{tests, get_d_any}
-use Rattle.names.specs.Grammar.{opens, closes, is_language, is_type, Pattern}
+use Rattle.names.specs.Grammar.{opens, closes, is_language, is_type}
 use Rattle.names.specs.Names.{span, closed, body_of, body_size, has_pattern, pattern_of, pattern_size, fits}
 use Rattle.names.specs.Inner.Answers.{is_of, pattern_answer, behind_answer}
 use Rattle.names.specs.declared.Wanted.{Wanted}
 use Rattle.names.specs.declared.PatternRead.{PatternRead}
 use Rattle.names.specs.declared.PatternRead.TheVariants.{To, Nothing}
-use Rattle.names.specs.declared.NameByte.TheVariants.{Plain, Letter, Digit}
+use Rattle.names.specs.declared.NameByte.TheVariants.{Letter, Digit}
 use Rattle.names.proofs.Spans.{span-le}
 
 -- a byte that was read as no blank stands inside the field

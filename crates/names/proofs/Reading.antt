@@ -1,19 +1,19 @@
 -- The reader finds exactly the grammatical readings, and there is only one. Assumes nothing.
-use mathlib.Core.Path.{◌≡◌, refl, sym, ap, ◌∙◌}
+use mathlib.Core.Path.{◌≡◌, refl, sym, ◌∙◌}
 use mathlib.Core.List.{List, [], ◌∷◌, ◌++◌, append-nil}
-use mathlib.Core.Bool.{Bool, true, false, cond, ◌&&◌, ◌||◌}
+use mathlib.Core.Bool.{Bool, true, false, cond, ◌&&◌}
 use mathlib.Core.Option.{Option, none, some}
-use Prim.Native.Nat.{ℕ, zero, suc, ◌+◌, ◌-◌, ◌≤◌, ◌<◌}
+use Prim.Native.Nat.{ℕ, zero, suc, ◌+◌, ◌≤◌, ◌<◌}
 use native.Mathlib.Nat.{add-zero}
 use native.Mathlib.Numerals.{add-one}
 use native.Mathlib.Omega.{arith}
-use lib.ListN.{length, get_or, take, drop, length-append, length-take, length-drop, take-append-drop}
+use lib.ListN.{length, get_or, take, drop, length-append, length-take, take-append-drop}
 use lib.Seq.{split_at, drop-append_seam, drop-append-add, get_or-append_seam, get_or-append-add, length-take-le, take_all}
-use lib.Dec.{eqb, leb, ltb}
+use lib.Dec.{eqb, leb}
 use borrow.Author.Tests.{eq-eqb, ne_eqb, le-leb, leb-true, eqb-true, eqb-false}
 use Rattle.base.specs.Lists.{every}
 use Rattle.base.proofs.Laws.{clash, apart, by_eqb}
-use Rattle.names.specs.Grammar.{dollar, opens, closes, is_plain, Pattern, Named, named, IsName, IsPattern, IsNames, IsPatterns, last_name, then-name, then-patterns, last-pattern, more-patterns, dollar-name, name-at-once}
+use Rattle.names.specs.Grammar.{dollar, opens, is_plain, Pattern, Named, named, IsName, IsPattern, IsNames, IsPatterns, last_name, then-name, then-patterns, last-pattern, more-patterns, dollar-name, name-at-once}
 use Rattle.names.specs.Names.{span, has_pattern, pattern_of, pattern_size, Tail, mapped, names_from, patterns_from, names_of, patterns_of, most_name_bytes, name_list}
 use Rattle.names.proofs.Spans.{span-le, span-every, span-all, span-ends, inside, pattern-found, pattern-inside, pattern-long, pattern-there, pattern-read, pattern-size, pattern-opens}
 

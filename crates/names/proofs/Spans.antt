@@ -1,18 +1,17 @@
 -- Runs of bytes from the front of a text, and a pattern there. Assumes nothing.
-use mathlib.Core.Path.{◌≡◌, refl, sym, ap, ◌∙◌}
+use mathlib.Core.Path.{◌≡◌, refl, sym, ◌∙◌}
 use mathlib.Core.List.{List, [], ◌∷◌, ◌++◌, append_assoc, append-nil}
 use mathlib.Core.Bool.{Bool, true, false, cond, ◌&&◌, ◌||◌}
-use Prim.Native.Nat.{ℕ, zero, suc, ◌+◌, ◌-◌, ◌≤◌, ◌<◌}
-use native.Mathlib.Nat.{add-zero, zero-add, sub-zero}
-use native.Mathlib.Numerals.{add-one}
+use Prim.Native.Nat.{ℕ, zero, suc, ◌+◌, ◌≤◌, ◌<◌}
+use native.Mathlib.Nat.{add-zero, zero-add}
 use native.Mathlib.Omega.{arith}
 use lib.ListN.{length, get_or, take, drop, length-append, length-take, length-drop, take-append-drop}
-use lib.Seq.{drop-cons, split_at, take-append_seam, drop-append_seam, get_or-append-add, get_or-append_seam, get_or-drop, drop-drop, length-take-le, take-add, take-suc}
+use lib.Seq.{take-append_seam, drop-append_seam, get_or-append-add, get_or-append_seam, get_or-drop, take-add, take-suc}
 use lib.Dec.{eqb, leb, ltb}
-use borrow.Author.Tests.{eq-eqb, ne_eqb, lt-ltb, lt-leb, eqb-true, ltb-true, leb-true}
+use borrow.Author.Tests.{ne_eqb, lt-ltb, eqb-true, ltb-true, leb-true}
 use Rattle.base.specs.Lists.{every}
-use Rattle.base.proofs.Laws.{clash, by_eqb}
-use Rattle.names.specs.Grammar.{dollar, opens, closes, is_plain, among, languages, is_language, is_type, Pattern, IsName, IsPattern}
+use Rattle.base.proofs.Laws.{clash}
+use Rattle.names.specs.Grammar.{opens, closes, among, languages, is_language, is_type, Pattern, IsPattern}
 use Rattle.names.specs.Names.{span, closed, body_of, body_size, has_pattern, pattern_of, pattern_size}
 
 -- ---- spans

@@ -1,6 +1,6 @@
 -- Reading a name field, and the name that a language and a type ask for (request No. 3). What a name list is says Grammar; the reader here finds
 -- exactly that, and there is only one reading (`reads-right`, `reads_all`, `one-reading` in proofs/Reading). Assumes nothing.
-use Rattle.std.specs.Prelude.{ℕ, zero, suc, ◌+◌, ◌≤◌, List, [], ◌∷◌, Bool, true, false, cond, not, ◌&&◌, ◌||◌, length, get_or, take, drop, ltb, leb, eqb}
+use Rattle.std.specs.Prelude.{ℕ, zero, suc, ◌+◌, ◌≤◌, List, [], ◌∷◌, Bool, true, false, cond, ◌&&◌, ◌||◌, length, get_or, take, drop, ltb, leb, eqb}
 use Rattle.std.proofs.Math.Option.{Option, none, some}
 use Rattle.base.specs.Lists.{some_of, find}
 use Rattle.names.specs.Grammar.{dollar, opens, closes, is_plain, among, is_language, is_type, Pattern, Named, named, IsName}

@@ -1,6 +1,4 @@
 use Rattle.base.proofs.Laws.{tests}
-use Rattle.names.proofs.next_name.Reads as reads
-use Rattle.names.proofs.next_name.Lts as lts
 use Rattle.names.proofs.next_name.Goals as goal
 
 pub bounds-field-end : goal.bounds-field-end

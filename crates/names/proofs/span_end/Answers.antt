@@ -1,4 +1,3 @@
-use Prim.Native.Nat.{◌-◌}
 use Rattle.names.proofs.Laws.{loops}
 use Rattle.names.proofs.span_end.Goals as goal
 

@@ -1,5 +1,5 @@
 -- What the code answers, for its contracts: an enum for each "or none". Nobody has to believe this file. Assumes nothing.
-use Rattle.std.specs.Prelude.{ℕ, ◌+◌, List, [], ◌∷◌, Bool, true, false, cond, get_or, eqb}
+use Rattle.std.specs.Prelude.{ℕ, ◌+◌, List, ◌∷◌, Bool, true, false, cond, get_or, eqb}
 use Rattle.std.proofs.Math.Option.{Option, none, some}
 use Rattle.base.specs.Lists.{find}
 use Rattle.names.specs.Grammar.{dollar, is_plain, is_language, is_type, Named}
