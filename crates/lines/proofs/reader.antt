@@ -1,5 +1,2 @@
-pub mod Asked
 pub mod Count
-pub mod Lent
-pub mod Loop
 pub mod Skipping

@@ -1,8 +1,7 @@
 -- "A file is cut at each LF; an empty last piece is no line; one CR at a line's end is dropped. Lines count from 1."
 -- Assumes nothing.
-use Rattle.std.specs.Prelude.{ℕ, zero, suc, ◌+◌, ◌-◌, List, [], ◌∷◌, Bool, true, false, cond, ◌||◌, length, get_or, take, drop, eqb, ltb}
-use Rattle.base.specs.Lists.{every}
-use Rattle.columns.specs.Columns.{is_blank, column, blank}
+use Rattle.std.specs.Prelude.{ℕ, suc, ◌+◌, ◌-◌, List, [], ◌∷◌, Bool, cond, ◌||◌, length, get_or, take, drop, eqb, ltb}
+use Rattle.columns.specs.Columns.{column, blank}
 use Rattle.lines.specs.declared.Cut.{Cut}
 
 -- b in front of the first piece

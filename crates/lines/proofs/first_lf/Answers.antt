@@ -1,5 +1,4 @@
 -- The bytes from the loop's place on give the same end as those from `at`. Assumes nothing.
-use Prim.Native.Nat.{◌-◌}
 use Rattle.lines.proofs.Pieces.{cuts}
 use Rattle.lines.proofs.first_lf.Goals as goal
 

@@ -1,4 +1,5 @@
-use Rattle.lines.proofs.Pieces.{blocks}
+use mathlib.Core.Path.{refl}
+use Rattle.lines.proofs.Pieces.{blocks, usual-end}
 use Rattle.lines.proofs.line_end.Goals as goal
 
 pub overflow_sub-file : goal.overflow_sub-file
@@ -21,6 +22,10 @@ overflow_sub-no_lf c = search blocks
 
 pub no_lf-requires-then-no_lf : goal.no_lf-requires-then-no_lf
 no_lf-requires-then-no_lf c = search blocks
+
+pub returns-then-no_lf-2 : goal.returns-then-no_lf-2
+returns-then-no_lf-2 c =
+    usual-end c.args.file.now c.args.at _ _ _ c.if-file-at-gt-USUAL_WIDTH.true refl c.if-file-at-eq10.true c.no_lf.ensures c.if-no_lf.true c.no_lf-then-no_lf.ensures c.if-no_lf-2.true
 
 pub overflow_add-result : goal.overflow_add-result
 overflow_add-result c = search blocks

@@ -1,5 +1,4 @@
 -- How many lines end within the bytes that are counted. Assumes nothing.
-use Prim.Native.Nat.{◌-◌}
 use native.Mathlib.Omega.{arith}
 use Rattle.lines.proofs.Counts.{counts}
 use Rattle.lines.proofs.lines_ended.Goals as goal

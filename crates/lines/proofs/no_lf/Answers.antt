@@ -1,5 +1,4 @@
 -- Whether there is an LF among the bytes that are tested. Assumes nothing.
-use Prim.Native.Nat.{◌-◌}
 use native.Mathlib.Omega.{arith}
 use Rattle.lines.proofs.Pieces.{blocks}
 use Rattle.lines.proofs.no_lf.Goals as goal

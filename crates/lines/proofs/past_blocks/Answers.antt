@@ -1,5 +1,4 @@
 -- What is sought is the same from the loop's place on. Assumes nothing.
-use Prim.Native.Nat.{◌-◌}
 use Rattle.lines.proofs.Pieces.{blocks}
 use Rattle.lines.proofs.past_blocks.Goals as goal
 

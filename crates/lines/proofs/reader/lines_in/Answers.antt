@@ -1,5 +1,4 @@
 -- `reader::lines_in` meets its contract: the lines that end before the loop's place, and those of the text from there on, are all. Assumes nothing.
-use Prim.Native.Nat.{◌-◌}
 use native.Mathlib.Omega.{arith}
 use Rattle.lines.proofs.reader.Count.{counting}
 use Rattle.lines.proofs.reader.lines_in.Goals as goal
