@@ -184,9 +184,11 @@ module _ (line : List ℕ) where
   last-columns done = go (unnamed done (length line) line) (gap line done (length line))
     where
       none : (d : ℕ) → Gap line done (length line) Fits → Breaks line done [] d → ⊥
+      none d g (field b) = elim b [ ]
       none d g (stray s) = by-ltb (λ t. ⊥) (length line) d (λ h. clash (sym s.filled ∙ past_end d h)) (λ h. clash (sym s.filled ∙ g d s.past h))
 
       least : (c d : ℕ) → Gap line done (length line) (Broken c) → Breaks line done [] d → c ≤ d
+      least c d g (field b) = elim b [ ]
       least c d g (stray s) = strays-from done (length line) c d g s
 
       go : (f : Form) → Gap line done (length line) f → Leftmost line done [] f

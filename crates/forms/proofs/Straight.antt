@@ -10,7 +10,7 @@ use lib.Dec.{eqb}
 use Rattle.base.proofs.Laws.{tests, clash}
 use Rattle.columns.proofs.Laws.{blank-past}
 use Rattle.base.specs.Lists.{every}
-use Rattle.columns.specs.Columns.{pad_to, columns, column, is_blank, blank}
+use Rattle.columns.specs.Columns.{pad_to, columns, is_blank, blank}
 use Rattle.forms.specs.Form.{most_file_bytes, FieldRule, has_form, form_of, is_fit, before, broken_unless, stray_from, unnamed, row_form, form_from}
 use Rattle.forms.specs.Columns.{bit_field_columns, stop_columns, interchange_columns, class_columns, columns_of}
 use Rattle.forms.specs.Inner.Usual.{bit_field_fits, stop_fits, interchange_fits, class_fits, tariff_fits, supplement_fits}
@@ -90,6 +90,11 @@ pub and_one : (b : Bool) → (b && true) ≡ b
 and_one true = refl
 and_one false = refl
 
+-- a row behind one column that no field names, where nothing more is asked
+step-last : (c : ℕ) (x : FieldRule) (xs : List FieldRule) (l : List ℕ) → x.from - 1 - c ≡ 1 → is_fit (form_from x.to xs l) ≡ true
+    → is_fit (form_from c (x ∷ xs) l) ≡ (is_blank (get_or l c 32) && x.rule l (columns x.from x.to l))
+step-last c x xs l h e = step-gap c x xs l true h e ∙ ap (λ (b : Bool). is_blank (get_or l c 32) && b) (and_one (x.rule l (columns x.from x.to l)))
+
 pub fit : (g : Form) → is_fit g ≡ true → g ≡ Fits
 fit Fits e = refl
 fit (BrokenForm c) e = clash e
@@ -119,18 +124,14 @@ step-wide c x xs l y e = rw (row-fit, wide-gap c (x.from - 1) l, e)
 bit-field-same : (l : List ℕ) → length l ≤ 103 → has_form bit_field_columns l ≡ bit_field_fits l
 unfolding bit_field_fits
 bit-field-same l h =
-    step-next 0 _ _ l _ refl
-    (step-gap 6 _ _ l true refl (end-fit 103 l h)
-    ∙ ap (λ (b : Bool). is_blank (column 7 l) && b) (and_one _))
+    step-next 0 _ _ l _ refl (step-last 6 _ _ l refl (end-fit 103 l h))
 
 stop-same : (l : List ℕ) → length l ≤ most_file_bytes → has_form stop_columns l ≡ stop_fits l
 unfolding stop_fits
 stop-same l h =
     step-next 0 _ _ l _ refl
     (step-gap 7 _ _ l _ refl
-    (step-gap 11 _ _ l true refl
-    (step-next 62 _ _ l true refl (end-fit most_file_bytes l h))
-    ∙ ap (λ (b : Bool). is_blank (column 12 l) && b) (and_one _)))
+    (step-last 11 _ _ l refl (step-next 62 _ _ l true refl (end-fit most_file_bytes l h))))
 
 interchange-same : (l : List ℕ) → length l ≤ most_file_bytes → has_form interchange_columns l ≡ interchange_fits l
 unfolding interchange_fits

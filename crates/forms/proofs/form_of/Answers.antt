@@ -1,4 +1,3 @@
-use Prim.Native.Nat.{◌-◌}
 use Rattle.forms.proofs.Laws.{forms}
 use Rattle.forms.proofs.form_of.Goals as goal
 

@@ -1,4 +1,6 @@
 use Rattle.base.proofs.Laws.{tests}
+use Rattle.forms.specs.Inner.Rows.{rule_of, rows_of}
+use Rattle.forms.proofs.Laws.{of_kind}
 use Rattle.forms.proofs.tabled_form.Goals as goal
 
 pub enum_told-1 : goal.enum_told-1
@@ -60,3 +62,43 @@ enum_told-in-Schedule c = search tests
 
 pub form_of-requires-in-Schedule : goal.form_of-requires-in-Schedule
 form_of-requires-in-Schedule c = search tests
+
+pub returns-in-Date : goal.returns-in-Date
+unfolding rows_of rule_of
+returns-in-Date c = of_kind c.args.line.now c.in-Date.is c.form_of.ensures
+
+pub returns-in-BitField : goal.returns-in-BitField
+unfolding rows_of rule_of
+returns-in-BitField c = of_kind c.args.line.now c.in-BitField.is c.form_of-in-BitField.ensures
+
+pub returns-in-Stop : goal.returns-in-Stop
+unfolding rows_of rule_of
+returns-in-Stop c = of_kind c.args.line.now c.in-Stop.is c.form_of-in-Stop.ensures
+
+pub returns-in-Interchange : goal.returns-in-Interchange
+unfolding rows_of rule_of
+returns-in-Interchange c = of_kind c.args.line.now c.in-Interchange.is c.form_of-in-Interchange.ensures
+
+pub returns-in-CategoryClass : goal.returns-in-CategoryClass
+unfolding rows_of rule_of
+returns-in-CategoryClass c = of_kind c.args.line.now c.in-CategoryClass.is c.form_of-in-CategoryClass.ensures
+
+pub returns-in-Opening : goal.returns-in-Opening
+unfolding rows_of rule_of
+returns-in-Opening c = of_kind c.args.line.now c.in-Opening.is c.form_of-in-Opening.ensures
+
+pub returns-in-Frequency : goal.returns-in-Frequency
+unfolding rows_of rule_of
+returns-in-Frequency c = of_kind c.args.line.now c.in-Frequency.is c.form_of-in-Frequency.ensures
+
+pub returns-in-Category : goal.returns-in-Category
+unfolding rows_of rule_of
+returns-in-Category c = of_kind c.args.line.now c.in-Category.is c.form_of-in-Category.ensures
+
+pub returns-in-Attribute : goal.returns-in-Attribute
+unfolding rows_of rule_of
+returns-in-Attribute c = of_kind c.args.line.now c.in-Attribute.is c.form_of-in-Attribute.ensures
+
+pub returns-in-Schedule : goal.returns-in-Schedule
+unfolding rows_of rule_of
+returns-in-Schedule c = of_kind c.args.line.now c.in-Schedule.is c.form_of-in-Schedule.ensures

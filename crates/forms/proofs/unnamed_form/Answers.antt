@@ -1,4 +1,3 @@
-use Prim.Native.Nat.{◌-◌}
 use native.Mathlib.Omega.{arith}
 use Rattle.forms.proofs.Laws.{forms}
 use Rattle.forms.proofs.unnamed_form.Goals as goal
