@@ -1,0 +1,5 @@
+use Rattle.base.proofs.Laws.{tests}
+use Rattle.probe.proofs.kind_by.Goals as goal
+
+pub returns-in_default : goal.returns-in_default
+returns-in_default c = search tests
