@@ -2,4 +2,3 @@
 // (proofs/Back.antt, Accepted.antt), and its files' lines were all read (stated in specs/Text.antt); demand 3 (specs/Promise.antt, and specs/Rows.antt for a
 // run's rows); what a walk of any words may answer (proofs/Any.antt); that the promises of the entry points leave no slack (proofs/Slack.antt).
 #![tactic(auto)]
-
