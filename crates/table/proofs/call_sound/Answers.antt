@@ -1,0 +1,14 @@
+use Rattle.base.proofs.Laws.{tests}
+use Rattle.table.proofs.call_sound.Goals as goal
+
+pub returns-then-stops-c : goal.returns-then-stops-c
+returns-then-stops-c c = search tests
+
+pub returns-then-c-gt-LATEST_TIME : goal.returns-then-c-gt-LATEST_TIME
+returns-then-c-gt-LATEST_TIME c = search tests
+
+pub returns-then-c-gt-LATEST_TIME-2 : goal.returns-then-c-gt-LATEST_TIME-2
+returns-then-c-gt-LATEST_TIME-2 c = search tests
+
+pub returns : goal.returns
+returns c = search tests
