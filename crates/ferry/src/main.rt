@@ -2,9 +2,12 @@
 #![tactic(auto)]
 
 ghost use Rattle.std.specs.Prelude.{length, ◌≡◌};
-ghost use Rattle.io.specs.Counts.{IsPrefixLen};
+ghost use Rattle.ferry.specs.Counts.{IsPrefixLen};
 
-use libc::STDOUT_FILENO;
+use std::fs;
+use std::fs::File;
+use std::io;
+use std::io::Read;
 use timetable::{
     BIT_FIELDS_AT, CLASSES_AT, HELPER_HEAD_WORDS, HELPER_LINE_WORDS, INTERCHANGES_AT, Loaded,
     PERIOD_DAYS_AT, SERVICES_AT, STOPS_AT,
@@ -18,19 +21,19 @@ const TABLE_WORDS: usize = 4096;
 // Helper words for any three files that are read, with a line for each of their bytes: no delivery is refused with 51.
 const HELPER_WORDS: usize = HELPER_HEAD_WORDS + HELPER_LINE_WORDS * 3 * (ROOM_BYTES - 1);
 
-fn main() {
+fn main(rt: HostRuntime) -> io::Result<()> {
     let mut eckdaten = room();
     let mut bitfeld = room();
     let mut bahnhof = room();
     let mut umsteigb = room();
     let mut fplan = room();
     let mut zugart = room();
-    let eckdaten_bytes = read_named(b"ECKDATEN", &mut eckdaten);
-    let bitfeld_bytes = read_named(b"BITFELD", &mut bitfeld);
-    let bahnhof_bytes = read_named(b"BAHNHOF", &mut bahnhof);
-    let umsteigb_bytes = read_named(b"UMSTEIGB", &mut umsteigb);
-    let fplan_bytes = read_named(b"FPLAN", &mut fplan);
-    let zugart_bytes = read_named(b"ZUGART", &mut zugart);
+    let eckdaten_bytes = read_named(&rt, "ECKDATEN", &mut eckdaten);
+    let bitfeld_bytes = read_named(&rt, "BITFELD", &mut bitfeld);
+    let bahnhof_bytes = read_named(&rt, "BAHNHOF", &mut bahnhof);
+    let umsteigb_bytes = read_named(&rt, "UMSTEIGB", &mut umsteigb);
+    let fplan_bytes = read_named(&rt, "FPLAN", &mut fplan);
+    let zugart_bytes = read_named(&rt, "ZUGART", &mut zugart);
     let unread = first_unread(
         eckdaten_bytes,
         bitfeld_bytes,
@@ -40,9 +43,8 @@ fn main() {
         zugart_bytes,
     );
     if unread != 0 {
-        say(b"unread file ", unread);
-        end_line();
-        return;
+        println!(rt; "unread file {unread}")?;
+        return Ok(());
     }
     let mut table = [0u32; TABLE_WORDS];
     let mut helper = [0u32; HELPER_WORDS];
@@ -56,7 +58,7 @@ fn main() {
         &mut table,
         &mut helper,
     );
-    tell(answer, &table);
+    tell(&rt, answer, &table)
 }
 
 // ---- reading
@@ -68,26 +70,28 @@ fn room() -> [u8; ROOM_BYTES]
 }
 
 // Reads the file that path names into buf; all of buf counts where it cannot be opened or read, or is longer.
-fn read_named(path: &[u8], buf: &mut [u8]) -> usize
+fn read_named(rt: &HostRuntime, path: &str, buf: &mut [u8]) -> usize
     ensures { IsPrefixLen result buf.new }
 {
-    let fd = os::open_read(path);
-    if fd < 0 {
-        return all(buf);
+    match fs::open(rt, path) {
+        Ok(file) => read_whole(file, buf),
+        Err(_) => all(buf),
     }
-    let n = io::read_full(fd, buf);
-    let ended = at_end(fd);
-    libc::close(fd);
-    if ended {
-        return n;
-    }
-    all(buf)
 }
 
-// Whether a file was read to its end: `read_full` stops at an error as it stops there, and one more read tells them apart.
-fn at_end(fd: i32) -> bool {
-    let mut byte = [0u8; 1];
-    libc::read(fd, &mut byte) == 0
+// Reads the file to its end, and answers how many bytes it has; all of buf counts where a read fails, or nothing is left of buf before the end.
+fn read_whole(mut file: File, buf: &mut [u8]) -> usize
+    ensures { IsPrefixLen result buf.new }
+{
+    let mut at = 0;
+    while at < buf.len() {
+        match file.read(&mut buf[at..]) {
+            Ok(0) => return at,
+            Ok(n) => at += n,
+            Err(_) => return all(buf),
+        }
+    }
+    all(buf)
 }
 
 fn all(buf: &[u8]) -> usize
@@ -128,16 +132,16 @@ fn first_unread(
 
 // ---- telling
 
-fn tell(answer: Loaded, table: &[u32; TABLE_WORDS]) {
+fn tell(rt: &HostRuntime, answer: Loaded, table: &[u32; TABLE_WORDS]) -> io::Result<()> {
     match answer {
         Loaded::Accepted(used) => {
-            say(b"accepted days ", table[PERIOD_DAYS_AT]);
-            say(b" bitfields ", table[BIT_FIELDS_AT]);
-            say(b" stops ", table[STOPS_AT]);
-            say(b" interchange ", table[INTERCHANGES_AT]);
-            say(b" categories ", table[CLASSES_AT]);
-            say(b" services ", table[SERVICES_AT]);
-            say(b" words ", used);
+            let days = table[PERIOD_DAYS_AT];
+            let bit_fields = table[BIT_FIELDS_AT];
+            let stops = table[STOPS_AT];
+            let interchanges = table[INTERCHANGES_AT];
+            let classes = table[CLASSES_AT];
+            let services = table[SERVICES_AT];
+            println!(rt; "accepted days {days} bitfields {bit_fields} stops {stops} interchange {interchanges} categories {classes} services {services} words {used}")
         }
         Loaded::Refused {
             number,
@@ -145,25 +149,6 @@ fn tell(answer: Loaded, table: &[u32; TABLE_WORDS]) {
             line,
             column,
             needed,
-        } => {
-            say(b"refused ", number);
-            say(b" file ", file);
-            say(b" line ", line);
-            say_size(b" column ", column);
-        }
+        } => println!(rt; "refused {number} file {file} line {line} column {column}"),
     }
-    end_line();
-}
-
-fn say(text: &[u8], number: u32) {
-    say_size(text, number as usize);
-}
-
-fn say_size(text: &[u8], number: usize) {
-    io::write_all(STDOUT_FILENO, text);
-    io::print_decimal(STDOUT_FILENO, number as u64);
-}
-
-fn end_line() {
-    io::write_all(STDOUT_FILENO, b"\n");
 }
