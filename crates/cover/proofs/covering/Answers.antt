@@ -25,3 +25,6 @@ loop-left-preserved-then-here c = (search ranges, omega arith, search ranges)
 
 pub returns : goal.returns
 returns c = search ranges
+
+pub loop-left-preserved : goal.loop-left-preserved
+loop-left-preserved c = (search ranges, omega arith, search ranges)

@@ -1,4 +1,3 @@
-use Prim.Native.Nat.{◌-◌}
 use Rattle.base.proofs.Laws.{tests}
 use Rattle.base.proofs.Loops.{counting}
 use Rattle.cover.proofs.each_once.Goals as goal
