@@ -1,0 +1,38 @@
+use Rattle.plan_text.proofs.Writes.{gaps}
+use Rattle.plan_text.proofs.put_attribute.Goals as goal
+
+pub put_mark-requires : goal.put_mark-requires
+put_mark-requires c = search gaps
+
+pub overflow_add-at : goal.overflow_add-at
+overflow_add-at c = search gaps
+
+pub put_two-requires : goal.put_two-requires
+put_two-requires c = search gaps
+
+pub overflow_add-at-2 : goal.overflow_add-at-2
+overflow_add-at-2 c = search gaps
+
+pub put_index-requires : goal.put_index-requires
+put_index-requires c = search gaps
+
+pub overflow_add-at-3 : goal.overflow_add-at-3
+overflow_add-at-3 c = search gaps
+
+pub put_index-requires-2 : goal.put_index-requires-2
+put_index-requires-2 c = search gaps
+
+pub overflow_add-at-4 : goal.overflow_add-at-4
+overflow_add-at-4 c = search gaps
+
+pub put_number-requires : goal.put_number-requires
+put_number-requires c = search gaps
+
+pub overflow_add-at-5 : goal.overflow_add-at-5
+overflow_add-at-5 c = search gaps
+
+pub put_close-requires : goal.put_close-requires
+put_close-requires c = search gaps
+
+pub shape_of-t : goal.shape_of-t
+shape_of-t c = search gaps

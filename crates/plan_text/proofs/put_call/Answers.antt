@@ -1,0 +1,32 @@
+use Rattle.plan_text.proofs.Writes.{gaps}
+use Rattle.plan_text.proofs.put_call.Goals as goal
+
+pub put_decimal-requires : goal.put_decimal-requires
+put_decimal-requires c = search gaps
+
+pub overflow_add-at : goal.overflow_add-at
+overflow_add-at c = search gaps
+
+pub put_times-requires : goal.put_times-requires
+put_times-requires c = search gaps
+
+pub overflow_add-at-2 : goal.overflow_add-at-2
+overflow_add-at-2 c = search gaps
+
+pub put_number-requires : goal.put_number-requires
+put_number-requires c = search gaps
+
+pub overflow_add-at-3 : goal.overflow_add-at-3
+overflow_add-at-3 c = search gaps
+
+pub put_six-requires : goal.put_six-requires
+put_six-requires c = search gaps
+
+pub overflow_add-at-4 : goal.overflow_add-at-4
+overflow_add-at-4 c = search gaps
+
+pub put_close-requires : goal.put_close-requires
+put_close-requires c = search gaps
+
+pub shape_of-t : goal.shape_of-t
+shape_of-t c = search gaps
