@@ -22,7 +22,7 @@ use Rattle.timetable.specs.declared.Told.{Told}
 use Rattle.timetable.specs.declared.Told.TheVariants.{Skip, Other, Broken, Opens, Ranges, Calls}
 use Rattle.timetable.proofs.Calls.{calls-more}
 use Rattle.timetable.proofs.Lines.{part-more, said-on}
-use Rattle.draft.specs.Inner.Draft.{most_ranges, calls_lent, ranges_lent, call_back, line_back, range_back, calls_on, calls_in, ranges_on, ranges_in, on_line, last_of, calls_after, counts_of, ranges#, no_counts, count_calls, count_part, count_ranges, counted, Within, DraftOf, drafted_service}
+use Rattle.draft.specs.Inner.Draft.{most_ranges, calls_lent, ranges_lent, call_back, range_back, calls_on, calls_in, ranges_on, ranges_in, on_line, last_of, calls_after, counts_of, ranges#, no_counts, count_part, counted, Within, DraftOf, drafted_service}
 use Rattle.draft.specs.declared.Counts.{Counts}
 
 -- ---- counts with one line more

@@ -8,10 +8,9 @@ use lib.Seq.{get_or-drop}
 use Rattle.base.proofs.Laws.{tests}
 use Rattle.timetable.specs.declared.End.{End}
 use Rattle.timetable.specs.declared.RangeKind.{RangeKind}
-use Rattle.timetable.specs.declared.RangeKind.TheVariants.{Category, Days, Extra}
-use Rattle.fields.specs.declared.RangeEnd.TheVariants.{Outer, Index, Stop, NoEnd}
-use Rattle.fields.specs.declared.Detail.TheVariants.{Plain, Nth, Timed, NoDetail}
-use Rattle.timetable.specs.declared.RangeLine.{RangeLine}
+use Rattle.timetable.specs.declared.RangeKind.TheVariants.{Category, Days}
+use Rattle.fields.specs.declared.RangeEnd.TheVariants.{Outer, Index, Stop}
+use Rattle.fields.specs.declared.Detail.TheVariants.{Plain, Nth, Timed}
 use Rattle.draft.specs.Inner.Draft.{call_back, place_back, detail_back, part_back, end_back, line_back, range_back}
 
 pub call_line : (w : List ℕ) (at : ℕ) → get_or w (at + 7) 0 ≡ (call_back (drop at w)).0

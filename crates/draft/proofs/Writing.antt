@@ -6,7 +6,7 @@ use mathlib.Core.Logic.{⊎_elim}
 use denote.Enum.Declared.{tag_of}
 use types.Run.{OneOf}
 use Prim.Native.Nat.{ℕ, ◌+◌, ◌-◌, ◌*◌, ◌^◌, ◌≤◌, ◌<◌}
-use native.Mathlib.Nat.{mul_comm, add_assoc}
+use native.Mathlib.Nat.{mul_comm}
 use native.Mathlib.Omega.{arith}
 use lib.ListN.{length, get_or, take, drop}
 use lib.Seq.{get_or-take, get_or-drop}
@@ -20,7 +20,6 @@ use Rattle.fields.specs.declared.RangeEnd.{RangeEnd}
 use Rattle.fields.specs.declared.RangeEnd.TheVariants.{Outer, Index, Stop, NoEnd}
 use Rattle.fields.specs.declared.Detail.{Detail}
 use Rattle.fields.specs.declared.Detail.TheVariants.{Plain, Nth, Timed, NoDetail}
-use Rattle.timetable.specs.Layout.{most_calls}
 use Rattle.timetable.specs.Plan.{as_call, as_range, part_number}
 use Rattle.timetable.specs.Service.{opened, announced, call_by, holding}
 use Rattle.timetable.specs.Table.{rows_in}
@@ -36,7 +35,7 @@ use Rattle.timetable.specs.declared.RangeLine.{RangeLine}
 use Rattle.timetable.specs.declared.Told.{Told}
 use Rattle.timetable.specs.declared.Told.TheVariants.{Skip, Other, Broken, Opens, Ranges, Calls}
 use Rattle.timetable.specs.contracts.Told.{the_type}
-use Rattle.draft.specs.Inner.Draft.{draft_call, draft_range, calls_lent, ranges_lent, most_ranges, call_draft, place_tag, place_value, detail_tag, detail_value, end_draft, range_draft, call_back, place_back, detail_back, part_back, end_back, range_back, calls_on, ranges_on, on_line, last_of, calls_after, count_calls, count_part, count_ranges, counted, ranges#, Within}
+use Rattle.draft.specs.Inner.Draft.{draft_call, draft_range, calls_lent, ranges_lent, most_ranges, call_draft, place_tag, place_value, detail_tag, detail_value, end_draft, range_draft, call_back, place_back, detail_back, part_back, range_back, calls_on, ranges_on, on_line, last_of, calls_after, count_calls, count_part, count_ranges, counted, ranges#, Within}
 use Rattle.draft.specs.declared.Counts.{Counts}
 use Rattle.draft.specs.declared.Code.{Code}
 

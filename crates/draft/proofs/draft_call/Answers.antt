@@ -22,3 +22,5 @@ overflow_add-k c = search call-drafts
 pub shape_of-calls : goal.shape_of-calls
 shape_of-calls c = search call-drafts
 
+pub returns-clause-calls_after : goal.returns-clause-calls_after
+returns-clause-calls_after c = search call-drafts

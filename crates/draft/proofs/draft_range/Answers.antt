@@ -19,3 +19,5 @@ count_part-requires c = search range-drafts
 pub shape_of-ranges : goal.shape_of-ranges
 shape_of-ranges c = search range-drafts
 
+pub returns-clause-ranges_after : goal.returns-clause-ranges_after
+returns-clause-ranges_after c = search range-drafts

@@ -1,6 +1,6 @@
 -- The draft of a service in words, written and read back. Nobody has to believe this file: the loader's promises do not cite it, and what a draft
 -- means is said by what it reads back as. Assumes nothing.
-use Rattle.std.specs.Prelude.{ℕ, zero, suc, ◌+◌, ◌*◌, ◌≤◌, ◌≡◌, List, [], ◌∷◌, ◌++◌, map, Bool, true, false, cond, length, drop, eqb}
+use Rattle.std.specs.Prelude.{ℕ, ◌+◌, ◌*◌, ◌≤◌, ◌≡◌, List, [], ◌∷◌, ◌++◌, map, cond, length, eqb}
 use Rattle.base.specs.Lists.{gathered}
 use Rattle.lines.specs.Lines.{Line}
 use Rattle.fields.specs.declared.RangeEnd.{RangeEnd}
