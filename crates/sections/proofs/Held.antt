@@ -7,7 +7,6 @@ use Prim.Native.Nat.{ℕ, ◌-◌, ◌≤◌}
 use native.Mathlib.Omega.{arith}
 use lib.ListN.{length, take, drop, length-append}
 use Rattle.base.specs.Lists.{every, gathered}
-use Rattle.columns.specs.Columns.{number}
 use Rattle.lines.specs.Lines.{Line, skipped, lines_of}
 use Rattle.lines.proofs.Laws.{lines-le}
 use Rattle.forms.specs.Form.{form_of}

@@ -1,14 +1,14 @@
 -- Lines whose forms are not broken: what a check that finds no offence has shown, for the crates that read them again. Assumes nothing.
-use mathlib.Core.Path.{◌≡◌, refl, sym, ◌∙◌}
+use mathlib.Core.Path.{◌≡◌, refl, ◌∙◌}
 use mathlib.Core.List.{List, [], ◌∷◌, ◌++◌}
-use mathlib.Core.Bool.{Bool, true, false, cond}
+use mathlib.Core.Bool.{true, false}
 use mathlib.Core.Option.{Option, none}
 use Prim.Native.Nat.{ℕ, ◌+◌, ◌-◌, ◌<◌}
 use lib.ListN.{length, get_or, take, drop}
 use Rattle.base.specs.Lists.{every}
 use Rattle.base.proofs.Laws.{apart}
 use Rattle.base.proofs.Loops.{and-true}
-use Rattle.lines.specs.Lines.{Line, lines_at, lines_of, cut_at, skipped}
+use Rattle.lines.specs.Lines.{Line, lines_at, cut_at, skipped}
 use Rattle.lines.specs.Inner.Skips.{past_skipped}
 use Rattle.lines.specs.declared.Cut.{Cut}
 use Rattle.lines.proofs.Laws.{cutting}
@@ -19,7 +19,7 @@ use Rattle.forms.specs.Columns.{columns_of}
 use Rattle.forms.specs.declared.Form.{Form}
 use Rattle.forms.specs.declared.Form.TheVariants.{Fits, Broken as BrokenForm}
 use Rattle.timetable.specs.Delivery.{StopRecord}
-use Rattle.timetable.specs.Offences.{◌<|>◌, first}
+use Rattle.timetable.specs.Offences.{first}
 use Rattle.timetable.specs.Files.{bit_fields_first, stops_first, interchanges_first, classes_first}
 use Rattle.timetable.specs.declared.Offence.{Offence}
 use Rattle.timetable.proofs.Offences.{first-same, then-none}

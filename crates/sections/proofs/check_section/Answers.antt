@@ -1,7 +1,6 @@
 -- `sections::check_section` meets its contract: what the lines from the loop's place on answer, after those before it, is what all answer,
 -- and those before it are in the map. Assumes nothing.
-use Prim.Native.Nat.{◌-◌}
-use Rattle.sections.proofs.Scans.{scans}
+use Rattle.sections.proofs.Scans.{scans, walked}
 use Rattle.sections.proofs.Fills.{fills}
 use Rattle.sections.proofs.check_section.Goals as goal
 
@@ -56,13 +55,11 @@ slice_bounds-line_verdict-start c = search scans
 pub slice_bounds-line_verdict-end : goal.slice_bounds-line_verdict-end
 slice_bounds-line_verdict-end c = search scans
 
-
 pub enum_known-own : goal.enum_known-own
 enum_known-own c = search scans
 
 pub shape_of-m-in-Offends : goal.shape_of-m-in-Offends
 shape_of-m-in-Offends c = search scans
-
 
 pub enum_told-1 : goal.enum_told-1
 enum_told-1 c = search scans
@@ -73,3 +70,17 @@ put_number-count-requires c = search fills
 pub shape_of-m : goal.shape_of-m
 shape_of-m c = search scans
 
+pub loop-at-preserved-then-at-past : goal.loop-at-preserved-then-at-past
+loop-at-preserved-then-at-past c = (search scans, search scans, search scans, search fills)
+
+pub returns-in-Offends-clause-value : goal.returns-in-Offends-clause-value
+returns-in-Offends-clause-value c = search scans
+
+pub loop-at-smaller : goal.loop-at-smaller
+loop-at-smaller c = search walked
+
+pub loop-at-preserved : goal.loop-at-preserved
+loop-at-preserved c = (search scans, search scans, search scans, search fills)
+
+pub returns-clause-value : goal.returns-clause-value
+returns-clause-value c = search scans

@@ -25,7 +25,6 @@ slice_bounds-put-end c = search puts
 pub overflow_cast-at : goal.overflow_cast-at
 overflow_cast-at c = search puts
 
-
 pub overflow_add-result : goal.overflow_add-result
 overflow_add-result c = search puts
 
