@@ -1,4 +1,5 @@
 use Rattle.plan_text.proofs.Writes.{gaps}
+use Rattle.plan_text.proofs.Writes.{attribute-written}
 use Rattle.plan_text.proofs.put_attribute.Goals as goal
 
 pub put_mark-requires : goal.put_mark-requires
@@ -36,3 +37,7 @@ put_close-requires c = search gaps
 
 pub shape_of-t : goal.shape_of-t
 shape_of-t c = search gaps
+
+pub returns : goal.returns
+returns c =
+    attribute-written c.args.t.now c.put_mark.new.t c.put_two.new.t c.put_index.new.t c.put_index-2.new.t c.put_number.new.t c.args.at c.requires c.put_close.new.t c.args.code c.args.field c.args.from c.args.to c.put_mark.ensures c.put_two.ensures c.put_index.ensures c.put_index-2.ensures c.put_number.ensures c.put_close.ensures

@@ -1,4 +1,5 @@
 use Rattle.plan_text.proofs.Writes.{gaps}
+use Rattle.plan_text.proofs.Writes.{call-written}
 use Rattle.plan_text.proofs.put_call.Goals as goal
 
 pub put_decimal-requires : goal.put_decimal-requires
@@ -30,3 +31,7 @@ put_close-requires c = search gaps
 
 pub shape_of-t : goal.shape_of-t
 shape_of-t c = search gaps
+
+pub returns : goal.returns
+returns c =
+    call-written c.args.t.now c.put_decimal.new.t c.put_times.new.t c.put_number.new.t c.put_six.new.t c.put_close.new.t c.args.at c.requires.0 c.args.c c.put_decimal.ensures c.put_times.ensures c.put_number.ensures c.put_six.ensures c.put_close.ensures

@@ -1,4 +1,5 @@
 use Rattle.plan_text.proofs.Writes.{gaps}
+use Rattle.plan_text.proofs.Writes.{category-written}
 use Rattle.plan_text.proofs.put_category.Goals as goal
 
 pub put_mark-requires : goal.put_mark-requires
@@ -30,3 +31,7 @@ put_close-requires c = search gaps
 
 pub shape_of-t : goal.shape_of-t
 shape_of-t c = search gaps
+
+pub returns : goal.returns
+returns c =
+    category-written c.args.t.now c.put_mark.new.t c.put_three.new.t c.put_index.new.t c.put_index-2.new.t c.put_close.new.t c.args.at c.requires c.args.name c.args.from c.args.to c.put_mark.ensures c.put_three.ensures c.put_index.ensures c.put_index-2.ensures c.put_close.ensures

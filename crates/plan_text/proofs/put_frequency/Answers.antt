@@ -1,4 +1,5 @@
 use Rattle.plan_text.proofs.Writes.{gaps}
+use Rattle.plan_text.proofs.Writes.{frequency-written}
 use Rattle.plan_text.proofs.put_frequency.Goals as goal
 
 pub put_mark-requires : goal.put_mark-requires
@@ -36,3 +37,7 @@ put_close-requires c = search gaps
 
 pub shape_of-t : goal.shape_of-t
 shape_of-t c = search gaps
+
+pub returns : goal.returns
+returns c =
+    frequency-written c.args.t.now c.put_mark.new.t c.put_decimal.new.t c.put_six.new.t c.put_number.new.t c.put_number-2.new.t c.args.at c.requires c.put_close.new.t c.args.o c.put_mark.ensures c.put_decimal.ensures c.put_six.ensures c.put_number.ensures c.put_number-2.ensures c.put_close.ensures

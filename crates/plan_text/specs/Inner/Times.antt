@@ -1,5 +1,5 @@
 -- The times of a schedule line as text, for the contract of an inner function: nobody has to believe this file. Assumes nothing.
-use Rattle.std.specs.Prelude.{ℕ, ◌+◌, ◌/◌, ◌%◌, List, ◌++◌, eqb}
+use Rattle.std.specs.Prelude.{ℕ, ◌/◌, ◌%◌, List, ◌++◌, eqb}
 use Rattle.line_text.specs.Text.{blanks, clock_text}
 
 -- columns 8 to 42 of a schedule line (for the contract of `put_times` only)
