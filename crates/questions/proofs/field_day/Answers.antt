@@ -1,0 +1,17 @@
+use Rattle.questions.proofs.Laws.{days}
+use Rattle.questions.proofs.field_day.Goals as goal
+
+pub field_words-f-requires : goal.field_words-f-requires
+field_words-f-requires c = search days
+
+pub returns-then-not-f : goal.returns-then-not-f
+returns-then-not-f c = search days
+
+pub field_runs-requires : goal.field_runs-requires
+field_runs-requires c = search days
+
+pub returns-then-field_runs : goal.returns-then-field_runs
+returns-then-field_runs c = search days
+
+pub returns : goal.returns
+returns c = search days

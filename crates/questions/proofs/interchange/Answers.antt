@@ -1,0 +1,26 @@
+use Rattle.questions.proofs.Laws.{plain}
+use Rattle.questions.proofs.interchange.Goals as goal
+
+pub is_table-requires : goal.is_table-requires
+is_table-requires c = search plain
+
+pub returns-then-not-is_table : goal.returns-then-not-is_table
+returns-then-not-is_table c = search plain
+
+pub used_words-requires : goal.used_words-requires
+used_words-requires c = search plain
+
+pub slice_bounds-interchange_by-count : goal.slice_bounds-interchange_by-count
+slice_bounds-interchange_by-count c = search plain
+
+pub slice_bounds-interchange_by-start : goal.slice_bounds-interchange_by-start
+slice_bounds-interchange_by-start c = search plain
+
+pub slice_bounds-interchange_by-end : goal.slice_bounds-interchange_by-end
+slice_bounds-interchange_by-end c = search plain
+
+pub interchange_by-requires : goal.interchange_by-requires
+interchange_by-requires c = search plain
+
+pub returns : goal.returns
+returns c = search plain
