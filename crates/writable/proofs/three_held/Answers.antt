@@ -1,0 +1,14 @@
+use Rattle.base.specs.Lists.{every}
+use Rattle.writable.proofs.Laws.{steps}
+use Rattle.writable.proofs.three_held.Goals as goal
+
+pub returns-then-n-eq-LF : goal.returns-then-n-eq-LF
+unfolding every
+returns-then-n-eq-LF c = search steps
+
+pub two_held-requires : goal.two_held-requires
+two_held-requires c = search steps
+
+pub returns : goal.returns
+unfolding every
+returns c = search steps
