@@ -1,0 +1,14 @@
+use Rattle.course.proofs.legs.Ranges.{ranges}
+use Rattle.course.proofs.legs.range_known.Goals as goal
+
+pub returns-then-leg-range : goal.returns-then-leg-range
+returns-then-leg-range c = search ranges
+
+pub returns-then-range-leg : goal.returns-then-range-leg
+returns-then-range-leg c = search ranges
+
+pub field_words-f-requires : goal.field_words-f-requires
+field_words-f-requires c = search ranges
+
+pub returns : goal.returns
+returns c = search ranges

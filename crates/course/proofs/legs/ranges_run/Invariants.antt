@@ -1,0 +1,15 @@
+use Rattle.index.specs.Index.{view_in}
+use mathlib.Core.Path.{◌≡◌}
+use Prim.Native.Nat.{◌+◌, ◌*◌, ◌≤◌}
+use lib.ListN.{length, drop}
+use Rattle.base.specs.Lists.{some_of}
+use Rattle.timetable.specs.Layout.{day_size}
+use Rattle.timetable.specs.Table.{rows_in, day_at}
+use Rattle.course.specs.Inner.Run.{range_runs}
+use Rattle.course.proofs.legs.ranges_run.Given as goal
+
+abbrev pub invariant-loop-left : goal.invariant-loop-left
+invariant-loop-left l = (l.p + l.left * day_size ≤ length l.v) × (some_of (range_runs (view_in l.w l.x) l.k l.leg) (rows_in day_at day_size l.left (drop l.p l.v)) ≡ some_of (range_runs (view_in l.w l.x) l.k l.leg) (rows_in day_at day_size l.n l.v))
+
+abbrev pub decreases-loop-left : goal.decreases-loop-left
+decreases-loop-left l = l.left
