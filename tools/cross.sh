@@ -64,9 +64,12 @@ install_cross() {
     has_cross || die 'the packages are there, but no rustc compiles for x86-64'
 }
 
-# proved_archive CRATE: proves it and writes target/staticlib/libCRATE.a. Two commands of rt in one tree would take each other's notes in target/log, so one waits for the other.
+# proved_archive CRATE: proves it and writes target/staticlib/libCRATE.a. Of two commands of rt in one tree one waits for the other.
 proved_archive() {
-    flock target/rt.lock rt staticlib "$1" >"$out/$1.log" 2>&1 || { cat "$out/$1.log" >&2; die "no archive of $1"; }
+    mkdir -p target/staticlib
+    # shellcheck disable=SC2016 # of the shell that is called
+    flock target/rt.lock sh -c 'cd "crates/$1" && rt lib && cp "out/lib$1.a" ../../target/staticlib' rt-lib "$1" >"$out/$1.log" 2>&1 ||
+        { cat "$out/$1.log" >&2; die "no archive of $1"; }
 }
 
 # library CRATE SOURCE [WORD ..]

@@ -1,7 +1,6 @@
 #!/bin/sh
 # install.sh [DIRECTORY]: proves the library and puts libestelunya.a and its headers into DIRECTORY (lib/); where there is cargo also the data desk's program, `desk`, with its REFUSALS.md. On a machine that is
-# not x86-64 the archive is the proved module compiled for the machine at hand (native.sh). `rt staticlib` writes the archive below target/, which a run of the gate removes before it proves; what
-# stands in lib/ stays, and the planner's crate links it where target/ has none.
+# not x86-64 the archive is the proved module compiled for the machine at hand (native.sh). What stands in lib/ stays, and the planner's crate links it where target/ has no archive.
 #
 # On the way it writes `proved K of N: CRATE` for each crate that is proved; all that rt says is in target/install.log, and is shown if it fails. What was made of these very sources is not made again.
 set -eu
@@ -20,7 +19,7 @@ command -v rt >/dev/null || {
 sums() {
     rt version
     uname -m
-    find crates crates.txt include -type f | LC_ALL=C sort | xargs cksum | cksum
+    find crates crates.txt include -type f ! -path '*/out/*' | LC_ALL=C sort | xargs cksum | cksum
     cksum <"$place/libestelunya.a"
 }
 
@@ -29,8 +28,8 @@ if [ -f "$place/libestelunya.a" ] && [ "$(sums)" = "$(cat "$place/made-of" 2>/de
 else
     rm -f "$place/made-of"
     if [ "$(uname -m)" = x86_64 ]; then
-        proving estelunya target/install.log staticlib estelunya
-        made=target/staticlib
+        proving estelunya target/install.log lib
+        made=crates/estelunya/out
     else
         tools/native.sh estelunya
         made=target/native

@@ -2,6 +2,5 @@
 # sample.sh: proves the program with all that it stands on, runs it on the sample delivery (crates/ferry/data, the trial week), and prints what it said.
 set -eu
 cd "$(dirname "$0")/.."
-rt check ferry
-echo
-cat target/log/ferry.stdout
+cd crates/ferry
+rt run

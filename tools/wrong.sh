@@ -1,6 +1,6 @@
 #!/bin/sh
 # wrong.sh [CRATE ..]: the wrong programs of the must-fail edits, of these crates or of all: each with its sentence, the file that it changes (src/ is
-# code, specs/ a statement), and the declaration of the proofs that must refuse it. Proves nothing: that each is refused there says tools/refused.sh.
+# code, specs/ a statement), and the declaration of the proofs that must refuse it. Proves nothing: that each is refused there says tools/refused.py.
 # Ends with 'N wrong programs in M edits'.
 set -eu
 cd "$(dirname "$0")/../crates"

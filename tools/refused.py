@@ -1,0 +1,142 @@
+#!/usr/bin/env python3
+"""That each wrong program of the must-fail edits is refused by itself, at the fact that no longer holds.
+
+An edit costs a check of its whole crate, so it holds every wrong program that can stand beside the others: each of another function, or of
+another way out of one. A function is proved against contracts alone, so what is refused of one is not refused for another's sake. Of each the
+edit says, in lines that rt passes over,
+
+    wrong: NAME                    its name, by which papers call it; tools/wrong.sh lists them
+    refused at: FILE DECLARATION   the declaration of the proofs that must fail, for its own fact: not because another one does, nor because
+                                   the proof no longer fits the code's shape; of a goal without an answer of its own, the file that would have it
+
+usage: tools/refused.py [CRATE ..]     the edits of these crates, or of all: each is checked in a copy below target/refused/, several at a time
+Ends with 'refused.py: N wrong programs in M edits, each refused at its own place'.
+"""
+import glob
+import os
+import re
+import shutil
+import subprocess
+import sys
+from concurrent.futures import ThreadPoolExecutor
+from queue import Queue
+
+# an error that comes from another one, or from a name that is gone, says nothing of the fact
+SECONDARY = re.compile(r"was not admitted|were not admitted|was rejected|that can be named from here|has no field|is not in scope")
+ANSWER = re.compile(r"^\./(proofs/\S+?):\d+:\d+: error: `([^`]+)`: (.*)$", re.M)
+LEFT_OPEN = re.compile(r"expected answers in \./(proofs/\S+?); `search` did not prove (.*?)(?:; it calls|$)", re.M)
+
+
+def wrong_programs(edit):
+    """The wrong programs of an edit, each with its place; stops where one has no place, changes nothing, or has another's place."""
+    programs, places, pairs, now = [], set(), [], None
+
+    def ended():
+        if now and (now["place"] is None or not now["changes"]):
+            sys.exit(f"{edit}: {now['name']} has no place, or changes nothing")
+
+    file = None
+    for line in open(edit, encoding="utf-8").read().split("\n"):
+        if line.startswith("wrong: "):
+            ended()
+            now = {"name": line[7:].strip(), "place": None, "changes": 0}
+            programs.append(now)
+        elif line.startswith("refused at: "):
+            place = tuple(line.split()[2:4])
+            if now is None or len(place) != 2 or place in places:
+                sys.exit(f"{edit}: a place of no wrong program, or of two: {' '.join(place)}")
+            places.add(place)
+            now["place"] = place
+        elif line.startswith("file: "):
+            file = line[6:].strip()
+        elif line.startswith("old: "):
+            pairs.append([file, line[5:], None])
+        elif line.startswith("new:"):
+            if now is None or now["place"] is None:
+                sys.exit(f"{edit}: a change before its wrong program is named")
+            now["changes"] += 1
+            pairs[-1][2] = line[5:]
+    ended()
+    if not programs:
+        sys.exit(f"{edit}: it names no wrong program")
+    return programs, pairs
+
+
+def failed_places(log):
+    """The declarations that fail for their own fact."""
+    found = {(m.group(1), m.group(2)) for m in ANSWER.finditer(log) if not SECONDARY.search(m.group(3))}
+    for m in LEFT_OPEN.finditer(log):
+        found |= {(m.group(1), name) for name in re.findall(r"`([^`]+)`", m.group(2))}
+    return found
+
+
+def refusals(edit, tree):
+    """Applies the edit in the copy `tree`, checks its crate there, and puts the files back; what is wrong with its places."""
+    crate = edit.split("/")[1]
+    programs, pairs = wrong_programs(edit)
+    texts = {}
+    for file, old, new in pairs:
+        path = f"{tree}/crates/{crate}/{file}"
+        text = texts.get(path) or open(path, encoding="utf-8").read()
+        if text.count(old) != 1:
+            return programs, [f"{edit}: '{old}' stands {text.count(old)} times in {file}"]
+        texts[path] = text.replace(old, new)
+    was = {path: open(path, encoding="utf-8").read() for path in texts}
+    for path, text in texts.items():
+        with open(path, "w", encoding="utf-8") as to:
+            to.write(text)
+    ran = subprocess.run(["rt", "check"], cwd=f"{tree}/crates/{crate}", stdout=subprocess.PIPE, stderr=subprocess.STDOUT, text=True, errors="replace")
+    for path, text in was.items():
+        with open(path, "w", encoding="utf-8") as to:
+            to.write(text)
+    if not re.search(r"^logic=not-proved", ran.stdout, re.M):
+        return programs, [f"{edit}: its check gave no verdict, or proved it: {ran.stdout[-300:]}"]
+    found = failed_places(ran.stdout)
+    bad = []
+    for program in programs:
+        file, name = program["place"]
+        # a clause of the declaration is the declaration's
+        if not any(f == file and (n == name or n.startswith(name + "-clause-")) for f, n in found):
+            near = sorted(n for f, n in found if f == file)
+            bad.append(f"{crate}/{program['name']}: not refused at {file}, {name}" + (f"; there fails {', '.join(near)}" if near else f"; refused are {sorted(found)[:6]}"))
+    return programs, bad
+
+
+def main(crates):
+    os.chdir(os.path.join(os.path.dirname(os.path.realpath(__file__)), ".."))
+    edits = [e for e in sorted(glob.glob("crates/*/must-fail/*.edit")) if not crates or e.split("/")[1] in crates]
+    trees = Queue()
+    count = min(os.cpu_count() or 1, 4, len(edits)) if edits else 0
+    for number in range(count):
+        tree = f"target/refused/{number}"
+        shutil.rmtree(tree, ignore_errors=True)
+        os.makedirs(tree)
+        shutil.copy("crates.txt", tree)
+        if os.path.exists("HANDLES"):
+            shutil.copy("HANDLES", tree)
+        shutil.copytree("crates", f"{tree}/crates")
+        trees.put(tree)
+
+    def tried(edit):
+        tree = trees.get()
+        try:
+            return refusals(edit, tree)
+        finally:
+            trees.put(tree)
+
+    programs = failed = 0
+    with ThreadPoolExecutor(max(count, 1)) as pool:
+        for found, bad in pool.map(tried, edits):
+            programs += len(found)
+            failed += len(bad)
+            for line in bad:
+                print(line, flush=True)
+    shutil.rmtree("target/refused", ignore_errors=True)
+    if failed or not programs:
+        return 1
+    print(f"refused.py: {programs} wrong programs in {len(edits)} edits, each refused at its own place")
+    return 0
+
+
+if __name__ == "__main__":
+    sys.exit(main(sys.argv[1:]))
