@@ -54,3 +54,6 @@ loop-left-smaller c = search turn
 
 pub returns : goal.returns
 returns c = search turn
+
+pub loop-left-preserved : goal.loop-left-preserved
+loop-left-preserved c = search turn

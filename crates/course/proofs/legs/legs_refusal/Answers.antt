@@ -1,4 +1,3 @@
-use Prim.Native.Nat.{◌-◌}
 use Rattle.course.proofs.legs.Legs.{legs}
 use Rattle.course.proofs.legs.legs_refusal.Goals as goal
 

@@ -4,7 +4,6 @@ use Prim.Native.Nat.{◌-◌}
 use Rattle.base.specs.Lists.{upto, below}
 use Rattle.timetable.specs.Table.{service_at}
 use Rattle.timetable.specs.Run.{leg_refusal, first_refusal}
-use Rattle.course.proofs.legs.Legs.{legs}
 use Rattle.course.proofs.legs.legs_refusal.Given as goal
 
 abbrev pub invariant-loop-leg : goal.invariant-loop-leg

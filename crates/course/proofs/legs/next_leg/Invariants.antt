@@ -6,7 +6,6 @@ use Rattle.base.specs.Lists.{upto}
 use Rattle.timetable.specs.Legs.{operated_by}
 use Rattle.timetable.specs.Table.{service_at}
 use Rattle.course.specs.Inner.Run.{gap}
-use Rattle.course.proofs.legs.Legs.{legs}
 use Rattle.course.proofs.legs.next_leg.Given as goal
 
 abbrev pub invariant-loop-leg : goal.invariant-loop-leg

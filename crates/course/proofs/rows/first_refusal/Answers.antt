@@ -1,4 +1,3 @@
-use Prim.Native.Nat.{◌-◌}
 use native.Mathlib.Omega.{arith}
 use Rattle.course.proofs.rows.Calls.{calls}
 use Rattle.course.proofs.rows.first_refusal.Goals as goal

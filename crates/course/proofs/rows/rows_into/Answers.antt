@@ -1,11 +1,9 @@
-use Prim.Native.Nat.{◌-◌}
 use native.Mathlib.Omega.{arith}
 use Rattle.course.proofs.rows.Written.{rows}
 use Rattle.course.proofs.rows.rows_into.Goals as goal
 
 pub loop-k-init : goal.loop-k-init
 loop-k-init c = search rows
-
 
 pub overflow_add-at : goal.overflow_add-at
 overflow_add-at c = search rows

@@ -6,7 +6,6 @@ use Rattle.words.specs.Words.{write}
 use Rattle.timetable.specs.Questions.{rows_of}
 use Rattle.index.specs.Index.{view_in}
 use Rattle.course.specs.Inner.Rows.{calls_shown, service_shown}
-use Rattle.course.proofs.rows.Written.{rows}
 use Rattle.course.proofs.rows.rows_into.Given as goal
 
 abbrev pub invariant-loop-k : goal.invariant-loop-k
