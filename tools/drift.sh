@@ -42,7 +42,7 @@ echo "drift: the limits are the loader's, and the ordinary loader has the header
 
 fields_rattle() {
     awk 'FNR == NR { if ($2 == "=" && $3 ~ /^[0-9]+$/) { first[$1] = $3; last[$1] = NF == 5 ? $5 : "end" } next }
-        /^[A-Za-z]*Columns =$/ { table = $1 }
+        /^[a-z_]*_columns =$/ { table = $1 }
         $1 == "∷" { $1 = ""; $0 = $0 }
         $1 == "rest_rule" { $1 = $2; $2 = "is" }
         $2 == "is" && $1 != "plan_kind" && $1 != "plan_rest" { print table, first[$1], last[$1] }' crates/columns/specs/LineFields.antt crates/forms/specs/Columns.antt

@@ -1,7 +1,7 @@
 #!/bin/sh
-# native.sh NAME: proves the library NAME as `rt staticlib` does, and compiles the very LLVM module that the prover hands to the kit's compiler for the
+# native.sh NAME: proves the static library NAME as `rt lib` does, and compiles the very LLVM module that the prover hands to the kit's compiler for the
 # machine at hand: target/native/libNAME.a, and target/native/plain/libNAME.a without optimisation, in which every function stands by itself and its
-# calls can be counted. For tests, timings and machines that are not x86-64: what is delivered, and what the gate links, is the archive of `rt staticlib NAME`.
+# calls can be counted. For tests, timings and machines that are not x86-64: what is delivered, and what the gate links, is the archive of `rt lib`.
 #
 # On the way it writes `proved K of N: CRATE` on standard error, and what it compiles; all that rt says is in target/native/NAME.log.
 set -eu
@@ -11,19 +11,18 @@ cd "$(dirname "$0")/.."
 name=$1
 machine=$(uname -m)
 kit=$(dirname "$(dirname "$(rt doc)")")
-own=$kit/on/$machine
-clang=$own/toolchain/bin/clang
-ar=$own/toolchain/bin/llvm-ar
+clang=$kit/toolchain/bin/clang
+ar=$kit/toolchain/bin/llvm-ar
 out=$PWD/target/native
 wrap=$out/wrap
 mkdir -p "$wrap/bin" "$out/plain"
-proving "$name" "$out/$name.log" check "$name"
-# The prover writes the library anew whenever it or what it stands on has changed.
-if [ -f "$out/plain/lib$name.a" ] && [ -z "$(find "target/rlib/$name.rlib" -newer "$out/plain/lib$name.a")" ]; then exit 0; fi
+proving "$name" "$out/$name.log" lib
+# The archive is written anew whenever it or what it stands on has changed.
+if [ -f "$out/plain/lib$name.a" ] && [ -z "$(find "crates/$name/out/lib$name.a" -newer "$out/plain/lib$name.a")" ]; then exit 0; fi
 
 # The kit's toolchain, with a stand-in for the compiler that keeps the module it is given.
-ln -sfn "$own/toolchain/lib" "$wrap/lib"
-for tool in ld.lld llvm-ar; do ln -sfn "$own/toolchain/bin/$tool" "$wrap/bin/$tool"; done
+ln -sfn "$kit/toolchain/lib" "$wrap/lib"
+for tool in ld.lld llvm-ar rattle-x64; do ln -sfn "$kit/toolchain/bin/$tool" "$wrap/bin/$tool"; done
 cat >"$wrap/bin/clang" <<WRAP
 #!/bin/sh
 for word in "\$@"; do case \$word in *.bc | *.ll) [ -f "\$word" ] && cp "\$word" "$wrap/module.bc" ;; esac; done
@@ -31,20 +30,19 @@ exec "$clang" "\$@"
 WRAP
 chmod +x "$wrap/bin/clang"
 
-# --extern words for the crates that NAME names in crates.txt
+# --extern words for the crates that NAME names in crates.txt, and the folders of all libraries
 # shellcheck disable=SC2013 # the crates are words
 externs() {
-    for crate in $(sed -n "s/^$name: *//p" crates.txt); do
-        if [ -d "crates/$crate" ]; then echo "--extern $crate=target/rlib/$crate.rlib"; else echo "--extern $crate=$own/rlib/$crate.rlib"; fi
-    done
+    for crate in $(sed -n "s/^$name staticlib: *//p" crates.txt); do echo "--extern $crate=crates/$crate/out/rlib/$crate.rlib"; done
+    for folder in crates/*/out/rlib; do echo "-L dependency=$folder"; done
 }
 
 echo "native.sh: making the module of $name, which takes a minute or two" >&2
 rm -f "$wrap/module.bc"
 # shellcheck disable=SC2046 # externs are words
-"$own/bin/rattle" build --crate-name "$name" "crates/$name/src/lib.rt" --extern "std=$own/rlib/std.rlib" $(externs) \
-    -L dependency=target/rlib -L "dependency=$own/rlib" --antt-project "$kit/logic/antt-project.json" --logic-built "$own/logic-built" \
-    --toolchain "$wrap" --crate-type staticlib -o "$out/lib$name-x86_64.a" >>"$out/$name.log" 2>&1 || { cat "$out/$name.log" >&2; exit 1; }
+"$kit/bin/rattle" build --crate-name "$name" "crates/$name/src/lib.rt" --extern "std=$kit/rlibs/std.rlib" $(externs) \
+    -L "dependency=$kit/rlibs" --antt-project "$kit/rattle/logic/antt-project.json" --logic-built "$kit/logic_built" \
+    --toolchain "$wrap" --crate-type staticlib --backend llvm -o "$out/lib$name-x86_64.a" >>"$out/$name.log" 2>&1 || { cat "$out/$name.log" >&2; exit 1; }
 [ -f "$wrap/module.bc" ] || { echo 'native.sh: the module was not seen' >&2; exit 1; }
 
 # The module as text, for this machine.

@@ -1,5 +1,5 @@
 //! Links the proved archive `libestelunya.a`: from the directory that `ESTELUNYA_LIB` names, else from `../../target/staticlib`, where
-//! `rt staticlib estelunya` writes it, or, if there is none, from `../../lib`, where `tools/install.sh` puts it and a run of the gate leaves it.
+//! the tools of the gate put it (`rt lib` in crates/estelunya makes it), or, if there is none, from `../../lib`, where `tools/install.sh` puts it and a run of the gate leaves it.
 //! A relative directory counts from where cargo was started, else from this crate.
 //!
 //! Without an archive that fits it warns and names none: what links nothing (`cargo check`, `cargo doc`) goes on, and where a program is linked rustc says that the library is missing.
@@ -71,7 +71,7 @@ fn other_machine(archive: &Path, bytes: &[u8]) -> Option<String> {
     let fits = (made_for, "linux") == (&*machine, &*system);
     (!fits).then(|| {
         format!(
-            "{} is made for {} Linux, and this build is for {} {}: `rt staticlib estelunya` writes it for x86-64 Linux; \
+            "{} is made for {} Linux, and this build is for {} {}: tools/install.sh makes it for x86-64 Linux; \
              tools/native.sh estelunya makes one for the machine at hand, for which ESTELUNYA_LIB is to name target/native",
             archive.display(),
             made_for,
