@@ -1,4 +1,3 @@
-use Prim.Native.Nat.{◌-◌}
 use Rattle.calls_check.proofs.Entries.{routes}
 use Rattle.calls_check.proofs.route_right.Goals as goal
 

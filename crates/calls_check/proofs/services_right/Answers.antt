@@ -1,5 +1,4 @@
-use Prim.Native.Nat.{◌-◌}
-use Rattle.calls_check.proofs.Entries.{services}
+use Rattle.calls_check.proofs.Entries.{services, all-again}
 use Rattle.calls_check.proofs.services_right.Goals as goal
 
 pub bounds-w-6 : goal.bounds-w-6
@@ -34,3 +33,17 @@ loop-i-smaller c = search services
 
 pub returns : goal.returns
 returns c = search services
+
+pub loop-i-preserved : goal.loop-i-preserved
+loop-i-preserved c = (
+  search services,
+  search (
+    all-again,
+    c.loop-i.invariant.1,
+    c.loop-i-test.true,
+    c.calls_at-c.ensures,
+    c.route_right.ensures,
+    c.if-not-route_right.false,
+    c.next_place-at.ensures,
+  ),
+)

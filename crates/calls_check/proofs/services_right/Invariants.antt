@@ -4,7 +4,6 @@ use Rattle.calls.specs.Inner.Passed.{Here}
 use Rattle.timetable.specs.Table.{stops#, services#}
 use Prim.Native.Nat.{◌-◌}
 use mathlib.Core.Path.{◌≡◌}
-use Rattle.calls_check.proofs.Entries.{services}
 use Rattle.calls_check.proofs.services_right.Given as goal
 
 abbrev pub invariant-loop-i : goal.invariant-loop-i

@@ -1,5 +1,4 @@
 use native.Mathlib.Omega.{arith}
-use Prim.Native.Nat.{◌-◌}
 use Rattle.calls_check.proofs.Needs.{totals}
 use Rattle.calls_check.proofs.total.Goals as goal
 
