@@ -19,12 +19,11 @@ use Rattle.forms.specs.Form.{is_time, has_form}
 use Rattle.forms.specs.Columns.{call_columns}
 use Rattle.timetable.specs.Plan.{call_in, minutes_of, flags_of, three_bytes}
 use Rattle.timetable.specs.declared.CallLine.{CallLine}
-use Rattle.timetable.specs.declared.Told.{Told}
 use Rattle.timetable.specs.declared.Told.TheVariants.{Calls}
 use Rattle.timetable.proofs.Lines.{flags-le}
 use Rattle.told.specs.Inner.Marked.{mark_column}
 use Rattle.told.specs.Inner.Calls.{last_time, head_fits, tail_fits, end_fits, blank_call, filled_call}
-use Rattle.told.proofs.Form.{Asked, has-asked, reaches, figures}
+use Rattle.told.proofs.Form.{has-asked, reaches, figures}
 use Rattle.told.proofs.Times.{double}
 
 every_append : (t : ℕ → Bool) (a b : List ℕ) → every t (a ++ b) ≡ (every t a && every t b)
