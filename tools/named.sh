@@ -5,7 +5,7 @@
 set -eu
 cd "$(dirname "$0")/.."
 [ $# -gt 0 ] || set -- README.md docs/*.md
-files=$(find . \( -name .git -o -name target -o -path ./lib \) -prune -o -type f -print | sed 's,^\./,,')
+files=$(find . \( -name .git -o -name target -o -name out -o -path ./lib \) -prune -o -type f -print | sed 's,^\./,,')
 known=$(mktemp)
 trap 'rm -f "$known"' EXIT
 {
