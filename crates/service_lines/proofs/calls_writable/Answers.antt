@@ -8,7 +8,6 @@ bounds-s-6 c = search calls
 pub loop-k-init : goal.loop-k-init
 loop-k-init c = search calls
 
-
 pub call_writable-requires : goal.call_writable-requires
 call_writable-requires c = search calls
 
@@ -29,3 +28,6 @@ loop-k-preserved c = (omega arith, search calls, search calls)
 
 pub returns : goal.returns
 returns c = search calls
+
+pub call_shown-requires-clause-s_value : goal.call_shown-requires-clause-s_value
+call_shown-requires-clause-s_value c = search calls

@@ -56,3 +56,5 @@ loop-k-smaller c = search counted
 pub loop-k-preserved : goal.loop-k-preserved
 loop-k-preserved c = (search counted, omega arith, search counted, search counted)
 
+pub returns-clause-value : goal.returns-clause-value
+returns-clause-value c = search counted

@@ -6,7 +6,6 @@ use lib.ListN.{length, drop}
 use Prim.Native.Nat.{◌≤◌}
 use mathlib.Core.Bool.{true}
 use mathlib.Core.Path.{◌≡◌}
-use Rattle.service_lines.proofs.Services.{services}
 use Rattle.service_lines.proofs.services_writable.Given as goal
 
 abbrev pub invariant-loop-k : goal.invariant-loop-k
