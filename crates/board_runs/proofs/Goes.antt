@@ -1,13 +1,13 @@
 -- The needs of the functions that tell whether a record is sound and the day's course goes on from a place. Assumes nothing.
 use mathlib.Core.Path.{◌≡◌, refl, sym, ap, ◌∙◌}
-use mathlib.Core.List.{List, [], ◌∷◌}
+use mathlib.Core.List.{List, []}
 use mathlib.Core.Bool.{Bool, true, false, cond, not, ◌&&◌}
 use mathlib.Core.Option.{Option, none, some}
-use Prim.Native.Nat.{ℕ, zero, suc, ◌+◌, ◌-◌, ◌*◌, ◌^◌, ◌≤◌, ◌<◌}
+use Prim.Native.Nat.{ℕ, ◌+◌, ◌-◌, ◌*◌, ◌≤◌, ◌<◌}
 use native.Mathlib.Omega.{arith}
 use lib.ListN.{length, get_or, take, drop, drop_of_length-le}
 use lib.Dec.{eqb, ltb, leb}
-use borrow.Author.Tests.{not-true, not-false, eq-eqb, ne_eqb, le-leb, lt-leb, lt-ltb, le-ltb}
+use borrow.Author.Tests.{not-true, not-false, le-leb, lt-leb, lt-ltb, le-ltb}
 use Rattle.base.proofs.Laws.{tests, clash, by-leb, by-ltb, by_eqb}
 use Rattle.base.proofs.Loops.{and-true}
 use Rattle.timetable.specs.Layout.{service_head, call_size, day_size}
@@ -38,7 +38,7 @@ use Rattle.board_runs.specs.declared.Batch.{Batch}
 use Rattle.board_runs.specs.Inner.Goes.{goes_from, goes_along, goes_in, along_in, record_gives, is_none, unrefused, Opened, DaysInTurn, CallReady}
 use Rattle.board_runs.proofs.Given.{followed-days, goes-ready, goes_none, call-room, unmarked, none-past, given_by}
 use Rattle.board_runs.proofs.Plain.{plain-record, plain-fine}
-use Rattle.board_runs.proofs.Hidden.{past-none, shelf-fits, shelf-some, shelf-place}
+use Rattle.board_runs.proofs.Quiet.{past-none, shelf-fits, shelf-some, shelf-place}
 
 and_no : (b : Bool) → false ≡ (b && false)
 and_no true = refl

@@ -1,6 +1,6 @@
 pub mod Interval
 pub mod Given
 pub mod Needs
-pub mod Hidden
+pub mod Quiet
 pub mod Plain
 pub mod Goes

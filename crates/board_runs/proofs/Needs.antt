@@ -29,8 +29,8 @@ use Rattle.sort.specs.Rows.{board_row_words}
 use Rattle.spans.specs.Spans.{runs#, span_of}
 use Rattle.spans.specs.declared.Span.{Span}
 use Rattle.spans.proofs.Meaning.{has-below, end-runs}
-use Rattle.board.specs.Board.{Departure, boardable, departure_of, runs_from, call_departures, leaves}
-use Rattle.board_runs.specs.Batch.{batch_rows, Batched, call_gives}
+use Rattle.board.specs.Board.{boardable, departure_of, runs_from, call_departures, leaves}
+use Rattle.board_runs.specs.Batch.{Batched, call_gives}
 use Rattle.board_runs.specs.declared.Batch.{Batch}
 use Rattle.board_runs.specs.Inner.Goes.{CallReady}
 use Rattle.board_runs.proofs.Interval.{runs-in-a-row}

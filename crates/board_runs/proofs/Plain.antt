@@ -3,32 +3,27 @@
 use mathlib.Core.Path.{◌≡◌, refl, sym, ap, ◌∙◌}
 use mathlib.Core.List.{List, [], ◌∷◌}
 use mathlib.Core.Bool.{Bool, true, false, not, ◌&&◌}
-use mathlib.Core.Option.{Option, none, some}
-use Prim.Native.Nat.{ℕ, zero, suc, ◌+◌, ◌-◌, ◌*◌, ◌/◌, ◌%◌, ◌^◌, ◌≤◌, ◌<◌}
+use Prim.Native.Nat.{ℕ, zero, suc, ◌+◌, ◌-◌, ◌*◌, ◌/◌, ◌%◌, ◌≤◌, ◌<◌}
 use native.Mathlib.Omega.{arith}
 use lib.ListN.{length, get_or, drop, length-drop}
-use lib.Seq.{drop-drop, get_or-drop}
+use lib.Seq.{drop-drop}
 use lib.Bits.{bit_and, and_mod, and_le_l}
-use lib.Dec.{eqb, ltb, leb}
-use borrow.Author.Tests.{not-true, not-false, eq-eqb, ne_eqb, eqb-true, le-leb, lt-leb, leb-true, lt-ltb, le-ltb, ltb-true}
+use lib.Dec.{eqb, ltb}
+use borrow.Author.Tests.{not-true, not-false, eq-eqb, eqb-true, le-leb, lt-ltb, ltb-true}
 use Rattle.base.specs.Lists.{every}
 use Rattle.base.proofs.Laws.{tests, clash}
 use Rattle.base.proofs.Loops.{and-true}
-use Rattle.timetable.specs.Layout.{service_head, call_size, category_size, day_size, extra_size, latest_time, all_flags}
+use Rattle.timetable.specs.Layout.{service_head, call_size, category_size, day_size}
 use Rattle.timetable.specs.Delivery.{Legs}
-use Rattle.timetable.specs.Ranges.{has_arrival, has_departure}
-use Rattle.timetable.specs.Runs.{opening_sound}
-use Rattle.timetable.specs.Table.{rows_in, call_at, legs_at, opening_at, calls#, categories#, days#, extras#, category_place, day_place, extra_place, service_at, call_sound, legs_sound, service_sound, sizes_sound, record_sound}
-use Rattle.timetable.specs.Run.{calls_refusal}
+use Rattle.timetable.specs.Ranges.{has_departure}
+use Rattle.timetable.specs.Table.{rows_in, call_at, legs_at, calls#, categories#, days#, extras#, category_place, day_place, legs_sound, sizes_sound, record_sound}
 use Rattle.timetable.specs.declared.Call.{Call}
-use Rattle.timetable.proofs.Rows.{one-row}
 use Rattle.table.specs.JustTable.{extras_sound}
 use Rattle.table.specs.Steady.{passes_steady, later_steady, calls_steady}
 use Rattle.table.proofs.steady.Laws.{opens-says, passes-says, ends-says, both-parts, steady-sound}
 use Rattle.table.proofs.Says.{sizes-say, service-parts, head-word}
 use Rattle.cover.specs.Inner.Cover.{legs_in, begins, in_turn}
-use Rattle.course.specs.Inner.Run.{noted}
-use Rattle.course.specs.Inner.Rows.{time_fine, times_stand, later_stand, calls_from}
+use Rattle.course.specs.Inner.Rows.{times_stand, later_stand}
 use Rattle.course.proofs.rows.Times.{turn-fine}
 use Rattle.board_runs.specs.Inner.Goes.{is_none, unrefused, DaysInTurn}
 use Rattle.board_runs.specs.Batch.{followed}

@@ -26,7 +26,7 @@ use Rattle.board.specs.Board.{departure_of, runs_from}
 use Rattle.board_runs.specs.Batch.{record_of, departures_in}
 use Rattle.board_runs.proofs.Interval.{runs-in-a-row}
 use Rattle.board_runs.proofs.Given.{none-past}
-use Rattle.board_runs.proofs.Hidden.{record-few}
+use Rattle.board_runs.proofs.Quiet.{record-few}
 
 -- every service that words and an index show has an opening line as a table has it
 pub opening-shown : (w x : List ℕ) (i : ℕ) (s : Service) → (view_in w x).service i ≡ a_service s → opening_sound s.opening ≡ true

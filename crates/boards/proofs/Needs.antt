@@ -36,7 +36,7 @@ use Rattle.board.specs.Question.{board, boarded_by, board_into}
 use Rattle.board.specs.declared.BoardAnswer.TheVariants.{Listed, Refused}
 use Rattle.board_runs.specs.Batch.{departures_in, batch_rows, Batched, Shelved, Quiet, AtMost}
 use Rattle.board_runs.specs.declared.Batch.{Batch}
-use Rattle.board_runs.proofs.Hidden.{none-long}
+use Rattle.board_runs.proofs.Quiet.{none-long}
 use Rattle.stop_calls.specs.StopCalls.{entries#, entry_word, calls_by, Lent, left_at, On}
 use Rattle.stop_calls.specs.declared.Cursor.{Cursor}
 use Rattle.boards.specs.ByWords.{steady_in, entry_departures, departures_by, board_by, Lends, Along, left_departures, Calm, Few, one_if, Behind, Entry, KeptFrom, Kept, Told, Keeping, PuttingKept, Putting, most}

@@ -32,7 +32,7 @@ pub bounds-w-4 : goal.bounds-w-4
 bounds-w-4 c = search from-days
 
 pub goes_along-requires : goal.goes_along-requires
-goes_along-requires c = (search from-days, (search from-days, search from-days))
+goes_along-requires c = record { days_in_turn = search from-days; start_le_end = search from-days }
 
 pub returns : goal.returns
 returns c = search from-days

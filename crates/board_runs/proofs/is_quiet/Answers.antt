@@ -1,4 +1,4 @@
-use Rattle.board_runs.proofs.Hidden.{quiets}
+use Rattle.board_runs.proofs.Quiet.{quiets}
 use Rattle.board_runs.proofs.is_quiet.Goals as goal
 
 pub wide-requires : goal.wide-requires

@@ -1,4 +1,4 @@
-use Rattle.board_runs.proofs.Hidden.{mostly}
+use Rattle.board_runs.proofs.Quiet.{mostly}
 use Rattle.board_runs.proofs.most_from.Goals as goal
 
 pub opening_at-opening-requires : goal.opening_at-opening-requires

@@ -1,4 +1,4 @@
-use Rattle.board_runs.proofs.Hidden.{mosts}
+use Rattle.board_runs.proofs.Quiet.{mosts}
 use Rattle.board_runs.proofs.most_runs.Goals as goal
 
 pub is_quiet-requires : goal.is_quiet-requires

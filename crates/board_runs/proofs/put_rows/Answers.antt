@@ -1,4 +1,3 @@
-use Prim.Native.Nat.{◌-◌}
 use Rattle.board_runs.proofs.Needs.{rows}
 use Rattle.board_runs.proofs.put_rows.Goals as goal
 

@@ -1,3 +1,5 @@
+use mathlib.Core.Path.{ap}
+use mathlib.Core.Bool.{not}
 use Rattle.base.proofs.Laws.{tests}
 use Rattle.index.specs.Index.{view_in}
 use Rattle.board_runs.proofs.Goes.{one-record, record-ready}
@@ -33,7 +35,7 @@ returns-then-not-goes_from c = search one-record
 pub call_runs-requires : goal.call_runs-requires
 call_runs-requires c =
     let given = c.args in
-    (search tests, record-ready given.steady (view_in given.w.now given.x.now) _ given.k given.p given.s.now _ c.goes_from.ensures c.if-not-goes_from.false)
+    record { ready = search tests; call_ready = record-ready given.steady (view_in given.w.now given.x.now) _ given.k given.p given.s.now _ c.goes_from.ensures (ap not c.if-not-goes_from.false) }
 
 pub returns : goal.returns
 returns c = search one-record

@@ -6,9 +6,9 @@ use mathlib.Core.Option.{some}
 use Prim.Native.Nat.{ℕ, ◌+◌, ◌-◌, ◌*◌, ◌^◌, ◌≤◌, ◌<◌}
 use native.Mathlib.Omega.{arith}
 use lib.ListN.{length, get_or, drop, length-drop}
-use lib.Seq.{get_or-drop, drop-drop}
-use lib.Dec.{eqb, leb, ltb}
-use borrow.Author.Tests.{lt-ltb, le-ltb, ne_eqb, eqb-true, not-true, not-false}
+use lib.Seq.{get_or-drop}
+use lib.Dec.{eqb, leb}
+use borrow.Author.Tests.{ne_eqb, eqb-true, not-true, not-false}
 use Rattle.base.proofs.Laws.{tests, clash, by-ltb, by-leb}
 use Rattle.base.proofs.Lists.{length-map-upto}
 use Rattle.timetable.specs.Layout.{service_head, call_size}
@@ -16,7 +16,7 @@ use Rattle.timetable.specs.Runs.{opening_sound}
 use Rattle.timetable.specs.Table.{stops#, services#, calls#, call_at, opening_at, with_stop}
 use Rattle.timetable.specs.declared.Call.{Call}
 use Rattle.timetable.specs.declared.Opening.{Opening}
-use Rattle.index.specs.Index.{services_from, index_size, record_place_in, view_in}
+use Rattle.index.specs.Index.{record_place_in, view_in}
 use Rattle.spans.specs.Spans.{first_run, end_run, span_of}
 use Rattle.spans.specs.declared.Span.{Span}
 use Rattle.spans.proofs.Meaning.{once-before, once-end}
