@@ -1,0 +1,38 @@
+use native.Mathlib.Omega.{arith}
+use Rattle.plan_writing.proofs.Lines.{calls}
+use Rattle.plan_writing.specs.Inner.Record.{calls_text}
+use Rattle.words.specs.Words.{write}
+use Rattle.timetable.specs.Table.{calls#, table_of}
+use mathlib.Core.Bool.{true}
+use Rattle.plan_writing.proofs.Lines.{calls-again}
+use Rattle.plan_writing.proofs.put_calls.Goals as goal
+
+pub bounds-s-6 : goal.bounds-s-6
+bounds-s-6 c = search calls
+
+pub loop-k-init : goal.loop-k-init
+loop-k-init c = search calls
+
+pub put_call-requires : goal.put_call-requires
+put_call-requires c = search calls
+
+pub overflow_add-p : goal.overflow_add-p
+overflow_add-p c = search calls
+
+pub overflow_add-q : goal.overflow_add-q
+overflow_add-q c = search calls
+
+pub overflow_sub-k : goal.overflow_sub-k
+overflow_sub-k c = search calls
+
+pub loop-k-smaller : goal.loop-k-smaller
+loop-k-smaller c = search calls
+
+pub shape_of-text : goal.shape_of-text
+shape_of-text c = search calls
+
+pub call_shown-requires-clause-s_value : goal.call_shown-requires-clause-s_value
+call_shown-requires-clause-s_value c = search calls
+
+pub returns-clause-bytes : goal.returns-clause-bytes
+returns-clause-bytes c = search calls
