@@ -1,0 +1,14 @@
+use Rattle.boards.proofs.Needs.{looks}
+use Rattle.boards.proofs.most_of.Goals as goal
+
+pub entry_word-i-requires : goal.entry_word-i-requires
+entry_word-i-requires c = search looks
+
+pub entry_word-p-requires : goal.entry_word-p-requires
+entry_word-p-requires c = search looks
+
+pub most_runs-requires : goal.most_runs-requires
+most_runs-requires c = search looks
+
+pub returns : goal.returns
+returns c = search looks
