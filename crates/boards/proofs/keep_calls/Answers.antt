@@ -20,10 +20,10 @@ pub most_calls-requires : goal.most_calls-requires
 most_calls-requires c = search wholes
 
 pub first_call-c-requires : goal.first_call-c-requires
-first_call-c-requires c = (search wholes, search wholes)
+first_call-c-requires c = record { lent = search wholes; most_nonzero = search wholes }
 
 pub keep_from-requires : goal.keep_from-requires
-keep_from-requires c = ((search wholes, search wholes), search wholes)
+keep_from-requires c = record { along = (search wholes, search wholes); on = search wholes }
 
 pub shape_of-kept : goal.shape_of-kept
 shape_of-kept c = search wholes

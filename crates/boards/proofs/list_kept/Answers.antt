@@ -17,7 +17,7 @@ pub returns-then-kept-m : goal.returns-then-kept-m
 returns-then-kept-m c = search lists
 
 pub list_calls-requires : goal.list_calls-requires
-list_calls-requires c = ((search lists, search lists), (search lists, search lists))
+list_calls-requires c = record { lends = (search lists, search lists); told = search lists; last_in_bounds = search lists }
 
 pub shape_of-list : goal.shape_of-list
 shape_of-list c = search lists

@@ -1,4 +1,3 @@
-use Prim.Native.Nat.{◌-◌}
 use Rattle.boards.proofs.Needs.{tolds}
 use Rattle.boards.proofs.put_kept.Goals as goal
 
