@@ -3,7 +3,6 @@ use Rattle.plan_writing.proofs.Lines.{calls}
 use Rattle.plan_writing.specs.Inner.Record.{calls_text}
 use Rattle.words.specs.Words.{write}
 use Rattle.timetable.specs.Table.{calls#, table_of}
-use mathlib.Core.Bool.{true}
 use Rattle.plan_writing.proofs.Lines.{calls-again}
 use Rattle.plan_writing.proofs.put_calls.Goals as goal
 
@@ -36,3 +35,13 @@ call_shown-requires-clause-s_value c = search calls
 
 pub returns-clause-bytes : goal.returns-clause-bytes
 returns-clause-bytes c = search calls
+
+pub loop-k-preserved : goal.loop-k-preserved
+loop-k-preserved c = (
+  omega arith,
+  search calls,
+  search calls,
+  search calls,
+  calls-again c.loop-k.text c.args.text.now c.loop-k.q c.loop-k.k c.args.at (calls# c.args.s.now) c.loop-k-test.true c.loop-k.invariant.1 c.requires.s_in_bounds c.loop-k.invariant.2
+      (table_of c.args.w.now).stops c.args.s.now c.put_call.new.t (write c.args.text.now c.args.at (calls_text (table_of c.args.w.now).stops c.args.s.now)) c.loop-k.p c.call_shown.result c.call_shown.ensures c.put_call.ensures c.loop-k.invariant.4,
+)

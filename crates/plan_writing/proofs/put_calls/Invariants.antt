@@ -11,7 +11,6 @@ use Prim.Native.Nat.{◌+◌, ◌*◌, ◌≤◌}
 use mathlib.Core.Bool.{true}
 use mathlib.Core.List.{map}
 use mathlib.Core.Path.{◌≡◌}
-use Rattle.plan_writing.proofs.Lines.{calls}
 use Rattle.plan_writing.proofs.put_calls.Given as goal
 
 abbrev pub invariant-loop-k : goal.invariant-loop-k
