@@ -51,3 +51,12 @@ returns-in-Schedule-clause-ranges_after c = search again-said
 
 pub returns-in-Category : goal.returns-in-Category
 returns-in-Category c = search again-said
+
+pub returns-in_default-kind-2-clause-value : goal.returns-in_default-kind-2-clause-value
+returns-in_default-kind-2-clause-value c = search again-passed
+
+pub returns-in_default-kind-2-clause-calls_after : goal.returns-in_default-kind-2-clause-calls_after
+returns-in_default-kind-2-clause-calls_after c = search again-passed
+
+pub returns-in_default-kind-2-clause-ranges_after : goal.returns-in_default-kind-2-clause-ranges_after
+returns-in_default-kind-2-clause-ranges_after c = search again-passed

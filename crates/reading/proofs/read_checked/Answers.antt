@@ -1,12 +1,8 @@
-use Prim.Native.Nat.{◌-◌}
+use native.Mathlib.Omega.{arith}
 use Rattle.base.proofs.Laws.{tests}
 use Rattle.reading.proofs.Passing.{pass-less}
-use Rattle.reading.proofs.Checking.{checking}
+use Rattle.reading.proofs.Checking.{clean-first, refused-first, clean-within, clean-more, checking}
 use Rattle.reading.proofs.read_checked.Goals as goal
-
--- what the loop is entered with, and the start
-abbrev entry : goal.After-opening-of invariant-loop decreases-loop → goal.Start invariant-loop decreases-loop
-entry c = c.before.before.before.before.before.before.before.before.before.before.before.before.before.before.before.before.before
 
 pub line_from-cut-requires : goal.line_from-cut-requires
 line_from-cut-requires c = search checking
@@ -76,3 +72,55 @@ enum_told-in_default-offence_after c = search checking
 
 pub loop-said-smaller : goal.loop-said-smaller
 loop-said-smaller c = search pass-less
+
+pub returns-in-Offends : goal.returns-in-Offends
+returns-in-Offends c =
+    search (refused-first, c.requires.boundary.0, c.requires.boundary.1, c.line_from-cut.ensures, c.told_first-first.ensures, c.first_offence.ensures, c.in-Offends.is)
+
+pub loop-said-init : goal.loop-said-init
+loop-said-init c = (
+      search tests,
+      search tests,
+      search (
+        clean-first,
+        c.requires.boundary.0,
+        c.requires.boundary.1,
+        c.requires.calls_lent_in_bounds.0,
+        c.requires.calls_lent_in_bounds.1,
+        c.line_from-cut.ensures,
+        c.told_first-first.ensures,
+        c.no_counts-counts.ensures,
+        c.first_offence.ensures,
+        c.in_default.is,
+        c.opening_of-opening.ensures,
+      ),
+      c.requires.field_map,
+    )
+
+pub draft_line-counts-requires-clause-within : goal.draft_line-counts-requires-clause-within
+draft_line-counts-requires-clause-within c =
+    search (
+      clean-within,
+      c.loop-said.invariant.2,
+      c.next_line.ensures,
+      c.in-Line.is,
+      c.offence_after.ensures,
+      c.in_default-offence_after.is,
+    )
+
+pub loop-said-preserved : goal.loop-said-preserved
+loop-said-preserved c = (
+      search checking,
+      search checking,
+      search (
+        clean-more,
+        c.loop-said.invariant.2,
+        c.next_line.ensures,
+        c.in-Line.is,
+        c.offence_after.ensures,
+        c.in_default-offence_after.is,
+        c.draft_line-counts.ensures,
+        c.draft_line-counts.auto,
+      ),
+      c.loop-said.invariant.3,
+    )
