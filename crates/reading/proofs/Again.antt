@@ -9,7 +9,7 @@ use types.Run.{OneOf}
 use Prim.Native.Nat.{ℕ}
 use native.Mathlib.Omega.{arith}
 use Rattle.base.proofs.Laws.{clash, tests}
-use Rattle.lines.specs.Lines.{Line, skipped}
+use Rattle.lines.specs.Lines.{skipped}
 use Rattle.forms.specs.Form.{form_of, is_fit, has_form}
 use Rattle.forms.specs.Columns.{service_columns, frequency_columns, category_columns, attribute_columns, call_columns}
 use Rattle.forms.specs.Kinds.{kind_of}
@@ -21,7 +21,7 @@ use Rattle.forms.specs.contracts.Kind as K
 use Rattle.told.proofs.Laws.{is_other, told-own}
 use Rattle.timetable.specs.Delivery.{BitField, StopRecord, CategoryClass}
 use Rattle.timetable.specs.Offences.{verdict_by}
-use Rattle.timetable.specs.Plan.{opening_in, frequency_in, category_in, attribute_in, call_in, formed, told_by, told_in, is_opening, opens_service, as_call, as_range}
+use Rattle.timetable.specs.Plan.{opening_in, frequency_in, category_in, attribute_in, call_in, formed, told_by, told_in, is_opening, as_call, as_range}
 use Rattle.timetable.specs.declared.CallLine.{CallLine}
 use Rattle.timetable.specs.declared.Opening.{Opening}
 use Rattle.timetable.specs.declared.RangeLine.{RangeLine}

@@ -1,9 +1,9 @@
 -- The own checks of a service's lines, one after the other. Assumes nothing.
 use mathlib.Core.Path.{◌≡◌, refl, sym, ap, ◌∙◌}
 use mathlib.Core.List.{List, [], ◌∷◌, ◌++◌, append_assoc, append-nil}
-use mathlib.Core.Bool.{Bool, true, false}
+use mathlib.Core.Bool.{true}
 use mathlib.Core.Option.{Option, none, some}
-use Prim.Native.Nat.{ℕ, ◌+◌, ◌-◌, ◌≤◌, ◌<◌}
+use Prim.Native.Nat.{ℕ, ◌-◌, ◌≤◌, ◌<◌}
 use native.Mathlib.Omega.{arith}
 use lib.ListN.{length, take, drop}
 use lib.Dec.{leb}
@@ -31,7 +31,7 @@ use Rattle.timetable.proofs.Offences.{then-none, given-none, first-none, verdict
 use Rattle.draft.specs.Inner.Draft.{calls_lent, ranges_lent, calls_on, ranges_on, on_line, calls_after, counts_of, count_part, ranges#, no_counts, counted, Within}
 use Rattle.draft.specs.declared.Counts.{Counts}
 use Rattle.draft.proofs.Drafts.{counts-more}
-use Rattle.reading.specs.Inner.Reading.{service_lines_at, Boundary, Sound, is_formed, all_formed, NextLine, NextAs, count_of, range_after, call_after, form_after, offence_after}
+use Rattle.reading.specs.Inner.Reading.{service_lines_at, Boundary, Sound, is_formed, all_formed, NextLine, NextAs, count_of, range_after, form_after, offence_after}
 use Rattle.reading.specs.declared.Next.{Next}
 use Rattle.reading.specs.declared.Next.TheVariants.{Line as LineTold, End}
 use Rattle.reading.proofs.Heads.{cut_line, after, first-opens}

@@ -34,7 +34,6 @@ use Rattle.timetable.proofs.Calls.{calls_count}
 use Rattle.timetable.specs.contracts.Told.{the_type}
 use Rattle.draft.specs.Inner.Draft.{calls_lent, ranges_lent, calls_on, ranges_on, on_line, calls_after, counts_of, ranges#, no_counts, counted, Within, DraftOf}
 use Rattle.draft.specs.declared.Counts.{Counts}
-use Rattle.draft.specs.declared.Drafted.{Drafted}
 use Rattle.draft.proofs.Drafts.{draft-first, draft-more, opening-kept, counts-more}
 use Rattle.reading.specs.Inner.Reading.{service_lines_at, Boundary, Sound, is_formed, all_formed, ServiceRead, NextLine, NextAs}
 use Rattle.reading.specs.declared.Next.{Next}

@@ -1,10 +1,10 @@
-use mathlib.Core.Path.{◌≡◌, refl, sym, ap, ◌∙◌}
+use mathlib.Core.Path.{◌≡◌, sym, ap, ◌∙◌}
 use mathlib.Core.List.{List}
 use Prim.Native.Nat.{ℕ}
 use Rattle.lines.specs.Lines.{cut_at}
 use Rattle.lines.specs.declared.Cut.{Cut}
 use Rattle.lines.proofs.Laws.{Cutting, cutting, cut-less}
-use Rattle.reading.proofs.Heads.{head-start, head_passed, head-answer, head-over}
+use Rattle.reading.proofs.Heads.{head_passed, head-answer, head-over}
 use Rattle.reading.proofs.head_end.Goals as goal
 
 -- the line that the reader cut is the one that stands at its place of f
@@ -34,9 +34,11 @@ loop-reader-smaller c =
 
 pub loop-reader-preserved : goal.loop-reader-preserved
 loop-reader-preserved c =
-    rw c.next_line-cut.ensures.1 (c.loop-reader.invariant.0,
-    head_passed _ _ _ c.loop-reader.invariant.1 _ c.loop-reader-test.true (here _ _ _ _ _ c.loop-reader.invariant.0 c.next_line-cut.ensures.0)
-    (sym c.if-ends_head.false ∙ c.ends_head.ensures))
+    rw c.next_line-cut.ensures.1 (
+      c.loop-reader.invariant.0,
+      head_passed _ _ _ c.loop-reader.invariant.1 _ c.loop-reader-test.true (here _ _ _ _ _ c.loop-reader.invariant.0 c.next_line-cut.ensures.0)
+          (sym c.if-ends_head.false ∙ c.ends_head.ensures),
+    )
 
 pub returns : goal.returns
 returns c = head-over _ _ _ c.loop-reader.invariant.1 _ c.requires c.loop-reader-test.false c.clear_at.ensures

@@ -1,4 +1,3 @@
-use Prim.Native.Nat.{◌-◌}
 use Rattle.reading.proofs.Passing.{passing}
 use Rattle.reading.proofs.Reaching.{reaching}
 use Rattle.reading.proofs.read_again.Goals as goal
@@ -80,3 +79,6 @@ draft_again-counts-requires-clause-kind_value c = search passing
 
 pub draft_again-counts-requires-clause-within : goal.draft_again-counts-requires-clause-within
 draft_again-counts-requires-clause-within c = search passing
+
+pub cut_again-after-requires-clause-reaching : goal.cut_again-after-requires-clause-reaching
+cut_again-after-requires-clause-reaching c = search reaching

@@ -1,4 +1,3 @@
-use native.Mathlib.Omega.{arith}
 use Rattle.base.proofs.Laws.{tests}
 use Rattle.reading.proofs.Passing.{pass-less}
 use Rattle.reading.proofs.Checking.{clean-first, refused-first, clean-within, clean-more, checking}
@@ -79,23 +78,23 @@ returns-in-Offends c =
 
 pub loop-said-init : goal.loop-said-init
 loop-said-init c = (
-      search tests,
-      search tests,
-      search (
-        clean-first,
-        c.requires.boundary.0,
-        c.requires.boundary.1,
-        c.requires.calls_lent_in_bounds.0,
-        c.requires.calls_lent_in_bounds.1,
-        c.line_from-cut.ensures,
-        c.told_first-first.ensures,
-        c.no_counts-counts.ensures,
-        c.first_offence.ensures,
-        c.in_default.is,
-        c.opening_of-opening.ensures,
-      ),
-      c.requires.field_map,
-    )
+  search tests,
+  search tests,
+  search (
+    clean-first,
+    c.requires.boundary.0,
+    c.requires.boundary.1,
+    c.requires.calls_lent_in_bounds.0,
+    c.requires.calls_lent_in_bounds.1,
+    c.line_from-cut.ensures,
+    c.told_first-first.ensures,
+    c.no_counts-counts.ensures,
+    c.first_offence.ensures,
+    c.in_default.is,
+    c.opening_of-opening.ensures,
+  ),
+  c.requires.field_map,
+)
 
 pub draft_line-counts-requires-clause-within : goal.draft_line-counts-requires-clause-within
 draft_line-counts-requires-clause-within c =
@@ -110,17 +109,17 @@ draft_line-counts-requires-clause-within c =
 
 pub loop-said-preserved : goal.loop-said-preserved
 loop-said-preserved c = (
-      search checking,
-      search checking,
-      search (
-        clean-more,
-        c.loop-said.invariant.2,
-        c.next_line.ensures,
-        c.in-Line.is,
-        c.offence_after.ensures,
-        c.in_default-offence_after.is,
-        c.draft_line-counts.ensures,
-        c.draft_line-counts.auto,
-      ),
-      c.loop-said.invariant.3,
-    )
+  search checking,
+  search checking,
+  search (
+    clean-more,
+    c.loop-said.invariant.2,
+    c.next_line.ensures,
+    c.in-Line.is,
+    c.offence_after.ensures,
+    c.in_default-offence_after.is,
+    c.draft_line-counts.ensures,
+    c.draft_line-counts.auto,
+  ),
+  c.loop-said.invariant.3,
+)
