@@ -7,11 +7,8 @@ set -eu
 cd "$(dirname "$0")/.."
 copy=target/clauses
 rm -rf "$copy"
-mkdir -p "$copy/target"
+mkdir -p "$copy"
 cp -r crates crates.txt "$copy"
-for kept in target/*; do
-    [ "$kept" = "$copy" ] || cp -r "$kept" "$copy/target/"
-done
 
 # without NUMBER: the source without the NUMBERth clause of each exported function; what it deleted goes to the file `deleted`
 without() {
@@ -50,7 +47,7 @@ clauses=0 missed=0
 for number in 1 2 3; do
     : >"$copy/deleted"
     without "$number"
-    (cd "$copy" && RT_CUT=0 rt dev estelunya --allow-holes >log 2>&1) || true
+    (cd "$copy/crates/estelunya" && rt check --allow-holes >../../log 2>&1) || true
     fallen >"$copy/fallen"
     while read -r name label; do
         clauses=$((clauses + 1))

@@ -10,7 +10,7 @@ lines() {
 }
 
 printf '%-20s %5s %6s %6s %6s %7s %6s %6s\n' crate fns code specs laws proofs edits wrong
-grep -E '^[a-z_0-9]+:' crates.txt | cut -d: -f1 | while read -r crate; do
+sed -nE 's,^([a-z_0-9]+)( staticlib)?:.*,\1,p' crates.txt | while read -r crate; do
     dir=crates/$crate
     fns=$(cat "$dir"/src/*.rt | grep -cE '^ *(pub )?(extern "C" )?fn ' || true)
     specs=$(find "$dir/specs" -name '*.antt' ! -name Lib.antt 2>/dev/null | sort)
