@@ -1,4 +1,3 @@
-use Rattle.base.proofs.Laws.{tests}
 use Rattle.service.proofs.Drafts.{serving}
 use Rattle.service.proofs.check_service.Goals as goal
 

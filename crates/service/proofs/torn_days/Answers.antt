@@ -1,5 +1,4 @@
-use Prim.Native.Nat.{◌-◌}
-use Rattle.service.proofs.Stretches.{sweeps}
+use Rattle.service.proofs.Stretches.{swept-next, sweeps}
 use Rattle.base.proofs.Laws.{tests}
 use Rattle.service.proofs.torn_days.Goals as goal
 
@@ -55,4 +54,10 @@ pub returns : goal.returns
 returns c = search sweeps
 
 pub loop-leg-preserved : goal.loop-leg-preserved
-loop-leg-preserved c = search tests
+loop-leg-preserved c = (
+  swept-next _ _ _ _ _ _ c.requires.ranges_value c.covering_place.ensures _ c.in-At.is _ c.day_at-range.ensures _ _ _
+      c.loop-leg-test.true c.field_days-on.ensures
+      c.both.ensures c.either-broken_now.ensures
+      c.without.ensures c.either-ended_now.ensures c.either-begun_now.ensures c.loop-leg.invariant.0,
+  c.loop-leg.invariant.1,
+)

@@ -1,4 +1,3 @@
-use Prim.Native.Nat.{◌-◌}
 use Rattle.service.proofs.schedule.Ends.{ended}
 use Rattle.service.proofs.schedule.find_ends.Goals as goal
 

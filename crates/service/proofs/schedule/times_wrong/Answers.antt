@@ -1,4 +1,3 @@
-use Prim.Native.Nat.{◌-◌}
 use Rattle.service.proofs.schedule.Times.{timed}
 use Rattle.service.proofs.schedule.times_wrong.Goals as goal
 
