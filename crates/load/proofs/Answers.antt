@@ -18,7 +18,7 @@ use Rattle.timetable.specs.Files.{period_in, bit_fields_in, stops_in, classes_in
 use Rattle.timetable.specs.Service.{blocks}
 use Rattle.timetable.specs.Checks.{head_first}
 use Rattle.timetable.specs.Table.{table_words}
-use Rattle.timetable.specs.Load.{Where, delivered, length_offence, content_offence, onto, helper_needed, written_by, loaded, written, helped}
+use Rattle.timetable.specs.Load.{Where, delivered, content_offence, onto, helper_needed, written_by, loaded, written, helped}
 use Rattle.timetable.specs.declared.Offence.{Offence}
 use Rattle.timetable.specs.declared.Loaded.{Loaded}
 use Rattle.timetable.specs.declared.Loaded.TheVariants.{Accepted, Refused as LoadRefused}

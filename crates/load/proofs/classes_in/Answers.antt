@@ -1,5 +1,5 @@
 use Rattle.base.proofs.Laws.{tests}
-use Rattle.load.proofs.Helper.{index-fits, index-room, index-after}
+use Rattle.load.proofs.Helper.{index-fits, index-after}
 use Rattle.load.proofs.classes_in.Goals as goal
 
 pub overflow_add-at : goal.overflow_add-at
@@ -19,3 +19,6 @@ slice_bounds-check_classes-end c = search tests
 
 pub shape_of-m : goal.shape_of-m
 shape_of-m c = search tests
+
+pub returns-clause-index_after : goal.returns-clause-index_after
+returns-clause-index_after c = search index-after

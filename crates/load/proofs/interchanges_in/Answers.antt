@@ -1,5 +1,5 @@
 use Rattle.base.proofs.Laws.{tests}
-use Rattle.load.proofs.Helper.{split-inside, split-stops, split-lent, front-stays}
+use Rattle.load.proofs.Helper.{split-stops, split-lent, front-stays}
 use Rattle.load.proofs.interchanges_in.Goals as goal
 
 pub overflow_sub-end : goal.overflow_sub-end
@@ -19,3 +19,12 @@ slice_bounds-check_interchanges-end c = search tests
 
 pub shape_of-m : goal.shape_of-m
 shape_of-m c = search tests
+
+pub returns-clause-m_unchanged : goal.returns-clause-m_unchanged
+returns-clause-m_unchanged c = search front-stays
+
+pub check_interchanges-requires-clause-map_of : goal.check_interchanges-requires-clause-map_of
+check_interchanges-requires-clause-map_of c = search split-stops
+
+pub check_interchanges-requires-clause-lent : goal.check_interchanges-requires-clause-lent
+check_interchanges-requires-clause-lent c = search split-lent

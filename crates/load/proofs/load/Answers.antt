@@ -1,6 +1,6 @@
 use Rattle.base.proofs.Laws.{tests}
 use Rattle.load.proofs.Answers.{refusing, words-fit}
-use Rattle.load.proofs.Files.{short-fields, short-stops, short-interchanges}
+use Rattle.load.proofs.Files.{all_short, short-fields, short-stops, short-interchanges}
 use Rattle.load.proofs.load.Goals as goal
 
 pub too_long-long-requires : goal.too_long-long-requires
@@ -17,3 +17,33 @@ shape_of-table c = search tests
 
 pub shape_of-helper : goal.shape_of-helper
 shape_of-helper c = search tests
+
+pub returns-then-long-ne0-clause-value : goal.returns-then-long-ne0-clause-value
+returns-then-long-ne0-clause-value c = search refusing
+
+pub returns-then-long-ne0-clause-table_after : goal.returns-then-long-ne0-clause-table_after
+returns-then-long-ne0-clause-table_after c = search refusing
+
+pub returns-then-long-ne0-clause-helper_after : goal.returns-then-long-ne0-clause-helper_after
+returns-then-long-ne0-clause-helper_after c = search refusing
+
+pub returns-then-helper-needed-clause-value : goal.returns-then-helper-needed-clause-value
+returns-then-helper-needed-clause-value c = search refusing
+
+pub returns-then-helper-needed-clause-table_after : goal.returns-then-helper-needed-clause-table_after
+returns-then-helper-needed-clause-table_after c = search refusing
+
+pub returns-then-helper-needed-clause-helper_after : goal.returns-then-helper-needed-clause-helper_after
+returns-then-helper-needed-clause-helper_after c = search refusing
+
+pub returns-clause-value : goal.returns-clause-value
+returns-clause-value c = search refusing
+
+pub returns-clause-table_after : goal.returns-clause-table_after
+returns-clause-table_after c = search refusing
+
+pub returns-clause-helper_after : goal.returns-clause-helper_after
+returns-clause-helper_after c = search refusing
+
+pub load_lent-requires-clause-short : goal.load_lent-requires-clause-short
+load_lent-requires-clause-short c = search (all_short, c.too_long-long.ensures, c.if-long-ne0.false)

@@ -22,3 +22,9 @@ shape_of-table c = search tests
 
 pub shape_of-helper : goal.shape_of-helper
 shape_of-helper c = search tests
+
+pub load_mapped-loaded-requires-clause-emptied : goal.load_mapped-loaded-requires-clause-emptied
+load_mapped-loaded-requires-clause-emptied c = search emptied
+
+pub returns-clause-helper_after : goal.returns-clause-helper_after
+returns-clause-helper_after c = search given_back

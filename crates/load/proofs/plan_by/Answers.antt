@@ -1,5 +1,4 @@
 use Rattle.base.proofs.Laws.{tests}
-use Rattle.load.proofs.Helper.{map_first, map-part, index-part}
 use Rattle.load.proofs.plan_by.Goals as goal
 
 pub slice_bounds-fields-count : goal.slice_bounds-fields-count

@@ -1,5 +1,5 @@
 use Rattle.base.proofs.Laws.{tests}
-use Rattle.load.proofs.Helper.{lent-part, stops-after}
+use Rattle.load.proofs.Helper.{stops-after}
 use Rattle.load.proofs.stops_in.Goals as goal
 
 pub overflow_add-at : goal.overflow_add-at
@@ -19,3 +19,6 @@ slice_bounds-check_stops-end c = search tests
 
 pub shape_of-m : goal.shape_of-m
 shape_of-m c = search tests
+
+pub returns-clause-stops_after : goal.returns-clause-stops_after
+returns-clause-stops_after c = search stops-after
