@@ -4,10 +4,9 @@
 ghost use Rattle.std.specs.Prelude.{length, ◌≡◌};
 ghost use Rattle.ferry.specs.Counts.{IsPrefixLen};
 
-use std::fs;
 use std::fs::File;
-use std::io;
 use std::io::Read;
+use std::{fs, io};
 use timetable::{
     BIT_FIELDS_AT, CLASSES_AT, HELPER_HEAD_WORDS, HELPER_LINE_WORDS, INTERCHANGES_AT, Loaded,
     PERIOD_DAYS_AT, SERVICES_AT, STOPS_AT,
@@ -141,7 +140,9 @@ fn tell(rt: &HostRuntime, answer: Loaded, table: &[u32; TABLE_WORDS]) -> io::Res
             let interchanges = table[INTERCHANGES_AT];
             let classes = table[CLASSES_AT];
             let services = table[SERVICES_AT];
-            println!(rt; "accepted days {days} bitfields {bit_fields} stops {stops} interchange {interchanges} categories {classes} services {services} words {used}")
+            println!(rt;
+                "accepted days {days} bitfields {bit_fields} stops {stops} interchange {interchanges} categories {classes} services {services} words {used}"
+            )
         }
         Loaded::Refused {
             number,
