@@ -13,11 +13,5 @@ overflow_mul-result c = search readers
 pub overflow_add-result : goal.overflow_add-result
 overflow_add-result c = search readers
 
-pub returns-then-n-le59 : goal.returns-then-n-le59
-returns-then-n-le59 c = search readers
-
-pub returns-else-n-le59 : goal.returns-else-n-le59
-returns-else-n-le59 c = search readers
-
 pub returns-else-every_of : goal.returns-else-every_of
 returns-else-every_of c = search readers

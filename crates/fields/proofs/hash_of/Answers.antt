@@ -1,4 +1,3 @@
-use Prim.Native.Nat.{◌-◌}
 use Rattle.fields.proofs.Laws.{hashes}
 use Rattle.fields.proofs.hash_of.Goals as goal
 
