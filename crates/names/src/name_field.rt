@@ -16,6 +16,7 @@ pub fn is_named(text: &[u8]) -> bool
 }
 
 // The length of the name field without trailing blanks.
+#[tactic(auto, using(crate::proofs::name_field::Names::names))]
 pub fn name_length(text: &[u8]) -> u32
     ensures { result ≡ name_length (field_in stop_names text.now) }
 {

