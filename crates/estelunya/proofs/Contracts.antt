@@ -2,7 +2,6 @@
 -- leaves rows by its own; then the walk is whole (`Walks`, specs/Promise). And words enough: what `estelunya_room` has answered is enough for `estelunya_load`. A clause
 -- that goes from these contracts is missed here. Assumes nothing.
 use mathlib.Core.Path.{◌≡◌, refl, sym, ap, ◌∙◌}
-use mathlib.Core.List.{List}
 use Prim.Native.Nat.{ℕ, ◌-◌, ◌≤◌}
 use lib.ListN.{length, take}
 use native.Mathlib.Omega.{arith}
@@ -13,7 +12,6 @@ use Rattle.timetable.specs.Delivery.{files_of, Files, Service}
 use Rattle.timetable.specs.Load.{delivered, loaded}
 use Rattle.timetable.specs.declared.Loaded.{Loaded}
 use Rattle.timetable.specs.declared.Loaded.TheVariants.{Accepted, Refused}
-use Rattle.room.specs.Room.{Enough}
 use Rattle.whole_runs.specs.Promise.{Asked}
 use Rattle.estelunya.specs.declared.LoadResult.{LoadResult}
 use Rattle.estelunya.specs.declared.WalkResult.{WalkResult}

@@ -1,6 +1,6 @@
 -- What a caller of the arithmetic on operating days holds in hand: a number of 0 says that the result holds the field, the only other is 42, and then
 -- the words are as they were lent; the promises leave no slack: Slack. Assumes nothing.
-use mathlib.Core.Path.{◌≡◌, refl, sym, ◌∙◌}
+use mathlib.Core.Path.{◌≡◌, refl}
 use mathlib.Core.List.{List}
 use mathlib.Core.Bool.{Bool, true, false, cond}
 use Prim.Native.Nat.{ℕ}

@@ -1,26 +1,21 @@
 -- No. 14 of the exported functions; specs/Isolation.antt states it. Assumes nothing.
-use mathlib.Core.Path.{◌≡◌, refl, sym, ap, subst, ◌∙◌}
+use mathlib.Core.Path.{◌≡◌, sym, ap, ◌∙◌}
 use mathlib.Core.List.{List}
-use Prim.Native.Nat.{ℕ, ◌<◌}
+use Prim.Native.Nat.{ℕ}
 use lib.ListN.{length, take}
 use Rattle.timetable.specs.Delivery.{Files}
 use Rattle.timetable.specs.Load.{loaded, written}
 use Rattle.timetable.specs.View.{View}
 use Rattle.timetable.specs.Questions.{day_in, day_asked, Journey, refused, journey, walk_of, walked_by, walked, rows_by, walk_rows}
-use Rattle.timetable.specs.declared.DayAnswer.{DayAnswer}
 use Rattle.timetable.specs.declared.DayAnswer.TheVariants.{Refused as DayRefused}
-use Rattle.timetable.specs.declared.Loaded.{Loaded}
 use Rattle.timetable.specs.declared.Loaded.TheVariants.{Accepted}
-use Rattle.timetable.specs.declared.Walked.{Walked}
 use Rattle.isolation.specs.Alike.{WalksAlike}
-use Rattle.isolation.specs.Edit.{Edited, place}
-use Rattle.isolation.specs.Rename.{OneToOne, renamed, AnswersAlike}
+use Rattle.isolation.specs.Rename.{renamed}
 use Rattle.isolation.proofs.Isolated.{isolated}
 use Rattle.isolation.proofs.Renamed.{renamed-again}
 use Rattle.estelunya.specs.Answers.{load_result, day_result, walk_result}
-use Rattle.estelunya.specs.Isolation.{TableOf, WalkOf, SameWalks, IsolatedWalks, AlikeAfter, RenamedAnswers}
+use Rattle.estelunya.specs.Isolation.{TableOf, SameWalks, IsolatedWalks, RenamedAnswers}
 use Rattle.estelunya.specs.declared.LoadResult.{LoadResult}
-use Rattle.estelunya.specs.declared.WalkResult.{WalkResult}
 use Rattle.estelunya.proofs.Exported.{accepted, unaltered}
 
 -- ---- words unaltered answer as those that load left

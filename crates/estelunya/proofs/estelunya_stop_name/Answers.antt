@@ -1,0 +1,11 @@
+use Rattle.base.proofs.Laws.{tests}
+use Rattle.estelunya.proofs.estelunya_stop_name.Goals as goal
+
+pub name-requires : goal.name-requires
+name-requires c = search tests
+
+pub name_result-requires : goal.name_result-requires
+name_result-requires c = search tests
+
+pub returns : goal.returns
+returns c = cc
