@@ -5,12 +5,13 @@
 # A source without // comments, in one line.
 bare_rust() { sed -e 's|//.*||' "$1" | tr -s ' \t\n' ' '; }
 
+# In Rattle `result` is what a function answers, so words that are lent for a result are `res` there, and `result` in the header.
 # One line for each answer, "struct NAME { field: type, .. }", and each function, "fn name(parameter: type, ..) -> NAME".
 tidy() { sed -e 's/ *, */, /g; s/, *\([})]\)/ \1/g; s/( */(/g; s/ *)/)/g; s/{ */{ /g; s/ *}/ }/g' | sort; }
 
 of_rattle() {
-    bare_rust "$1" | grep -o '#\[repr(C)\] pub struct [A-Za-z]* {[^}]*}' | sed -e 's/#\[repr(C)\] pub //; s/pub //g' | tidy
-    bare_rust "$1" | grep -o '#\[no_mangle\] pub extern "C" fn [a-z_]*([^)]*) -> [A-Za-z0-9]*' | sed -e 's/.*extern "C" //' \
+    bare_rust "$1" | grep -o '#\[repr(C)\] #\[derive(Clone, Copy)\] pub struct [A-Za-z]* {[^}]*}' | sed -e 's/#\[repr(C)\] #\[derive(Clone, Copy)\] pub //; s/pub //g' | tidy
+    bare_rust "$1" | grep -o '#\[unsafe(no_mangle)\] pub extern "C" fn [a-z_]*([^)]*) -> [A-Za-z0-9]*' | sed -e 's/.*extern "C" //' -e 's/\([(,] *\)res: /\1result: /g' \
         -e 's/\([a-z_]*\): &mut \[\([a-z0-9]*\)\]/\1: *mut \2, \1_len: usize/g' \
         -e 's/\([a-z_]*\): &\[\([a-z0-9]*\)\]/\1: *const \2, \1_len: usize/g' | tidy
 }

@@ -260,7 +260,7 @@ fn behind_opening(field: &[u8], letters: usize, wanted: Wanted) -> PatternRead
 
 // One and the same pattern fits both, the language and the type.
 fn pattern_fits(letters: &[u8], digits: &[u8], wanted: Wanted) -> bool
-    ensures { result ≡ fits wanted (record { letters = letters.entry.now; digits = digits.now }) }
+    ensures { result ≡ fits wanted (record { letters = letters.now; digits = digits.now }) }
 {
     if part_allows(letters, wanted.letter) {
         return part_allows(digits, wanted.digit);
