@@ -9,4 +9,3 @@ overflow_cast-result c = search clears
 
 pub overflow_shl-result : goal.overflow_shl-result
 overflow_shl-result c = search clears
-

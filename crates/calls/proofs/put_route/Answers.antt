@@ -4,7 +4,6 @@ use Rattle.calls.proofs.put_route.Goals as goal
 pub overflow_sub-even : goal.overflow_sub-even
 overflow_sub-even c = search routes
 
-
 pub overflow_add-k : goal.overflow_add-k
 overflow_add-k c = search routes
 

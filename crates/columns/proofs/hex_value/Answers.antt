@@ -18,7 +18,6 @@ returns-in-48-to-57 c = search tests
 pub returns-in-65-to-70 : goal.returns-in-65-to-70
 returns-in-65-to-70 c = search tests
 
-
 pub returns-in_default-2 : goal.returns-in_default-2
 returns-in_default-2 c = search tests
 

@@ -13,6 +13,5 @@ may_ride-requires c = search rides
 pub returns-then-not-may_ride : goal.returns-then-not-may_ride
 returns-then-not-may_ride c = search rides
 
-
 pub returns : goal.returns
 returns c = search rides

@@ -31,7 +31,6 @@ slice_bounds-fill-start c = search chains
 pub slice_bounds-fill-end : goal.slice_bounds-fill-end
 slice_bounds-fill-end c = search chains
 
-
 pub shape_of-x : goal.shape_of-x
 shape_of-x c = search chains
 

@@ -10,7 +10,6 @@ enum_known-head c = search planning
 pub enum_known-head-in-Clear-1 : goal.enum_known-head-in-Clear-1
 enum_known-head-in-Clear-1 c = search planning
 
-
 pub returns-in-Stray : goal.returns-in-Stray
 returns-in-Stray c = search planning
 

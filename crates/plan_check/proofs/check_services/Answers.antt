@@ -6,7 +6,6 @@ use Rattle.plan_check.proofs.check_services.Goals as goal
 pub loop-at-init : goal.loop-at-init
 loop-at-init c = search checking
 
-
 pub enum_known-checked : goal.enum_known-checked
 enum_known-checked c = search checking
 

@@ -22,7 +22,6 @@ opening_at-requires c = search stretch
 pub lateness-late-requires : goal.lateness-late-requires
 lateness-late-requires c = search stretch
 
-
 pub overflow_add-result : goal.overflow_add-result
 overflow_add-result c = search stretch
 

@@ -13,7 +13,6 @@ overflow_add-needed c = search makes
 pub returns-then-x-needed : goal.returns-then-x-needed
 returns-then-x-needed c = search makes
 
-
 pub shape_of-x : goal.shape_of-x
 shape_of-x c = search makes
 
