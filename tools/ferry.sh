@@ -9,7 +9,7 @@ place=target/ferry
 for_x86_64
 
 mkdir -p target
-rt check ferry >target/ferry.log 2>&1 || { cat target/ferry.log >&2; exit 1; }
+(cd crates/ferry && rt run) >target/ferry.log 2>&1 || { cat target/ferry.log >&2; exit 1; }
 
 # a fresh copy of the sample delivery
 fresh() {
@@ -20,7 +20,7 @@ fresh() {
 
 # says NAME EXPECTED: the program prints exactly this on the delivery at hand
 says() {
-    said=$(cd "$place" && run "$root/target/bin/ferry")
+    said=$(cd "$place" && run "$root/crates/ferry/out/ferry")
     [ "$said" = "$2" ] || { echo "ferry.sh: $1: '$said' instead of '$2'" >&2; exit 1; }
     echo "  $1: $said"
 }
