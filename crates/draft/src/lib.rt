@@ -137,6 +137,7 @@ pub fn draft_call(
 }
 
 // What holds at the last of c drafted calls: "A blank field repeats the call before; the first call's blanks take the *Z values."
+#[tactic(auto, using(crate::proofs::Writing::holds))]
 fn announced_last(opening: Opening, c: u32, calls: &[u32]) -> Announced
     requires { draft_call * c ≤ length calls.now }
     ensures { result ≡ last_of (opened opening) (calls_on c calls.now) }

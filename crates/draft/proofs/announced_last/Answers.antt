@@ -1,9 +1,6 @@
 use Rattle.draft.proofs.Writing.{holds}
 use Rattle.draft.proofs.announced_last.Goals as goal
 
-pub returns-then-c-eq0 : goal.returns-then-c-eq0
-returns-then-c-eq0 c = search holds
-
 pub overflow_sub-at : goal.overflow_sub-at
 overflow_sub-at c = search holds
 
