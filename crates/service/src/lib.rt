@@ -222,6 +222,7 @@ fn each_once(ranges: &[u32], n: u32, width: usize, legs: u32) -> bool
 // ---- 19, on all days at once
 
 // Whether on some day of the period the operated legs form two or more separate stretches, where each leg is covered once.
+#[tactic(auto, using(crate::proofs::Stretches::sweeps))]
 fn two_stretches(
     ranges: &[u32],
     v: u32,
@@ -275,6 +276,7 @@ fn torn_days(ranges: &[u32], v: u32, legs: u32, bitfeld: &[u8], fields: &[u32]) 
 }
 
 // The days of a bit field by its number: 0 is every day.
+#[tactic(auto, using(crate::proofs::Stretches::sweeps))]
 fn field_days(bitfeld: &[u8], fields: &[u32], number: u32) -> [u32; BIT_WORDS]
     requires { FieldMap bitfeld.now fields.now }
     ensures { (d : ℕ) → d < most_period_days → runs_on result d ≡ field_runs (bit_fields_in bitfeld.now) number

@@ -5,9 +5,6 @@ use Rattle.service.proofs.field_days.Goals as goal
 pub all_bits-requires : goal.all_bits-requires
 all_bits-requires c = search sweeps
 
-pub returns-then-number-eq0 : goal.returns-then-number-eq0
-returns-then-number-eq0 c = search sweeps
-
 pub field_bits-requires : goal.field_bits-requires
 field_bits-requires c = search field-map
 

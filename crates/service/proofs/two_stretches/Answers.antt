@@ -7,8 +7,5 @@ torn_days-requires c = search sweeps
 pub some_day-requires : goal.some_day-requires
 some_day-requires c = search sweeps
 
-pub returns-then-v-eq1 : goal.returns-then-v-eq1
-returns-then-v-eq1 c = search sweeps
-
 pub returns : goal.returns
 returns c = search sweeps
