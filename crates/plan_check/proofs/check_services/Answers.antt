@@ -1,4 +1,3 @@
-use Prim.Native.Nat.{◌-◌}
 use Rattle.base.proofs.Laws.{tests}
 use Rattle.plan_check.proofs.Checking.{checking}
 use Rattle.plan_check.proofs.check_services.Goals as goal
