@@ -5,9 +5,9 @@
 # clause's doing. Prints a line `FUNCTION CLAUSE: THEOREMS` for each; ends with 'clauses.sh: N clauses, each missed', or names those whose function has no theorem that fell.
 set -eu
 cd "$(dirname "$0")/.."
-copy=target/clauses
-rm -rf "$copy"
-mkdir -p "$copy"
+# outside the tree: rt ci reads no second list of crates below it
+copy=$(mktemp -d)
+trap 'rm -rf "$copy"' EXIT
 cp -r crates crates.txt "$copy"
 
 # without NUMBER: the source without the NUMBERth clause of each exported function; what it deleted goes to the file `deleted`

@@ -9,7 +9,7 @@ edit says, in lines that rt passes over,
     refused at: FILE DECLARATION   the declaration of the proofs that must fail, for its own fact: not because another one does, nor because
                                    the proof no longer fits the code's shape; of a goal without an answer of its own, the file that would have it
 
-usage: tools/refused.py [CRATE ..]     the edits of these crates, or of all: each is checked in a copy below target/refused/, several at a time
+usage: tools/refused.py [CRATE ..]     the edits of these crates, or of all: each is checked in a copy, several crates at a time
 Ends with 'refused.py: N wrong programs in M edits, each refused at its own place'.
 """
 import glob
@@ -18,6 +18,7 @@ import re
 import shutil
 import subprocess
 import sys
+import tempfile
 from concurrent.futures import ThreadPoolExecutor
 from queue import Queue
 
@@ -102,39 +103,49 @@ def refusals(edit, tree):
     return programs, bad
 
 
+def size(crate):
+    """How long the checks of a crate's edits may take, by its text: the longest begin first."""
+    return sum(os.path.getsize(path) for path in glob.glob(f"crates/{crate}/**/*.*", recursive=True) if "/out/" not in path)
+
+
 def main(crates):
     os.chdir(os.path.join(os.path.dirname(os.path.realpath(__file__)), ".."))
-    edits = [e for e in sorted(glob.glob("crates/*/must-fail/*.edit")) if not crates or e.split("/")[1] in crates]
+    edits = {}
+    for edit in sorted(glob.glob("crates/*/must-fail/*.edit")):
+        if not crates or edit.split("/")[1] in crates:
+            edits.setdefault(edit.split("/")[1], []).append(edit)
     trees = Queue()
-    count = min(os.cpu_count() or 1, 4, len(edits)) if edits else 0
-    for number in range(count):
-        tree = f"target/refused/{number}"
-        shutil.rmtree(tree, ignore_errors=True)
-        os.makedirs(tree)
-        shutil.copy("crates.txt", tree)
-        if os.path.exists("HANDLES"):
-            shutil.copy("HANDLES", tree)
-        shutil.copytree("crates", f"{tree}/crates")
-        trees.put(tree)
-
-    def tried(edit):
-        tree = trees.get()
-        try:
-            return refusals(edit, tree)
-        finally:
+    count = min(os.cpu_count() or 1, len(edits)) or 1
+    # outside the tree: `rt ci` reads no second list of crates below it
+    with tempfile.TemporaryDirectory(prefix="refused-") as room:
+        for number in range(count):
+            tree = f"{room}/{number}"
+            os.mkdir(tree)
+            for name in ("crates.txt", "HANDLES"):
+                if os.path.exists(name):
+                    shutil.copy(name, tree)
+            shutil.copytree("crates", f"{tree}/crates")
             trees.put(tree)
 
-    programs = failed = 0
-    with ThreadPoolExecutor(max(count, 1)) as pool:
-        for found, bad in pool.map(tried, edits):
-            programs += len(found)
-            failed += len(bad)
-            for line in bad:
-                print(line, flush=True)
-    shutil.rmtree("target/refused", ignore_errors=True)
+        # one edit of a crate after the other in one copy, since a check goes on from the one before it
+        def tried(crate):
+            tree = trees.get()
+            try:
+                return [refusals(edit, tree) for edit in edits[crate]]
+            finally:
+                trees.put(tree)
+
+        programs = failed = 0
+        with ThreadPoolExecutor(count) as pool:
+            for results in pool.map(tried, sorted(edits, key=size, reverse=True)):
+                for found, bad in results:
+                    programs += len(found)
+                    failed += len(bad)
+                    for line in bad:
+                        print(line, flush=True)
     if failed or not programs:
         return 1
-    print(f"refused.py: {programs} wrong programs in {len(edits)} edits, each refused at its own place")
+    print(f"refused.py: {programs} wrong programs in {sum(len(it) for it in edits.values())} edits, each refused at its own place")
     return 0
 
 
