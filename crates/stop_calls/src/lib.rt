@@ -42,6 +42,7 @@ pub fn first_call(
 }
 
 // The call after a cursor's.
+#[tactic(auto, using(crate::proofs::Needs::nexts))]
 pub fn next_call(
     w: &[u32],
     x: &[u32],

@@ -7,9 +7,6 @@ bounds-s-6 c = search course
 pub overflow_sub-legs : goal.overflow_sub-legs
 overflow_sub-legs c = search course
 
-pub returns-then-legs-start : goal.returns-then-legs-start
-returns-then-legs-start c = search course
-
 pub returns-then-again-legs : goal.returns-then-again-legs
 returns-then-again-legs c = search course
 

@@ -1,9 +1,6 @@
 use Rattle.stop_calls.proofs.Needs.{nexts}
 use Rattle.stop_calls.proofs.next_call.Goals as goal
 
-pub returns-then-left-le1 : goal.returns-then-left-le1
-returns-then-left-le1 c = search nexts
-
 pub before-h-requires : goal.before-h-requires
 before-h-requires c = search nexts
 
