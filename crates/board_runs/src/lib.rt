@@ -228,7 +228,6 @@ fn goes_slowly(w: &[u32], x: &[u32], s: &[u32], k: u32, p: u32) -> bool
 }
 
 // Where the day's first stretch begins and ends, and where another begins.
-#[tactic(auto, using(crate::proofs::Goes::along))]
 fn goes_along(s: &[u32], stops: u32, steady: bool, start: u32, end: u32, again: u32, p: u32) -> bool
     requires days_in_turn { DaysInTurn s.now }
     requires start_le_end { (start ≤ end) × (end ≤ calls# s.now - 1) }

@@ -13,6 +13,9 @@ bounds-s-6 c = search along
 pub overflow_sub-s : goal.overflow_sub-s
 overflow_sub-s c = search along
 
+pub returns-then-again-s : goal.returns-then-again-s
+returns-then-again-s c = search along
+
 pub ranges_follow-requires : goal.ranges_follow-requires
 ranges_follow-requires c = search along
 
