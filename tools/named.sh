@@ -36,7 +36,7 @@ awk '
             for (k = 1; k <= m; k++) {
                 name = token[k]
                 sub(/[.\/]+$/, "", name)
-                if (name in known || name ~ /^(target|lib|src|specs|proofs)\/|[A-Z][A-Z]|_$/) continue
+                if (name in known || name ~ /^crates\/[a-z_]+\/out\/|^(target|lib|src|specs|proofs)\/|[A-Z][A-Z]|_$/) continue
                 if (name ~ /^(crates|docs|tools|planner|compare|include)\/|^[a-z_]+\/(specs|proofs|src|must-fail)\/|^[a-z_]+\/[A-Z][A-Za-z]+$/) missing(name)
                 else if (quoted && name ~ /^[a-z_]+\/[A-Za-z]|^[A-Za-z][A-Za-z0-9_'\''#-]+$/) missing(name)
             }
