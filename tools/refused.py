@@ -103,6 +103,16 @@ def refusals(edit, tree):
     return programs, bad
 
 
+def link_or_copy(one, other):
+    """What a check keeps, it replaces and does not change, so copies can share it (`rt` itself does so)."""
+    if one.endswith(".oantt") or "/out/rlib/" in one:
+        try:
+            return os.link(one, other)
+        except OSError:
+            pass
+    return shutil.copy2(one, other)
+
+
 def size(crate):
     """How long the checks of a crate's edits may take, by its text: the longest begin first."""
     return sum(os.path.getsize(path) for path in glob.glob(f"crates/{crate}/**/*.*", recursive=True) if "/out/" not in path)
@@ -124,7 +134,7 @@ def main(crates):
             for name in ("crates.txt", "HANDLES"):
                 if os.path.exists(name):
                     shutil.copy(name, tree)
-            shutil.copytree("crates", f"{tree}/crates")
+            shutil.copytree("crates", f"{tree}/crates", copy_function=link_or_copy)
             trees.put(tree)
 
         # one edit of a crate after the other in one copy, since a check goes on from the one before it
