@@ -29,12 +29,12 @@ LEFT_OPEN = re.compile(r"expected answers in \./(proofs/\S+?); `search` did not 
 
 
 def wrong_programs(edit):
-    """The wrong programs of an edit, each with its place; stops where one has no place, changes nothing, or has another's place."""
+    """The wrong programs of an edit, each with its place; a ValueError where one has no place, changes nothing, or has another's place."""
     programs, places, pairs, now = [], set(), [], None
 
     def ended():
         if now and (now["place"] is None or not now["changes"]):
-            sys.exit(f"{edit}: {now['name']} has no place, or changes nothing")
+            raise ValueError(f"{edit}: {now['name']} has no place, or changes nothing")
 
     file = None
     for line in open(edit, encoding="utf-8").read().split("\n"):
@@ -45,7 +45,7 @@ def wrong_programs(edit):
         elif line.startswith("refused at: "):
             place = tuple(line.split()[2:4])
             if now is None or len(place) != 2 or place in places:
-                sys.exit(f"{edit}: a place of no wrong program, or of two: {' '.join(place)}")
+                raise ValueError(f"{edit}: a place of no wrong program, or of two: {' '.join(place)}")
             places.add(place)
             now["place"] = place
         elif line.startswith("file: "):
@@ -54,12 +54,12 @@ def wrong_programs(edit):
             pairs.append([file, line[5:], None])
         elif line.startswith("new:"):
             if now is None or now["place"] is None:
-                sys.exit(f"{edit}: a change before its wrong program is named")
+                raise ValueError(f"{edit}: a change before its wrong program is named")
             now["changes"] += 1
             pairs[-1][2] = line[5:]
     ended()
     if not programs:
-        sys.exit(f"{edit}: it names no wrong program")
+        raise ValueError(f"{edit}: it names no wrong program")
     return programs, pairs
 
 
@@ -74,7 +74,10 @@ def failed_places(log):
 def refusals(edit, tree):
     """Applies the edit in the copy `tree`, checks its crate there, and puts the files back; what is wrong with its places."""
     crate = edit.split("/")[1]
-    programs, pairs = wrong_programs(edit)
+    try:
+        programs, pairs = wrong_programs(edit)
+    except ValueError as error:
+        return [], [str(error)]
     texts = {}
     for file, old, new in pairs:
         path = f"{tree}/crates/{crate}/{file}"
