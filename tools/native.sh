@@ -10,7 +10,7 @@ cd "$(dirname "$0")/.."
 [ $# -eq 1 ] || { echo 'native.sh NAME' >&2; exit 2; }
 name=$1
 machine=$(uname -m)
-kit=$(dirname "$(dirname "$(rt doc)")")
+kit=$(dirname "$(rt doc)")
 clang=$kit/toolchain/bin/clang
 ar=$kit/toolchain/bin/llvm-ar
 out=$PWD/target/native
