@@ -6,14 +6,14 @@ use Prim.Native.Nat.{ℕ, zero, suc, ◌+◌, ◌-◌, ◌*◌, ◌^◌, ◌≤�
 use native.Mathlib.Nat.{pow-le-pow_right, pow-suc}
 use native.Mathlib.Numerals.{add-one}
 use native.Mathlib.Omega.{arith}
-use lib.ListN.{length, get_or, take, drop, set}
-use lib.Seq.{drop-nil, drop-drop, ext_get_or}
+use lib.ListN.{length, get_or, take, drop}
+use lib.Seq.{drop-nil, drop-drop}
 use lib.Dec.{leb, lit<}
 use Rattle.base.proofs.Laws.{by-leb, tests}
 use Rattle.columns.specs.Columns.{pad_to, columns, hex_value}
 use Rattle.columns.proofs.Laws.{next-column, no-column, pad-take}
 use Rattle.bitfield.specs.BitField.{bit_words, hex_from, hex_words, bits_in}
-use Rattle.bitfield.proofs.Fill.{Filled, filled_none, filled_next}
+use Rattle.bitfield.proofs.Fill.{twelve-same}
 
 -- a hex digit is four bits
 pub hex-le : (b : ℕ) → hex_value b ≤ 15
@@ -56,7 +56,7 @@ hex-done p w i n r h v = sym (rw (no-column p h)) ∙ v
 
 pub ruleset hexes = (tests, sixteens-fit, hex-grows, hex-fits, hex-again, hex-done)
 
--- ---- the loop over the twelve words of a line, for `search words`
+-- ---- the twelve words of a line, for `search words`
 
 -- a part of padded columns is the columns of the part
 pad-part : (w a n : ℕ) (l : List ℕ) → a + w ≤ n → take w (drop a (pad_to n l)) ≡ pad_to w (drop a l)
@@ -104,15 +104,15 @@ unfolding bits_in
 word-in line j h = word_at bit_words j (columns 8 103 line) h ∙ ap (hex_from 0) (digits_in line j h)
 
 -- p is the part of the line that has word i, x its value
-pub word_next : (line p r : List ℕ) (i x : ℕ) → i < bit_words → p ≡ take (8 * i + 15 - (8 * i + 8 - 1)) (drop (8 * i + 8 - 1) line) → x ≡ hex_from 0 (pad_to 8 p) → Filled (word_in line) r i → Filled (word_in line) (set r i x) (i + 1)
-word_next line p r i x h e k v =
+pub word-said : (line p : List ℕ) (i x : ℕ) → i < bit_words → p ≡ take (8 * i + 15 - (8 * i + 8 - 1)) (drop (8 * i + 8 - 1) line) → x ≡ hex_from 0 (pad_to 8 p) → x ≡ word_in line i
+word-said line p i x h e k =
     let a : 8 * i + 8 - 1 ≡ 8 * i + 7 = omega arith in
     let b : 8 * i + 15 - (8 * i + 7) ≡ 8 = omega arith in
     let q : pad_to 8 p ≡ pad_to 8 (drop (8 * i + 7) line) = rw (e, a, b) (pad-take 8 (drop (8 * i + 7) line)) in
-    filled_next (word_in line) r i x h (k ∙ ap (hex_from 0) q ∙ sym (word-in line i h)) v
+    k ∙ ap (hex_from 0) q ∙ sym (word-in line i h)
 
-pub words-done : (line r : List ℕ) (i : ℕ) → bit_words ≤ i → Filled (word_in line) r i → r ≡ bits_in line
-unfolding bits_in
-words-done line r i h v = ext_get_or 0 r (bits_in line) (v.twelve ∙ sym (length-words bit_words (columns 8 103 line))) (λ k lt. v.each k (omega arith))
+-- twelve words that are each the line's are its bit field
+pub words-done : (line r : List ℕ) → length r ≡ bit_words → ((k : ℕ) → k < bit_words → get_or r k 0 ≡ word_in line k) → r ≡ bits_in line
+words-done line r n e = twelve-same (bits_in line) r (length-bits line) n e
 
-pub ruleset words = (tests, filled_none, word_next, words-done)
+pub ruleset words = (tests, word-said, words-done)

@@ -4,7 +4,7 @@ use mathlib.Core.List.{List, [], ◌∷◌, map}
 use mathlib.Core.Bool.{Bool, true}
 use Prim.Native.Nat.{ℕ, zero, suc, ◌+◌, ◌*◌, ◌≤◌, ◌<◌}
 use native.Mathlib.Omega.{arith}
-use lib.ListN.{length, get_or, take, drop, set, length-drop}
+use lib.ListN.{length, get_or, take, drop, length-drop}
 use Rattle.base.specs.Lists.{every}
 use Rattle.base.proofs.Laws.{tests}
 use Rattle.base.proofs.Loops.{and-true}
@@ -14,8 +14,7 @@ use Rattle.columns.proofs.Laws.{every-long}
 use Rattle.byte_words.specs.Inner.Words.{bytes_of, digits_from, hexadecimal}
 use Rattle.byte_words.proofs.Lines.{pad-is-take}
 use Rattle.bitfield.specs.BitField.{bit_words, hex_from, bits_in}
-use Rattle.bitfield.proofs.Fill.{Filled, filled_none, filled_next}
-use Rattle.bitfield.proofs.Hex.{word_in, digits_in, word-in, words-done}
+use Rattle.bitfield.proofs.Hex.{digits_in, word-in, words-done}
 
 -- ---- a word's digits are among those of the line
 
@@ -59,7 +58,4 @@ hex-long line e = every-long is_hex refl 8 103 line (omega arith) (omega arith) 
 pub all-hex : (l : List ℕ) (t : Bool) → t ≡ every (is_of Hex) l → t ≡ true → every is_hex l ≡ true
 all-hex l t e y = sym e ∙ y
 
-pub pack-next : (line r : List ℕ) (i x : ℕ) → i < bit_words → x ≡ get_or (bits_in line) i 0 → Filled (word_in line) r i → Filled (word_in line) (set r i x) (i + 1)
-pack-next line r i x h e v = filled_next (word_in line) r i x h e v
-
-pub ruleset packing = (tests, hex-long, word-hex, word-is, all-hex, filled_none, pack-next, words-done)
+pub ruleset packing = (tests, hex-long, word-hex, word-is, all-hex, words-done)

@@ -2,18 +2,16 @@
 use mathlib.Core.Path.{◌≡◌, refl, ap, ◌∙◌}
 use mathlib.Core.List.{List}
 use mathlib.Core.Bool.{Bool, true, false, not, ◌&&◌, ◌||◌}
-use Prim.Native.Nat.{ℕ, zero, suc, ◌-◌, ◌/◌, ◌%◌, ◌^◌, ◌≤◌, ◌<◌}
+use Prim.Native.Nat.{ℕ, zero, suc, ◌-◌, ◌/◌, ◌%◌, ◌^◌, ◌<◌}
 use native.Mathlib.Nat.{mod-lt}
 use native.Mathlib.Omega.{arith}
 use lib.ListN.{get_or, replicate}
 use lib.Dec.{eqb}
 use lib.Bits.{bit_or, bit_and, bit_xor, or_shr, or_mod, and_shr, and_mod, xor_shr, xor_mod}
-use borrow.Author.Rules.{rules}
 use borrow.Author.Tests.{not-true}
 use Rattle.base.specs.Lists.{every, upto}
 use Rattle.base.proofs.Loops.{every-at}
 use Rattle.bitfield.specs.BitField.{bit_words, bit_count, bit}
-use Rattle.bitfield.proofs.Fill.{Filled, filled_none, filled_next}
 
 -- ---- one binary digit of an operation on words
 
@@ -71,27 +69,25 @@ pub each-bit : (k : ℕ) → k < bit_count → bit (replicate bit_words 42949672
 unfolding bit every upto
 each-bit k h = every-at (bit (replicate bit_words 4294967295)) bit_count 0 k refl (omega arith) (omega arith)
 
--- ---- the loops over twelve words, for `search sets`
+-- ---- operations on twelve words
 
--- the word at k of an operation on words
-abbrev pub wordwise : (ℕ → ℕ → ℕ) → List ℕ → List ℕ → ℕ → ℕ
-wordwise f a b k = f (get_or a k 0) (get_or b k 0)
+-- each word of r is f of those of a and b
+abbrev pub Wordwise : (ℕ → ℕ → ℕ) → List ℕ → List ℕ → List ℕ → Type 0
+Wordwise f a b r = (k : ℕ) → k < bit_words → get_or r k 0 ≡ f (get_or a k 0) (get_or b k 0)
 
 -- what holds of each word holds of each bit
-filled-bits : (f : ℕ → ℕ → ℕ) (g : Bool → Bool → Bool) → Digitwise f g → (a b r : List ℕ) (i : ℕ) → Filled (wordwise f a b) r i → bit_words ≤ i → (k : ℕ) → k < bit_count → bit r k ≡ g (bit a k) (bit b k)
+word-bits : (f : ℕ → ℕ → ℕ) (g : Bool → Bool → Bool) → Digitwise f g → (a b r : List ℕ) → Wordwise f a b r → (k : ℕ) → k < bit_count → bit r k ≡ g (bit a k) (bit b k)
 unfolding bit
-filled-bits f g d a b r i v e k h =
-    ap (λ (x : ℕ). eqb (digit x (31 - k % 32)) 1) (v.each (k / 32) (omega arith))
+word-bits f g d a b r v k h =
+    ap (λ (x : ℕ). eqb (digit x (31 - k % 32)) 1) (v (k / 32) (omega arith))
     ∙ d (get_or a (k / 32) 0) (get_or b (k / 32) 0) (31 - k % 32)
 
-module _ (a b r : List ℕ) (i : ℕ) where
-  pub or-bits : Filled (wordwise bit_or a b) r i → bit_words ≤ i → (k : ℕ) → k < bit_count → bit r k ≡ (bit a k || bit b k)
-  or-bits = filled-bits bit_or ◌||◌ (digitwise bit_or ◌||◌ or-single refl refl refl refl) a b r i
+module _ (a b r : List ℕ) where
+  pub or-bits : Wordwise bit_or a b r → (k : ℕ) → k < bit_count → bit r k ≡ (bit a k || bit b k)
+  or-bits = word-bits bit_or ◌||◌ (digitwise bit_or ◌||◌ or-single refl refl refl refl) a b r
 
-  pub and-bits : Filled (wordwise bit_and a b) r i → bit_words ≤ i → (k : ℕ) → k < bit_count → bit r k ≡ (bit a k && bit b k)
-  and-bits = filled-bits bit_and ◌&&◌ (digitwise bit_and ◌&&◌ and-single refl refl refl refl) a b r i
+  pub and-bits : Wordwise bit_and a b r → (k : ℕ) → k < bit_count → bit r k ≡ (bit a k && bit b k)
+  and-bits = word-bits bit_and ◌&&◌ (digitwise bit_and ◌&&◌ and-single refl refl refl refl) a b r
 
-  pub less-bits : Filled (wordwise less a b) r i → bit_words ≤ i → (k : ℕ) → k < bit_count → bit r k ≡ (bit a k && not (bit b k))
-  less-bits = filled-bits less (λ (x y : Bool). x && not y) (digitwise less (λ (x y : Bool). x && not y) less-single refl refl refl refl) a b r i
-
-pub ruleset sets = (rules, filled_none, filled_next, or-bits, and-bits, less-bits)
+  pub less-bits : Wordwise less a b r → (k : ℕ) → k < bit_count → bit r k ≡ (bit a k && not (bit b k))
+  less-bits = word-bits less (λ (x y : Bool). x && not y) (digitwise less (λ (x y : Bool). x && not y) less-single refl refl refl refl) a b r

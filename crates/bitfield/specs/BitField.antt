@@ -1,8 +1,8 @@
 -- "Of the 384 bits, first hex digit's high bit first: bits 0 and 1 are 1, bit d+2 is day d, bits n+2 and n+3 are 1, the rest 0.
 -- A bit field is twelve words held together as one value, bit 0 the highest of the first word."
 -- Assumes nothing.
-use Rattle.std.specs.Prelude.{ℕ, zero, suc, ◌+◌, ◌-◌, ◌*◌, ◌/◌, ◌%◌, ◌^◌, List, [], ◌∷◌, Bool, true, false, cond, not, get_or, take, drop, eqb, ltb}
-use Rattle.base.specs.Lists.{every, some_of, upto, below}
+use Rattle.std.specs.Prelude.{ℕ, zero, suc, ◌+◌, ◌-◌, ◌*◌, ◌/◌, ◌%◌, ◌^◌, List, [], ◌∷◌, Bool, true, cond, not, get_or, take, drop, eqb, ltb}
+use Rattle.base.specs.Lists.{every, some_of, below}
 use Rattle.columns.specs.Columns.{hex_value}
 use Rattle.columns.specs.LineFields.{field_in, bit_field_bits}
 

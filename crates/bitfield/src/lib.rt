@@ -36,13 +36,7 @@ pub fn hex_words(line: &[u8]) -> [u32; BIT_WORDS]
     requires { every is_hex (columns 8 103 line.now) ≡ true }
     ensures { result ≡ bits_in line.now }
 {
-    let mut r = [0u32; BIT_WORDS];
-    let mut i: usize = 0;
-    while i < BIT_WORDS {
-        r[i] = eight_digits(line, i);
-        i += 1;
-    }
-    r
+    words_by(|i| eight_digits(line, i))
 }
 
 // Twelve words of a slice as one value.
@@ -50,13 +44,7 @@ pub fn words_at(words: &[u32], at: usize) -> [u32; BIT_WORDS]
     requires { at + bit_words ≤ length words.now }
     ensures { result ≡ take bit_words (drop at words.now) }
 {
-    let mut r = [0u32; BIT_WORDS];
-    let mut i: usize = 0;
-    while i < BIT_WORDS {
-        r[i] = words[at + i];
-        i += 1;
-    }
-    r
+    words_by(|i| words[at + i])
 }
 
 // Bit k.
@@ -104,12 +92,10 @@ pub fn some_day(b: [u32; BIT_WORDS], n: u32) -> bool
 fn has_no_bit(b: [u32; BIT_WORDS]) -> bool
     ensures { result ≡ no_bit b }
 {
-    let mut i: usize = 0;
-    while i < BIT_WORDS {
+    for i in 0..BIT_WORDS {
         if b[i] != 0 {
             return false;
         }
-        i += 1;
     }
     true
 }
@@ -119,12 +105,10 @@ fn day_by_day(b: [u32; BIT_WORDS], n: u32) -> bool
     requires { n ≤ most_framed }
     ensures { result ≡ some_day n b }
 {
-    let mut d: u32 = 0;
-    while d < n {
+    for d in 0..n {
         if runs_on(b, d) {
             return true;
         }
-        d += 1;
     }
     false
 }
@@ -149,42 +133,37 @@ pub fn all_bits() -> [u32; BIT_WORDS]
 pub fn either(a: [u32; BIT_WORDS], b: [u32; BIT_WORDS]) -> [u32; BIT_WORDS]
     ensures { (k : ℕ) → k < bit_count → bit result k ≡ (bit a k || bit b k) }
 {
-    let mut r = [0u32; BIT_WORDS];
-    let mut i: usize = 0;
-    while i < BIT_WORDS {
-        r[i] = a[i] | b[i];
-        i += 1;
-    }
-    r
+    words_by(|i| a[i] | b[i])
 }
 
 // The bits of both.
 pub fn both(a: [u32; BIT_WORDS], b: [u32; BIT_WORDS]) -> [u32; BIT_WORDS]
     ensures { (k : ℕ) → k < bit_count → bit result k ≡ (bit a k && bit b k) }
 {
-    let mut r = [0u32; BIT_WORDS];
-    let mut i: usize = 0;
-    while i < BIT_WORDS {
-        r[i] = a[i] & b[i];
-        i += 1;
-    }
-    r
+    words_by(|i| a[i] & b[i])
 }
 
 // The bits of the first that the second has not.
 pub fn without(a: [u32; BIT_WORDS], b: [u32; BIT_WORDS]) -> [u32; BIT_WORDS]
     ensures { (k : ℕ) → k < bit_count → bit result k ≡ (bit a k && not (bit b k)) }
 {
-    let mut r = [0u32; BIT_WORDS];
-    let mut i: usize = 0;
-    while i < BIT_WORDS {
-        r[i] = a[i] ^ (a[i] & b[i]);
-        i += 1;
-    }
-    r
+    words_by(|i| a[i] ^ (a[i] & b[i]))
 }
 
 // ---- inner functions
+
+// Twelve words, word i being what f says of i.
+fn words_by<F: Fn(usize) -> u32>(f: F) -> [u32; BIT_WORDS]
+    requires { (i : ℕ) → i < bit_words → F.pre f i }
+    ensures each { (i : ℕ) → i < bit_words → F.post f i (get_or result i 0) }
+    ensures twelve { length result ≡ bit_words }
+{
+    let mut r = [0u32; BIT_WORDS];
+    for i in 0..BIT_WORDS {
+        r[i] = f(i);
+    }
+    r
+}
 
 // Word i of a line whose columns 8 to 103 are hex digits.
 fn eight_digits(line: &[u8], i: usize) -> u32
@@ -203,13 +182,15 @@ const FIRST_WORD_END: usize = bit_field::BITS + 7;
 fn bits_by_words(line: &[u8]) -> [u32; BIT_WORDS]
     ensures { result ≡ bits_in line.now }
 {
-    let mut r = [0u32; BIT_WORDS];
-    let mut i: usize = 0;
-    while i < BIT_WORDS {
-        r[i] = hex_word(columns::part(line, 8 * i + bit_field::BITS, 8 * i + FIRST_WORD_END));
-        i += 1;
-    }
-    r
+    words_by(|i| eight_columns(line, i))
+}
+
+// Word i of any line.
+fn eight_columns(line: &[u8], i: usize) -> u32
+    requires { i < bit_words }
+    ensures { result ≡ get_or (bits_in line.now) i 0 }
+{
+    hex_word(columns::part(line, 8 * i + bit_field::BITS, 8 * i + FIRST_WORD_END))
 }
 
 // The word of eight hex digits.
@@ -217,10 +198,8 @@ fn hex_word(p: &[u8]) -> u32
     ensures { result ≡ hex_from 0 (pad_to 8 p.now) }
 {
     let mut n: u32 = 0;
-    let mut i: usize = 0;
-    while i < 8 {
+    for i in 0..8 {
         n = n * 16 + columns::hex_value(columns::byte_at(p, i));
-        i += 1;
     }
     n
 }
@@ -240,6 +219,7 @@ fn two_bits(b: [u32; BIT_WORDS], k: u32) -> bool
 fn is_clear(b: [u32; BIT_WORDS], from: u32) -> bool
     ensures { result ≡ clear_from from b }
 {
+    // Kept: each step goes to the next word, from within the first; a `for` over words would need the first one apart.
     let mut k = from;
     while k < BIT_COUNT {
         let word = b[(k / 32) as usize] as u64;

@@ -5,9 +5,11 @@ use mathlib.Core.Bool.{true}
 use mathlib.Core.Option.{some}
 use Prim.Native.Nat.{ℕ, ◌+◌, ◌≤◌, ◌<◌}
 use lib.ListN.{get_elem?}
+use Rattle.std.specs.Prelude.{Ok}
 use Rattle.timetable.specs.Delivery.{Service}
+use Rattle.timetable.specs.declared.refusal.Refusal.{Refusal}
 use Rattle.timetable.specs.Runs.{has_run}
-use Rattle.timetable.specs.View.{View, a_service}
+use Rattle.timetable.specs.View.{View}
 use Rattle.timetable.specs.Run.{Run, RunFound, no_run, at_rest, a_run, run_of}
 use Rattle.timetable.specs.declared.Call.{Call}
 use Rattle.board.specs.Board.{boardable, Among, board_of}
@@ -22,12 +24,12 @@ module _ (v : View) (n k t u services : ℕ) where
         → t ≤ c.departure + x.late → c.departure + x.late ≤ u
         → Among (record { time = c.departure + x.late; service = i; repeat = r; place = p }) (board_of v services n k t u)) → Told i r
 
-  pub complete : Served v services → ((i r : ℕ) (s : Service) → v.service i ≡ a_service s → has_run s.opening r ≡ true → (number : ℕ) → run_of v i r k ≡ no_run number → ⊥)
-      → (i r : ℕ) (s : Service) → v.service i ≡ a_service s → has_run s.opening r ≡ true → Told i r
+  pub complete : Served v services → ((i r : ℕ) (s : Service) → v.service i ≡ Ok s → has_run s.opening r ≡ true → (refusal : Refusal) → run_of v i r k ≡ no_run refusal → ⊥)
+      → (i r : ℕ) (s : Service) → v.service i ≡ Ok s → has_run s.opening r ≡ true → Told i r
   complete z never i r s e h = go (run_of v i r k) refl
     where
       go : (f : RunFound) → run_of v i r k ≡ f → Told i r
-      go (no_run number) q = absurd (never i r s e h number q)
+      go (no_run refusal) q = absurd (never i r s e h refusal q)
       go at_rest q = rests q
       go (a_run x) q =
           listed x q

@@ -5,15 +5,18 @@ use mathlib.Core.Bool.{true, cond}
 use mathlib.Core.Option.{none}
 use Prim.Native.Nat.{ℕ}
 use lib.Dec.{eqb}
+use Rattle.std.specs.Prelude.{Result, Ok, Err}
 use Rattle.base.specs.Lists.{gathered, upto, every, some_of, count_if, find}
 use Rattle.timetable.specs.Delivery.{Legs, Service}
 use Rattle.timetable.specs.Legs.{stretches}
 use Rattle.timetable.specs.Offences.{◌<|>◌}
 use Rattle.timetable.specs.Runs.{has_run, lateness}
-use Rattle.timetable.specs.View.{View, ServiceFound, no_service, a_service, no_interchange}
+use Rattle.timetable.specs.View.{View, no_interchange}
 use Rattle.timetable.specs.Run.{first_refusal, idle_legs, leading_legs, call_refusal, calls_refusal, stretch_course, day_course, course_on}
 use Rattle.timetable.specs.declared.Call.{Call}
 use Rattle.timetable.specs.declared.Opening.{Opening}
+use Rattle.timetable.specs.declared.refusal.Refusal.{Refusal}
+use Rattle.timetable.specs.declared.refusal.Refusal.TheVariants.{NoSuchService}
 use Rattle.sort.specs.Sorted.{insert, sorted}
 use Rattle.sort.specs.Rows.{not_after}
 use Rattle.spans.specs.Spans.{runs#}
@@ -39,8 +42,8 @@ repeats = record { number = 42; high = 0; low = 0; repeats = 2; offset = 10; kin
 abbrev frequency : Opening
 frequency = record { number = 43; high = 0; low = 0; repeats = 20; offset = 450; kind = 1 }
 
-abbrev shown : ℕ → ServiceFound
-shown i = cond (eqb i 0) (a_service (service repeats)) (cond (eqb i 1) (a_service (service frequency)) (no_service 24))
+abbrev shown : ℕ → Result Service Refusal
+shown i = cond (eqb i 0) (Ok (service repeats)) (cond (eqb i 1) (Ok (service frequency)) (Err NoSuchService))
 
 abbrev two : View
 two = record { period = record { start = 0; n = 7 }; service = shown; known = λ b. true; runs = λ b d. true; shown = λ p. p; times = λ n. no_interchange; stop = λ n. true; named = λ n. none; listed = λ c. true; class = λ c. 0 }

@@ -9,17 +9,19 @@ use native.Mathlib.Omega.{arith}
 use lib.ListN.{length, get_elem?}
 use lib.Dec.{leb, eqb}
 use borrow.Author.Tests.{lt-ltb, le-leb, eq-eqb, ltb-true, leb-true, eqb-true}
+use Rattle.std.specs.Prelude.{Result, Ok, Err, Some, None}
 use Rattle.base.specs.Lists.{gathered, below}
 use Rattle.base.proofs.Laws.{clash}
 use Rattle.base.proofs.Loops.{and-true}
 use Rattle.timetable.specs.Delivery.{Service}
 use Rattle.timetable.specs.Runs.{has_run, lateness, opening_sound}
-use Rattle.timetable.specs.View.{View, ServiceFound, no_service, a_service}
-use Rattle.timetable.specs.Run.{Run, RunFound, no_run, at_rest, a_run, run_along, run_by, run_of, course_on, service_course}
+use Rattle.timetable.specs.View.{View}
+use Rattle.timetable.specs.Run.{Course, runs_along, Run, RunFound, no_run, at_rest, a_run, run_along, run_by, run_of, course_on, service_course}
 use Rattle.timetable.specs.declared.Call.{Call}
 use Rattle.timetable.specs.declared.Opening.{Opening}
-use Rattle.timetable.specs.declared.Course.{Course}
-use Rattle.timetable.specs.declared.Course.TheVariants.{Along, NotRunning, Refused}
+use Rattle.timetable.specs.declared.refusal.Refusal.{Refusal}
+use Rattle.timetable.specs.declared.refusal.Refusal.TheVariants.{NoSuchRun}
+use Rattle.timetable.specs.declared.refusal.Refusal.{Refusal}
 use Rattle.spans.specs.Spans.{runs#}
 use Rattle.spans.proofs.Meaning.{has-below, and_both}
 use Rattle.board.specs.Board.{Departure, boardable, IsDeparture, Among, IsBoard, departure_of, run_departure, runs_from, call_departures, leaves, place_departures, found_departures, service_departures, board_of}
@@ -32,8 +34,8 @@ one-board v n k t u es fs a b = one-ascending es fs a.ordered b.ordered (λ x m.
 
 -- what a view shows: so many services, each with an opening line as a table has it
 pub record Served (v : View) (services : ℕ) : Type 0 where
-  pub most : (i : ℕ) (s : Service) → v.service i ≡ a_service s → i < services
-  pub sound : (i : ℕ) (s : Service) → v.service i ≡ a_service s → opening_sound s.opening ≡ true
+  pub most : (i : ℕ) (s : Service) → v.service i ≡ Ok s → i < services
+  pub sound : (i : ℕ) (s : Service) → v.service i ≡ Ok s → opening_sound s.opening ≡ true
 
 -- ---- from a place of a service's route
 
@@ -133,7 +135,7 @@ module _ (v : View) (n k t u i : ℕ) (s : Service) where
       go true = call-distinct n t u i s.opening p (get_elem? s.calls p)
       go false = Prim.tt
 
-  pub places-distinct : Distinct (found_departures v n k t u i (a_service s))
+  pub places-distinct : Distinct (found_departures v n k t u i (Ok s))
   places-distinct =
       distinct-gathered (place_departures v n k t u i s) (λ (e : Departure). e.place) place-distinct
       (λ p e m. ap (λ (e : Departure). e.place) (place-among p e m).boarding.leaving.is) (length s.calls) 0
@@ -145,13 +147,13 @@ module _ (v : View) (n k t u i : ℕ) where
   unfolding service_departures Distinct
   service-distinct = go (v.service i)
     where
-      go : (f : ServiceFound) → Distinct (found_departures v n k t u i f)
-      go (no_service number) = Prim.tt
-      go (a_service s) = places-distinct v n k t u i s
+      go : (f : Result Service Refusal) → Distinct (found_departures v n k t u i f)
+      go (Err refusal) = Prim.tt
+      go (Ok s) = places-distinct v n k t u i s
 
   pub record Offered (e : Departure) : Type 0 where
     pub service : Service
-    pub found : v.service i ≡ a_service service
+    pub found : v.service i ≡ Ok service
     pub place : ℕ
     pub placed : Placed v n k t u i service place e
 
@@ -159,9 +161,9 @@ module _ (v : View) (n k t u i : ℕ) where
   unfolding service_departures Among
   service-among e h = go (v.service i) refl h
     where
-      go : (f : ServiceFound) → v.service i ≡ f → Among e (found_departures v n k t u i f) → Offered e
-      go (no_service number) q m = absurd m
-      go (a_service s) q m =
+      go : (f : Result Service Refusal) → v.service i ≡ f → Among e (found_departures v n k t u i f) → Offered e
+      go (Err refusal) q m = absurd m
+      go (Ok s) q m =
           let g = gathered-among (place_departures v n k t u i s) (length s.calls) 0 e m in
           record { service = s; found = q; place = g.number; placed = place-among v n k t u i s g.number e g.one }
 
@@ -171,7 +173,7 @@ module _ (v : View) (n k t u i : ℕ) where
 -- ---- a departure of the definition
 
 -- a run along a stretch
-along-run : (v : View) (i r k : ℕ) (s : Service) (a m : ℕ) → v.service i ≡ a_service s → has_run s.opening r ≡ true → course_on v s k ≡ Along a m
+along-run : (v : View) (i r k : ℕ) (s : Service) (a m : ℕ) → v.service i ≡ Ok s → has_run s.opening r ≡ true → course_on v s k ≡ runs_along a m
     → run_of v i r k ≡ a_run (record { service = s; late = lateness s.opening r; start = a; legs = m })
 unfolding run_of service_course
 along-run v i r k s a m q h c = rw (q, h, c)
@@ -184,7 +186,9 @@ offered-departure v n k t u i services e z f =
     go (course_on v s k) refl f.placed.goes
   where
     go : (c : Course) → course_on v f.service k ≡ c → leaves c f.place ≡ true → IsDeparture v n k t u e
-    go (Along a m) q g =
+    go (Ok (Some y)) q g =
+        let a = y.start in
+        let m = y.legs in
         let s = f.service in
         let b = f.placed.boarding in
         let l = b.leaving in
@@ -204,23 +208,23 @@ offered-departure v n k t u i services e z f =
           first = l.first;
           last = l.last;
         })
-    go NotRunning q g = clash g
-    go (Refused number) q g = clash g
+    go (Ok None) q g = clash g
+    go (Err refusal) q g = clash g
 
 -- what a run is: a service, and its course
 pub record Ran (v : View) (i r k : ℕ) (x : Run) : Type 0 where
-  pub found : v.service i ≡ a_service x.service
+  pub found : v.service i ≡ Ok x.service
   pub has : has_run x.service.opening r ≡ true
   pub late : x.late ≡ lateness x.service.opening r
-  pub course : course_on v x.service k ≡ Along x.start x.legs
+  pub course : course_on v x.service k ≡ runs_along x.start x.legs
 
 is_run : RunFound → Bool
-is_run (no_run number) = false
+is_run (no_run refusal) = false
 is_run at_rest = false
 is_run (a_run x) = true
 
 run_or : Run → RunFound → Run
-run_or d (no_run number) = d
+run_or d (no_run refusal) = d
 run_or d at_rest = d
 run_or d (a_run x) = x
 
@@ -228,20 +232,20 @@ pub run-told : (v : View) (i r k : ℕ) (x : Run) → run_of v i r k ≡ a_run x
 unfolding run_of service_course run_or is_run
 run-told v i r k x = by-service (v.service i) refl
   where
-    by-course : (s : Service) (c : Course) → v.service i ≡ a_service s → has_run s.opening r ≡ true → course_on v s k ≡ c → run_along s (lateness s.opening r) c ≡ a_run x → Ran v i r k x
-    by-course s (Along a m) f h c e =
-        let z : record { service = s; late = lateness s.opening r; start = a; legs = m } ≡ x = ap (run_or x) e in
+    by-course : (s : Service) (c : Course) → v.service i ≡ Ok s → has_run s.opening r ≡ true → course_on v s k ≡ c → run_along s (lateness s.opening r) c ≡ a_run x → Ran v i r k x
+    by-course s (Ok (Some y)) f h c e =
+        let z : record { service = s; late = lateness s.opening r; start = y.start; legs = y.legs } ≡ x = ap (run_or x) e in
         rw (← z) (record { found = f; has = h; late = refl; course = c })
-    by-course s NotRunning f h c e = clash (ap is_run e)
-    by-course s (Refused number) f h c e = clash (ap is_run e)
+    by-course s (Ok None) f h c e = clash (ap is_run e)
+    by-course s (Err refusal) f h c e = clash (ap is_run e)
 
-    by-run : (s : Service) (t : Bool) → v.service i ≡ a_service s → has_run s.opening r ≡ t → run_along s (lateness s.opening r) (cond (not t) (Refused 25) (course_on v s k)) ≡ a_run x → Ran v i r k x
+    by-run : (s : Service) (t : Bool) → v.service i ≡ Ok s → has_run s.opening r ≡ t → run_along s (lateness s.opening r) (cond (not t) (Err NoSuchRun) (course_on v s k)) ≡ a_run x → Ran v i r k x
     by-run s true f h e = by-course s (course_on v s k) f h refl e
     by-run s false f h e = clash (ap is_run e)
 
-    by-service : (f : ServiceFound) → v.service i ≡ f → run_by v f r k ≡ a_run x → Ran v i r k x
-    by-service (no_service number) f e = clash (ap is_run e)
-    by-service (a_service s) f e = by-run s (has_run s.opening r) f refl e
+    by-service : (f : Result Service Refusal) → v.service i ≡ f → run_by v f r k ≡ a_run x → Ran v i r k x
+    by-service (Err refusal) f e = clash (ap is_run e)
+    by-service (Ok s) f e = by-run s (has_run s.opening r) f refl e
 
 is_some : Option Call → Bool
 is_some none = false
@@ -273,7 +277,7 @@ departure-offered v n k t u services e z d =
     let place : place_departures v n k t u e.service s e.place ≡ runs_from t u e.service o e.place d.call.departure
     = rw (goes, d.there) call in
     let there : Among e (place_departures v n k t u e.service s e.place) = rw place (rw (← is) at own) in
-    let all : Among e (found_departures v n k t u e.service (a_service s))
+    let all : Among e (found_departures v n k t u e.service (Ok s))
     = among-gathered (place_departures v n k t u e.service s) (length s.calls) 0 e.place e (omega arith) (omega (arith, within d.call s.calls e.place d.there)) there in
     among-gathered (service_departures v n k t u) services 0 e.service e (omega arith) (omega (arith, z.most e.service s g.found))
     (rw g.found all)

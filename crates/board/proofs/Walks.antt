@@ -149,7 +149,7 @@ departure-row v n k t u e d =
     }
 
 rows_in : Journey → List ℕ
-rows_in (refused number) = []
+rows_in (refused refusal) = []
 rows_in idle = []
 rows_in (rows l) = l
 

@@ -2,18 +2,17 @@
 -- allowed and the time is not below the first nor above the second, each once, by time, then service, repeat and place in the route; a row is these four
 -- words, service and place from 0." First what a board is (`IsBoard`; there is only one, `one-board`), then the one that there is (`board_of`, `board-is`;
 -- both laws in proofs/Meaning). Assumes nothing.
-use Rattle.std.specs.Prelude.{ℕ, ◌+◌, ◌/◌, ◌%◌, ◌≤◌, ◌<◌, ◌≡◌, List, [], ◌∷◌, ◌⊎◌, Bool, true, false, cond, not, ◌&&◌, length, ltb, leb, eqb}
+use Rattle.std.specs.Prelude.{ℕ, ◌+◌, ◌/◌, ◌%◌, ◌≤◌, ◌<◌, ◌≡◌, List, [], ◌∷◌, ◌⊎◌, Bool, true, false, cond, not, ◌&&◌, length, ltb, leb, eqb, Result, Ok, Err, Some, None}
 use Rattle.std.proofs.Math.Option.{Option, none, some}
 use Rattle.std.proofs.Math.ListN.{get_elem?}
 use Rattle.base.specs.Lists.{All, gathered, below}
 use Rattle.timetable.specs.Delivery.{Service}
 use Rattle.timetable.specs.Runs.{lateness}
-use Rattle.timetable.specs.View.{View, ServiceFound, no_service, a_service}
-use Rattle.timetable.specs.Run.{Run, a_run, run_of, course_on}
+use Rattle.timetable.specs.View.{View}
+use Rattle.timetable.specs.Run.{Course, Run, a_run, run_of, course_on}
 use Rattle.timetable.specs.declared.Call.{Call}
 use Rattle.timetable.specs.declared.Opening.{Opening}
-use Rattle.timetable.specs.declared.Course.{Course}
-use Rattle.timetable.specs.declared.Course.TheVariants.{Along, NotRunning, Refused}
+use Rattle.timetable.specs.declared.refusal.Refusal.{Refusal}
 use Rattle.sort.specs.Rows.{lower, sorted_rows}
 use Rattle.sort.specs.declared.BoardRow.{BoardRow}
 use Rattle.spans.specs.Spans.{runs#}
@@ -84,17 +83,17 @@ call_departures n t u i o p (some c) = cond (eqb c.stop n && boardable c) (runs_
 
 -- a course goes on from place p of the route: not from its last call
 abbrev pub leaves : Course → ℕ → Bool
-leaves (Along a m) p = leb a p && ltb p (a + m)
-leaves NotRunning p = false
-leaves (Refused number) p = false
+leaves (Ok (Some x)) p = leb x.start p && ltb p (x.start + x.legs)
+leaves (Ok None) p = false
+leaves (Err refusal) p = false
 
 -- from place p of a service
 abbrev pub place_departures : View → ℕ → ℕ → ℕ → ℕ → ℕ → Service → ℕ → List Departure
 place_departures v n k t u i s p = cond (leaves (course_on v s k) p) (call_departures n t u i s.opening p (get_elem? s.calls p)) []
 
-abbrev pub found_departures : View → ℕ → ℕ → ℕ → ℕ → ℕ → ServiceFound → List Departure
-found_departures v n k t u i (no_service number) = []
-found_departures v n k t u i (a_service s) = gathered (place_departures v n k t u i s) (below (length s.calls))
+abbrev pub found_departures : View → ℕ → ℕ → ℕ → ℕ → ℕ → Result Service Refusal → List Departure
+found_departures v n k t u i (Err refusal) = []
+found_departures v n k t u i (Ok s) = gathered (place_departures v n k t u i s) (below (length s.calls))
 
 -- of the i-th service
 unfoldable pub service_departures : View → ℕ → ℕ → ℕ → ℕ → ℕ → List Departure

@@ -10,13 +10,14 @@ use lib.ListN.{length, get_or, take, drop, length-append, length-map, get_or-app
 use lib.Seq.{drop-drop, drop_at, get_or-drop, get_or_at, take_all}
 use lib.Dec.{eqb, ltb}
 use borrow.Author.Tests.{eq-eqb, ne_eqb, eqb-true, le-leb, lt-ltb}
+use Rattle.std.specs.Prelude.{Ok}
 use Rattle.base.specs.Lists.{All, nil, cons, gathered, below}
 use Rattle.base.proofs.Laws.{by_eqb}
 use Rattle.base.proofs.Loops.{and-true}
 use Rattle.timetable.specs.Delivery.{Service}
 use Rattle.timetable.specs.Layout.{stop_size, service_head, call_size}
 use Rattle.timetable.specs.Table.{used_words, stops#, services#, calls#, call_at, rows_in, service_at, with_stop, with_stops, resolved, stop_number_at, table_of}
-use Rattle.timetable.specs.View.{View, a_service, service_by, view_of}
+use Rattle.timetable.specs.View.{View, service_by, view_of}
 use Rattle.timetable.specs.Run.{course_on}
 use Rattle.timetable.specs.declared.Call.{Call}
 use Rattle.timetable.proofs.Rows.{length-rows}
@@ -195,7 +196,7 @@ module _ (w x y : List ℕ) (m : ℕ) (h : JustTable w) (ex : x ≡ index_of w) 
     abbrev own : Service
     own = with_stops (stop_number_at (table_of w).stops) (service_at (drop (service_place w i) w))
 
-    service-own : (view_of (table_of w)).service i ≡ a_service (with_stops (stop_number_at (table_of w).stops) (service_at (drop (service_place w i) w)))
+    service-own : (view_of (table_of w)).service i ≡ Ok (with_stops (stop_number_at (table_of w).stops) (service_at (drop (service_place w i) w)))
     unfolding resolved
     service-own = ap service_by (service-is w h i l)
 

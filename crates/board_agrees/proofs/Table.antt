@@ -8,11 +8,14 @@ use Prim.Native.Nat.{ℕ, ◌<◌}
 use lib.ListN.{take}
 use lib.Dec.{ltb}
 use borrow.Author.Tests.{ltb-true}
+use Rattle.std.specs.Prelude.{Result, Ok, Err}
 use Rattle.base.specs.Lists.{gathered}
 use Rattle.base.proofs.Laws.{clash}
 use Rattle.timetable.specs.Delivery.{Service}
 use Rattle.timetable.specs.Table.{services#, stops#, used_words, table_of}
-use Rattle.timetable.specs.View.{ServiceFound, no_service, a_service, view_of}
+use Rattle.timetable.specs.View.{view_of}
+use Rattle.timetable.specs.declared.refusal.Refusal.{Refusal}
+use Rattle.timetable.specs.declared.refusal.Refusal.TheVariants.{NoSuchService}
 use Rattle.table.specs.JustTable.{JustTable}
 use Rattle.index.specs.Index.{record_in, record_from, record_place_in, service_from, stops_from, stop_section, section_end, view_in}
 use Rattle.index.proofs.Agrees.{view-plain}
@@ -28,15 +31,15 @@ use Rattle.boards.specs.ByWords.{steady_in, departures_by, board_by}
 use Rattle.boards.specs.ByWords as B
 use Rattle.boards.proofs.Bounds.{opening-shown}
 
-is_service : ServiceFound → Bool
-is_service (no_service number) = false
-is_service (a_service s) = true
+is_service : Result Service Refusal → Bool
+is_service (Err refusal) = false
+is_service (Ok s) = true
 
 pub served-shown : (w x : List ℕ) → Served (view_in w x) (services# w)
 unfolding view_in record_in is_service
 served-shown w x = record { most = λ i s e. within i s (ltb i (services# w)) refl e; sound = λ i s e. opening-shown w x i s e }
   where
-    within : (i : ℕ) (s : Service) (t : Bool) → ltb i (services# w) ≡ t → service_from w (cond t (record_from w (record_place_in w x i)) (Rattle.index.specs.declared.ServiceRecord.TheVariants.Refused 24)) ≡ a_service s → i < services# w
+    within : (i : ℕ) (s : Service) (t : Bool) → ltb i (services# w) ≡ t → service_from w (cond t (record_from w (record_place_in w x i)) (Err NoSuchService)) ≡ Ok s → i < services# w
     within i s true q e = ltb-true i (services# w) q
     within i s false q e = clash (ap is_service e)
 
@@ -65,9 +68,9 @@ at-departure : (w x : List ℕ) (n k t u i p : ℕ) (e : Departure) → Among e 
 unfolding departures_at Among
 at-departure w x n k t u i p e h = go ((view_in w x).service i) refl h
   where
-    go : (f : ServiceFound) → (view_in w x).service i ≡ f → Among e (found_at (view_in w x) n k t u i p f) → IsDeparture (view_in w x) n k t u e
-    go (no_service number) q m = absurd m
-    go (a_service s) q m =
+    go : (f : Result Service Refusal) → (view_in w x).service i ≡ f → Among e (found_at (view_in w x) n k t u i p f) → IsDeparture (view_in w x) n k t u e
+    go (Err refusal) q m = absurd m
+    go (Ok s) q m =
         offered-departure (view_in w x) n k t u i (services# w) e (served-shown w x)
         (record { service = s; found = q; place = p; placed = place-among (view_in w x) n k t u i s p e m })
 

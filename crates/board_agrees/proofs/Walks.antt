@@ -6,11 +6,14 @@ use mathlib.Core.Bool.{Bool, true, false, cond}
 use Prim.Native.Nat.{ℕ}
 use native.Mathlib.Omega.{arith}
 use lib.Seq.{get_or-take}
+use Rattle.std.specs.Prelude.{Result, Ok, Err}
 use Rattle.base.proofs.Laws.{clash}
+use Rattle.timetable.specs.declared.refusal.Refusal.TheVariants.{NoTable, StopUnknown, NotItsIndex}
 use Rattle.timetable.specs.Table.{used_words, services#, used, table_of, is_table}
 use Rattle.timetable.specs.View.{View, view_of}
 use Rattle.timetable.specs.Run.{run_of}
-use Rattle.timetable.specs.Questions.{Dated, undated, dated, date_of, dated_run, rows_along, journey, walk_of}
+use Rattle.timetable.specs.Questions.{date_of, dated_run, rows_along, journey, walk_of}
+use Rattle.timetable.specs.declared.refusal.Refusal.{Refusal}
 use Rattle.table.proofs.Says.{table-says}
 use Rattle.table.proofs.JustTable.{used-just, used-same}
 use Rattle.index.specs.Index.{view_in}
@@ -23,11 +26,11 @@ use Rattle.board.proofs.Walks.{board-walked}
 use Rattle.board_agrees.proofs.Table.{served-shown}
 
 is_board : BoardFound → Bool
-is_board (refused number) = false
+is_board (refused refusal) = false
 is_board (board es) = true
 
 rows_on : BoardFound → List Departure
-rows_on (refused number) = []
+rows_on (refused refusal) = []
 rows_on (board es) = es
 
 module _ (w : List ℕ) (h : is_table w ≡ true) where
@@ -43,7 +46,7 @@ module _ (w : List ℕ) (h : is_table w ≡ true) where
   served : Served (view_of (table_of w)) (services# w)
   served = rw (views, services) at (served-shown (used w) [])
 
-  module _ (day month year k : ℕ) (q : date_of (view_of (table_of w)) day month year ≡ dated k) where
+  module _ (day month year k : ℕ) (q : date_of (view_of (table_of w)) day month year ≡ Ok k) where
     run_is : (i r : ℕ) → dated_run (view_of (table_of w)) i r (date_of (view_of (table_of w)) day month year) ≡ run_of (view_of (table_of w)) i r k
     run_is i r = ap (dated_run (view_of (table_of w)) i r) q
 
@@ -64,20 +67,20 @@ pub asked-walks : (w : List ℕ) (own : Bool) (n day month year t u : ℕ) (es :
 unfolding board_asked board_in is_board rows_on
 asked-walks w own n day month year t u es = by-table (is_table w) refl
   where
-    by-own : (h : is_table w ≡ true) (k : ℕ) → date_of (view_of (table_of w)) day month year ≡ dated k → (o : Bool)
-        → cond o (board (board_of (view_of (table_of w)) (services# w) n k t u)) (refused 43) ≡ board es → EqualsWalks w n day month year t u es
+    by-own : (h : is_table w ≡ true) (k : ℕ) → date_of (view_of (table_of w)) day month year ≡ Ok k → (o : Bool)
+        → cond o (board (board_of (view_of (table_of w)) (services# w) n k t u)) (refused NotItsIndex) ≡ board es → EqualsWalks w n day month year t u es
     by-own h k q true e = rw (ap rows_on e) at (equals w h day month year k q n t u)
     by-own h k q false e = clash (ap is_board e)
 
-    by-stop : (h : is_table w ≡ true) (k : ℕ) → date_of (view_of (table_of w)) day month year ≡ dated k → (s : Bool)
-        → cond s (cond own (board (board_of (view_of (table_of w)) (services# w) n k t u)) (refused 43)) (refused 27) ≡ board es → EqualsWalks w n day month year t u es
+    by-stop : (h : is_table w ≡ true) (k : ℕ) → date_of (view_of (table_of w)) day month year ≡ Ok k → (s : Bool)
+        → cond s (cond own (board (board_of (view_of (table_of w)) (services# w) n k t u)) (refused NotItsIndex)) (refused StopUnknown) ≡ board es → EqualsWalks w n day month year t u es
     by-stop h k q true e = by-own h k q own e
     by-stop h k q false e = clash (ap is_board e)
 
-    by-date : is_table w ≡ true → (d : Dated) → date_of (view_of (table_of w)) day month year ≡ d → board_on (view_of (table_of w)) (services# w) own n t u d ≡ board es → EqualsWalks w n day month year t u es
-    by-date h (undated number) q e = clash (ap is_board e)
-    by-date h (dated k) q e = by-stop h k q ((view_of (table_of w)).stop n) e
+    by-date : is_table w ≡ true → (d : Result ℕ Refusal) → date_of (view_of (table_of w)) day month year ≡ d → board_on (view_of (table_of w)) (services# w) own n t u d ≡ board es → EqualsWalks w n day month year t u es
+    by-date h (Err refusal) q e = clash (ap is_board e)
+    by-date h (Ok k) q e = by-stop h k q ((view_of (table_of w)).stop n) e
 
-    by-table : (b : Bool) → is_table w ≡ b → cond b (board_on (view_of (table_of w)) (services# w) own n t u (date_of (view_of (table_of w)) day month year)) (refused 21) ≡ board es → EqualsWalks w n day month year t u es
+    by-table : (b : Bool) → is_table w ≡ b → cond b (board_on (view_of (table_of w)) (services# w) own n t u (date_of (view_of (table_of w)) day month year)) (refused NoTable) ≡ board es → EqualsWalks w n day month year t u es
     by-table true h e = by-date h (date_of (view_of (table_of w)) day month year) refl e
     by-table false h e = clash (ap is_board e)

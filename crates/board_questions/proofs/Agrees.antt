@@ -7,10 +7,13 @@ use native.Mathlib.Omega.{arith}
 use lib.ListN.{length, take, drop, length-append}
 use lib.Seq.{take_at, drop_at, get_or-take}
 use borrow.Author.Tests.{le-leb}
+use Rattle.std.specs.Prelude.{Result, Ok, Err}
+use Rattle.timetable.specs.declared.refusal.Refusal.TheVariants.{StopUnknown}
 use Rattle.timetable.specs.Layout.{header_size}
-use Rattle.timetable.specs.Questions.{Dated, undated, dated, date_of}
+use Rattle.timetable.specs.Questions.{date_of}
 use Rattle.timetable.specs.Table.{used_words, stops#, services#, used, table_of, is_table}
 use Rattle.timetable.specs.View.{View, view_of}
+use Rattle.timetable.specs.declared.refusal.Refusal.{Refusal}
 use Rattle.table.specs.JustTable.{JustTable}
 use Rattle.table.proofs.Says.{table-parts, table-says}
 use Rattle.table.proofs.JustTable.{used-just, used-same}
@@ -66,13 +69,13 @@ module _ (w x : List ℕ) (t : is_table w ≡ true) (e : x ≡ whole_index_of (u
   services = get_or-take (used_words w) w 6 0 (omega (arith, (table-says w t).used_low))
 
   module _ (n t₁ u₁ : ℕ) where
-    on_day : (d : Dated) → board_by_day (used w) (lookups_of (used w) x) (calls_part (used w) x) n t₁ u₁ d ≡ board_on (view_of (table_of w)) (services# w) true n t₁ u₁ d
-    on_day (undated number) = refl
-    on_day (dated k) =
+    on_day : (d : Result ℕ Refusal) → board_by_day (used w) (lookups_of (used w) x) (calls_part (used w) x) n t₁ u₁ d ≡ board_on (view_of (table_of w)) (services# w) true n t₁ u₁ d
+    on_day (Err refusal) = refl
+    on_day (Ok k) =
         let b : board_by (used w) (lookups_of (used w) x) (calls_part (used w) x) n k t₁ u₁ ≡ board_of (view_of (table_of w)) (services# w) n k t₁ u₁
         = own-marked (used w) (lookups_of (used w) x) (calls_part (used w) x) just front back n k t₁ u₁ ∙ ap (λ (v : View). board_of v (services# (used w)) n k t₁ u₁) (ap view_of (used-same w t)) ∙ ap (λ (s : ℕ). board_of (view_of (table_of w)) s n k t₁ u₁) services in
-        ap (λ (v : View). cond (v.stop n) (board (board_by (used w) (lookups_of (used w) x) (calls_part (used w) x) n k t₁ u₁)) (refused 27)) views
-        ∙ ap (λ es. cond ((view_of (table_of w)).stop n) (board es) (refused 27)) b
+        ap (λ (v : View). cond (v.stop n) (board (board_by (used w) (lookups_of (used w) x) (calls_part (used w) x) n k t₁ u₁)) (refused StopUnknown)) views
+        ∙ ap (λ es. cond ((view_of (table_of w)).stop n) (board es) (refused StopUnknown)) b
 
     pub quick-agrees : (day month year : ℕ) → board_quick w x n day month year t₁ u₁ ≡ board_asked w (same x (whole_index_of (used w))) n day month year t₁ u₁
     unfolding board_quick board_by_words board_asked board_in

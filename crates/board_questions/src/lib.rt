@@ -2,9 +2,8 @@
 // A refusal leaves the list as lent.
 #![tactic(auto)]
 
-ghost use Rattle.std.specs.Prelude.{◌≡◌, true, ◌<◌, length};
+ghost use Rattle.std.specs.Prelude.{◌≡◌, true, ◌<◌, length, Ok};
 ghost use Rattle.timetable.specs.Layout.{most_period_days};
-ghost use Rattle.timetable.specs.Questions.{dated};
 ghost use Rattle.table.specs.JustTable.{JustTable, header_sound};
 ghost use Rattle.table.specs.Steady.{steady};
 ghost use Rattle.index.specs.Quick.{index_long};
@@ -15,7 +14,6 @@ ghost use Rattle.board_questions.specs.Quick.{board_checked, board_by_day, board
 ghost use Rattle.board_questions.specs.Inner.Checked.{board_dated, board_on_day, own_board};
 
 use board::BoardAnswer;
-use lookups::PeriodDay;
 
 // ---- with the index checked
 
@@ -36,16 +34,15 @@ pub fn ask_board(
     ensures rows { list.new ≡ board_into
         (board_checked w.now x.now stop day month year first last) list.old }
 {
-    let seen = table::look_at(w);
-    if !seen.table {
+    let Some(is_steady) = table::look_at(w) else {
         return BoardAnswer::Refused {
             number: 21,
             needed: 0,
         };
-    }
+    };
     board_of(
         table::used_words(w),
-        seen.steady,
+        is_steady,
         &w[0..0],
         x,
         stop,
@@ -83,8 +80,11 @@ fn board_of(
 {
     let on = index::dated(w, z, day, month, year);
     match on {
-        PeriodDay::Refused(number) => BoardAnswer::Refused { number, needed: 0 },
-        PeriodDay::On(k) => board_on(w, is_steady, z, x, stop, k, first, last, list),
+        Err(refusal) => BoardAnswer::Refused {
+            number: u32::from(refusal),
+            needed: 0,
+        },
+        Ok(k) => board_on(w, is_steady, z, x, stop, k, first, last, list),
     }
 }
 
@@ -104,10 +104,10 @@ fn board_on(
     requires is_steady_value { is_steady ≡ steady w.now }
     requires k_lt_most_period_days { k < most_period_days }
     ensures answer { result ≡ boarded_by
-        (board_on_day w.now z.now x.now stop first last (dated k))
+        (board_on_day w.now z.now x.now stop first last (Ok k))
         (length list.old) }
     ensures rows { list.new ≡ board_into
-        (board_on_day w.now z.now x.now stop first last (dated k))
+        (board_on_day w.now z.now x.now stop first last (Ok k))
         list.old }
 {
     if !index::stop_known(w, z, stop) {
@@ -164,23 +164,27 @@ pub fn quick_board(
     ensures rows { list.new ≡
         board_into (board_quick w.now x.now stop day month year first last) list.old }
 {
-    let number = index::quick_refusal(w, x.len());
-    if number != 0 {
-        return BoardAnswer::Refused { number, needed: 0 };
+    match index::quick_refusal(w, x.len()) {
+        Err(refusal) => BoardAnswer::Refused {
+            number: u32::from(refusal),
+            needed: 0,
+        },
+        Ok(nothing) => {
+            let u = index::headed_words(w);
+            board_by(
+                u,
+                index::lookup_words(u, x),
+                call_words(u, x),
+                stop,
+                day,
+                month,
+                year,
+                first,
+                last,
+                list,
+            )
+        }
     }
-    let u = index::headed_words(w);
-    board_by(
-        u,
-        index::lookup_words(u, x),
-        call_words(u, x),
-        stop,
-        day,
-        month,
-        year,
-        first,
-        last,
-        list,
-    )
 }
 
 // By what words, look-ups and calls show.
@@ -206,8 +210,11 @@ fn board_by(
 {
     let on = index::dated(w, x, day, month, year);
     match on {
-        PeriodDay::Refused(number) => BoardAnswer::Refused { number, needed: 0 },
-        PeriodDay::On(k) => board_by_day(w, x, y, stop, k, first, last, list),
+        Err(refusal) => BoardAnswer::Refused {
+            number: u32::from(refusal),
+            needed: 0,
+        },
+        Ok(k) => board_by_day(w, x, y, stop, k, first, last, list),
     }
 }
 
@@ -224,10 +231,10 @@ fn board_by_day(
 ) -> BoardAnswer
     requires { Lends w.now x.now y.now × (k < most_period_days) }
     ensures answer { result ≡ boarded_by
-        (board_by_day w.now x.now y.now stop first last (dated k))
+        (board_by_day w.now x.now y.now stop first last (Ok k))
         (length list.old) }
     ensures rows { list.new ≡ board_into
-        (board_by_day w.now x.now y.now stop first last (dated k))
+        (board_by_day w.now x.now y.now stop first last (Ok k))
         list.old }
 {
     if !index::stop_known(w, x, stop) {

@@ -6,16 +6,16 @@ use Prim.Native.Nat.{ℕ, ◌+◌, ◌-◌, ◌*◌, ◌≤◌, ◌<◌}
 use native.Mathlib.Omega.{arith}
 use lib.ListN.{length, drop}
 use borrow.Author.Tests.{lt-ltb, le-ltb}
+use Rattle.std.specs.Prelude.{Ok, Err}
 use Rattle.base.proofs.Loops.{and-true}
 use Rattle.timetable.specs.Layout.{service_head, call_size, day_size}
 use Rattle.timetable.specs.Runs.{opening_sound}
 use Rattle.timetable.specs.Table.{stops#, services#, calls#, days#, day_place, rows_in, day_at, opening_at, service_at, with_stops, sizes_sound, record_sound}
 use Rattle.timetable.specs.View.{View}
-use Rattle.timetable.specs.Run.{course_on}
-use Rattle.timetable.specs.declared.Course.{Course}
+use Rattle.timetable.specs.Run.{Course, course_on}
+use Rattle.timetable.specs.declared.refusal.Refusal.TheVariants.{NotItsIndex}
 use Rattle.table.proofs.Says.{sizes-say, record-says, record-sized, call-sound}
 use Rattle.index.specs.Index.{record_place_in, record_from, record_in, service_from, view_in}
-use Rattle.index.specs.declared.ServiceRecord.TheVariants.{From, Refused}
 use Rattle.course.specs.Inner.Turn.{no_legs, ranges_say}
 use Rattle.course.specs.Inner.Rows.{shown_by}
 use Rattle.course.proofs.Laws.{on-shown}
@@ -102,7 +102,7 @@ module _ (w x : List ℕ) (n k t u i p : ℕ) where
     unfolding departures_at view_in record_in record_from
     shown-by = rw (lt-ltb i (services# w) l) (by-sound (record_sound (stops# w) (record_of w x i)) ∙ both (view_in w x) (record_of w x i) n k t u i p (stops# w))
       where
-        by-sound : (y : Bool) → found_at (view_in w x) n k t u i p (service_from w (cond y (From (record_place_in w x i)) (Refused 43))) ≡ cond y (place_departures (view_in w x) n k t u i (with_stops (view_in w x).shown (service_at (record_of w x i))) p) []
+        by-sound : (y : Bool) → found_at (view_in w x) n k t u i p (service_from w (cond y (Ok (record_place_in w x i)) (Err NotItsIndex))) ≡ cond y (place_departures (view_in w x) n k t u i (with_stops (view_in w x).shown (service_at (record_of w x i))) p) []
         by-sound true = refl
         by-sound false = refl
 

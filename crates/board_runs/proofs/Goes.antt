@@ -8,6 +8,7 @@ use native.Mathlib.Omega.{arith}
 use lib.ListN.{length, get_or, take, drop, drop_of_length-le}
 use lib.Dec.{eqb, ltb, leb}
 use borrow.Author.Tests.{not-true, not-false, le-leb, lt-leb, lt-ltb, le-ltb}
+use Rattle.std.specs.Prelude.{Result, Ok, Err, is_ok, ⊤}
 use Rattle.base.proofs.Laws.{tests, clash, by-leb, by-ltb, by_eqb}
 use Rattle.base.proofs.Loops.{and-true}
 use Rattle.timetable.specs.Layout.{service_head, call_size, day_size}
@@ -15,10 +16,10 @@ use Rattle.timetable.specs.Runs.{opening_sound}
 use Rattle.timetable.specs.Table.{rows_in, day_at, call_at, opening_at, calls#, days#, day_place, service_at, stops#, services#, call_sound, sizes_sound, record_sound}
 use Rattle.timetable.specs.declared.Call.{Call}
 use Rattle.timetable.specs.View.{View}
-use Rattle.timetable.specs.Run.{calls_refusal, course_by, stretch_course, course_on}
+use Rattle.timetable.specs.Run.{Course, runs_along, not_running, calls_refusal, course_by, stretch_course, course_on}
 use Rattle.timetable.specs.declared.Opening.{Opening}
-use Rattle.timetable.specs.declared.Course.{Course}
-use Rattle.timetable.specs.declared.Course.TheVariants.{Along, NotRunning, Refused}
+use Rattle.timetable.specs.declared.refusal.Refusal.{Refusal}
+use Rattle.timetable.specs.declared.refusal.Refusal.TheVariants.{TwoStretches}
 use Rattle.table.specs.Steady.{calls_steady}
 use Rattle.table.proofs.Says.{sizes-say, head-word, header-word, record-sized, call-sound}
 use Rattle.cover.specs.Inner.Cover.{legs_in, in_turn}
@@ -47,17 +48,17 @@ and_no false = refl
 -- ---- a stretch: from one of its calls the course goes on where no call is refused
 
 module _ (s : List ℕ) (a n p : ℕ) where
-  by-refusal : (o : Option ℕ) → a ≤ p → p < a + n → leaves (course_by o (Along a n)) p ≡ is_none o
+  by-refusal : (o : Option Refusal) → a ≤ p → p < a + n → leaves (course_by o (runs_along a n)) p ≡ is_none o
   by-refusal none h g = rw (le-leb a p h, lt-ltb p (a + n) g)
-  by-refusal (some number) h g = refl
+  by-refusal (some refusal) h g = refl
 
   along-leaves : a + n < calls# s → a ≤ p → p < a + n → leaves (stretch_course (service_at s) a n) p ≡ unrefused s a n
   unfolding stretch_course
   along-leaves b h g = rw (stretch-calls s a n b) (by-refusal (calls_refusal (service_at s) a n 0 0 (calls_from s a (n + 1))) h g)
 
-  past-refusal : (o : Option ℕ) → (leb a p && ltb p (a + n)) ≡ false → leaves (course_by o (Along a n)) p ≡ false
+  past-refusal : (o : Option Refusal) → (leb a p && ltb p (a + n)) ≡ false → leaves (course_by o (runs_along a n)) p ≡ false
   past-refusal none e = e
-  past-refusal (some number) e = refl
+  past-refusal (some refusal) e = refl
 
   off-leaves : (leb a p && ltb p (a + n)) ≡ false → leaves (stretch_course (service_at s) a n) p ≡ false
   unfolding stretch_course
@@ -70,9 +71,9 @@ module _ (stops : ℕ) (s : List ℕ) (a b c p : ℕ) where
   off-any : leaves (stretch_course (service_at s) a (b - a)) p ≡ false → leaves (stretches_course (service_at s) (calls# s - 1) a b c) p ≡ false
   unfolding stretches_course
   off-any e =
-      by-leb (λ (t : Bool). leaves (cond t NotRunning (cond (ltb c (calls# s - 1)) (Refused 35) (stretch_course (service_at s) a (b - a)))) p ≡ false) (calls# s - 1) a
+      by-leb (λ (t : Bool). leaves (cond t not_running (cond (ltb c (calls# s - 1)) (Err TwoStretches) (stretch_course (service_at s) a (b - a)))) p ≡ false) (calls# s - 1) a
       (λ h. refl)
-      (λ h. by-ltb (λ (t : Bool). leaves (cond t (Refused 35) (stretch_course (service_at s) a (b - a))) p ≡ false) c (calls# s - 1) (λ g. refl) (λ g. e))
+      (λ h. by-ltb (λ (t : Bool). leaves (cond t (Err TwoStretches) (stretch_course (service_at s) a (b - a))) p ≡ false) c (calls# s - 1) (λ g. refl) (λ g. e))
 
   before : p < a → goes_along stops s a b c p ≡ false
   before h = ap (λ (t : Bool). record_sound stops s && t) (off-any (off-leaves s a (b - a) p (rw (lt-leb a p h)))) ∙ sym (and_no (record_sound stops s))
@@ -157,16 +158,18 @@ stands_at stops p s c r q e = e ∙ ap (call_sound stops) q
 
 pub ruleset one-call = (tests, stands_at)
 
--- ---- call by call; t says whether the record is sound, `number` what a call is refused for
+-- ---- call by call; t says whether the record is sound, o what a call is refused for
 
 module _ (stops : ℕ) (s : List ℕ) (t : Bool) (e : t ≡ record_sound stops s) where
   pub stands-no : (x : Bool) → not t ≡ true → false ≡ (record_sound stops s && x)
   stands-no x h = sym (ap (λ (b : Bool). b && x) (sym e ∙ not-true t h))
 
-  pub stands_by : (a n number : ℕ) → not t ≡ false → noted number ≡ calls_refusal (service_at s) a n 0 0 (calls_from s a (n + 1)) → eqb number 0 ≡ (record_sound stops s && unrefused s a n)
-  stands_by a n number h q =
-      by_eqb (λ (b : Bool). b ≡ is_none (cond b none (some number))) number 0 (λ z. refl) (λ z. refl)
-      ∙ ap is_none q ∙ sym (ap (λ (b : Bool). b && unrefused s a n) (sym e ∙ not-false t h))
+  pub stands_by : (a n : ℕ) (o : Result ⊤ Refusal) → not t ≡ false → noted o ≡ calls_refusal (service_at s) a n 0 0 (calls_from s a (n + 1)) → (x : Bool) → x ≡ is_ok o → x ≡ (record_sound stops s && unrefused s a n)
+  stands_by a n o h q x f = f ∙ fine o ∙ ap is_none q ∙ sym (ap (λ (b : Bool). b && unrefused s a n) (sym e ∙ not-false t h))
+    where
+      fine : (o : Result ⊤ Refusal) → is_ok o ≡ is_none (noted o)
+      fine (Ok u) = refl
+      fine (Err refusal) = refl
 
   pub slowly-by : (v : View) (k p : ℕ) (c : Course) (r : Bool) → not t ≡ false → c ≡ course_on v (service_at s) k → r ≡ leaves c p → r ≡ goes_from v stops s k p
   slowly-by v k p c r h q f = f ∙ ap (λ (x : Course). leaves x p) q ∙ sym (ap (λ (b : Bool). b && leaves (course_on v (service_at s) k) p) (sym e ∙ not-false t h))
@@ -181,30 +184,30 @@ pub ruleset slowly = (tests, stops-word, stands-no, stands_by, slowly-by, slowly
 
 -- ---- by the operating-day ranges, which begin u; t says whether they follow each other, l what they say of day k
 
-module _ (v : View) (stops : ℕ) (s u : List ℕ) (k p : ℕ) (t : Bool) (l : DayLegs) (o : Opened s) (q : u ≡ drop (day_place s) s) (e : t ≡ in_turn 0 (calls# s - 1) (legs_in day_size (days# s) u)) (h : not t ≡ false) (f : l ≡ ranges_say v k no_legs (rows_in day_at day_size (days# s) u)) where
-  trusted-by : (l.known && left_on (calls# s - 1) l.start l.end l.again p && call_stands stops s p) ≡ trusted v stops s k p
+module _ (v : View) (stops : ℕ) (s u : List ℕ) (k p : ℕ) (t : Bool) (y : Result DayLegs Refusal) (o : Opened s) (q : u ≡ drop (day_place s) s) (e : t ≡ in_turn 0 (calls# s - 1) (legs_in day_size (days# s) u)) (h : not t ≡ false) (f : y ≡ ranges_say v k no_legs (rows_in day_at day_size (days# s) u)) where
+  trusted-by : (says_left y (calls# s - 1) p && call_stands stops s p) ≡ trusted v stops s k p
   unfolding trusted
-  trusted-by = ap (λ (m : DayLegs). says_left m (calls# s - 1) p && call_stands stops s p) (f ∙ ap (λ (r : List ℕ). ranges_say v k no_legs (rows_in day_at day_size (days# s) r)) q)
+  trusted-by = ap (λ (m : Result DayLegs Refusal). says_left m (calls# s - 1) p && call_stands stops s p) (f ∙ ap (λ (r : List ℕ). ranges_say v k no_legs (rows_in day_at day_size (days# s) r)) q)
 
-  pub goes-31 : (m : Bool) → not l.known ≡ true → false ≡ goes_in m v stops s k p
-  goes-31 m n = go (m && followed s)
+  pub goes-31 : (m : Bool) (refusal : Refusal) → y ≡ Err refusal → false ≡ goes_in m v stops s k p
+  goes-31 m refusal n = go (m && followed s)
     where
       go : (x : Bool) → false ≡ cond x (trusted v stops s k p) (goes_from v stops s k p)
-      go true = sym (ap (λ (y : Bool). (y && left_on (calls# s - 1) l.start l.end l.again p) && call_stands stops s p) (not-true l.known n)) ∙ trusted-by
-      go false = and_no (record_sound stops s) ∙ ap (λ (x : Course). record_sound stops s && leaves x p) (turn-31 v s u k t l q e h f n)
+      go true = sym (ap (λ (z : Result DayLegs Refusal). says_left z (calls# s - 1) p && call_stands stops s p) n) ∙ trusted-by
+      go false = and_no (record_sound stops s) ∙ ap (λ (x : Course). record_sound stops s && leaves x p) (turn-31 v s u k t y q e h f refusal n)
 
-  module _ (n : not l.known ≡ false) where
+  module _ (l : DayLegs) (n : y ≡ Ok l) where
     pub goes_order : l.start ≤ l.end
-    goes_order = turn-order v s u k t l q e h f n
+    goes_order = turn-order v s u k t y q e h f l n
 
     pub goes-within : l.end ≤ calls# s - 1
-    goes-within = turn-within v s u k t l q e h f n
+    goes-within = turn-within v s u k t y q e h f l n
 
     along-is : goes_along stops s l.start l.end l.again p ≡ goes_from v stops s k p
-    along-is = ap (λ (x : Course). record_sound stops s && leaves x p) (turn-day v s u k t l q e h f n (stretches_course (service_at s) (calls# s - 1) l.start l.end l.again) refl)
+    along-is = ap (λ (x : Course). record_sound stops s && leaves x p) (turn-day v s u k t y q e h f l n (stretches_course (service_at s) (calls# s - 1) l.start l.end l.again) refl)
 
     left_is : (left_on (calls# s - 1) l.start l.end l.again p && call_stands stops s p) ≡ trusted v stops s k p
-    left_is = sym (ap (λ (y : Bool). (y && left_on (calls# s - 1) l.start l.end l.again p) && call_stands stops s p) (not-false l.known n)) ∙ trusted-by
+    left_is = sym (ap (λ (z : Result DayLegs Refusal). says_left z (calls# s - 1) p && call_stands stops s p) n) ∙ trusted-by
 
     pub goes_by : (m r : Bool) → r ≡ along_in m stops s l.start l.end l.again p → r ≡ goes_in m v stops s k p
     goes_by m r g = g ∙ (λ j. cond (m && followed s) (left_is j) (along-is j))
@@ -293,7 +296,7 @@ module _ (stops : ℕ) (s : List ℕ) (y : followed s ≡ true) (z : calls_stead
       (λ h. sym (before stops s a b c p h))
 
   module _ (v : View) (k p : ℕ) where
-    abbrev day : DayLegs
+    abbrev day : Result DayLegs Refusal
     day = ranges_say v k no_legs (rows_in day_at day_size (days# s) (drop (day_place s) s))
 
     turns : true ≡ in_turn 0 (calls# s - 1) (legs_in day_size (days# s) (drop (day_place s) s))
@@ -303,20 +306,18 @@ module _ (stops : ℕ) (s : List ℕ) (y : followed s ≡ true) (z : calls_stead
     opened = (followed-days s y).opened
 
     steady-goes : trusted v stops s k p ≡ goes_from v stops s k p
-    steady-goes = go day.known refl
+    steady-goes = go day refl
       where
-        go : (b : Bool) → day.known ≡ b → trusted v stops s k p ≡ goes_from v stops s k p
-        go true d =
-            let n : not day.known ≡ false = ap not d in
+        go : (b : Result DayLegs Refusal) → day ≡ b → trusted v stops s k p ≡ goes_from v stops s k p
+        go (Ok l) n =
             let u : List ℕ = drop (day_place s) s in
-            sym (left_is v stops s u k p true day opened refl turns refl refl n)
-            ∙ steady-along day.start day.end day.again p (goes_order v stops s u k p true day opened refl turns refl refl n) (goes-within v stops s u k p true day opened refl turns refl refl n)
-            ∙ along-is v stops s u k p true day opened refl turns refl refl n
-        go false d =
-            let n : not day.known ≡ true = ap not d in
+            sym (left_is v stops s u k p true day opened refl turns refl refl l n)
+            ∙ steady-along l.start l.end l.again p (goes_order v stops s u k p true day opened refl turns refl refl l n) (goes-within v stops s u k p true day opened refl turns refl refl l n)
+            ∙ along-is v stops s u k p true day opened refl turns refl refl l n
+        go (Err refusal) n =
             let u : List ℕ = drop (day_place s) s in
-            let t : false ≡ cond (followed s) (trusted v stops s k p) (goes_from v stops s k p) = goes-31 v stops s u k p true day opened refl turns refl refl true n in
-            sym (rw y at t) ∙ goes-31 v stops s u k p true day opened refl turns refl refl false n
+            let t : false ≡ cond (followed s) (trusted v stops s k p) (goes_from v stops s k p) = goes-31 v stops s u k p true day opened refl turns refl refl true refusal n in
+            sym (rw y at t) ∙ goes-31 v stops s u k p true day opened refl turns refl refl false refusal n
 
 -- of words and an index whose records pass where they are marked so
 pub steady-same : (m : Bool) (w x : List ℕ) (n k t u i p : ℕ) → (m ≡ true → i < services# w → calls_steady (stops# w) (record_of w x i) ≡ true) → departures_in m w x n k t u i p ≡ departures_at (view_in w x) n k t u i p

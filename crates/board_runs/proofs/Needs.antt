@@ -10,17 +10,19 @@ use lib.ListN.{length, get_or, get_elem?, drop}
 use lib.Seq.{drop-drop}
 use lib.Dec.{eqb, leb, ltb}
 use borrow.Author.Tests.{eq-eqb, ne_eqb, lt-ltb, le-ltb, le-leb, lt-leb, not-true, not-false}
+use Rattle.std.specs.Prelude.{Some, Ok, Err}
 use Rattle.base.specs.Lists.{gathered, upto}
 use Rattle.base.proofs.Laws.{tests, by-ltb}
 use Rattle.base.proofs.Loops.{upto_next, upto-none}
+use Rattle.timetable.specs.Run.{Course, not_running}
 use Rattle.timetable.specs.Layout.{service_head, call_size, latest_time, most_delay}
 use Rattle.timetable.specs.Runs.{has_run, lateness, opening_sound}
 use Rattle.timetable.specs.Table.{calls#, rows_in, call_at, opening_at, service_at, with_stop, with_stops}
 use Rattle.timetable.specs.View.{View}
 use Rattle.timetable.specs.declared.Call.{Call}
 use Rattle.timetable.specs.declared.Opening.{Opening}
-use Rattle.timetable.specs.declared.Course.{Course}
-use Rattle.timetable.specs.declared.Course.TheVariants.{Along, NotRunning, Refused}
+use Rattle.timetable.specs.declared.Along.{Along}
+use Rattle.timetable.specs.declared.refusal.Refusal.{Refusal}
 use Rattle.table.proofs.Says.{sizes-say, call-says}
 use Rattle.words.specs.Words.{write}
 use Rattle.words.proofs.Laws.{write-none, write-turn, length-write}
@@ -58,14 +60,14 @@ module _ (a m p : ℕ) where
   pub left_along : a ≤ p → ltb (p - a) m ≡ (leb a p && ltb p (a + m))
   left_along h = rw (le-leb a p h) (by-ltb (λ t. t ≡ ltb p (a + m)) (p - a) m (λ q. sym (lt-ltb p (a + m) (omega arith))) (λ q. sym (le-ltb p (a + m) (omega arith))))
 
-  pub goes-along : (c : Course) (r : Bool) → c ≡ Along a m → r ≡ (leb a p && ltb p (a + m)) → r ≡ leaves c p
-  goes-along c r e q = q ∙ rw e
+pub goes-along : (p : ℕ) (c : Course) (x : Along) (r : Bool) → c ≡ Ok (Some x) → r ≡ (leb x.start p && ltb p (x.start + x.legs)) → r ≡ leaves c p
+goes-along p c x r e q = q ∙ rw e
 
-pub goes-idle : (p : ℕ) (c : Course) → c ≡ NotRunning → false ≡ leaves c p
+pub goes-idle : (p : ℕ) (c : Course) → c ≡ not_running → false ≡ leaves c p
 goes-idle p c e = rw e
 
-pub goes-refused : (p number : ℕ) (c : Course) → c ≡ Refused number → false ≡ leaves c p
-goes-refused p number c e = rw e
+pub goes-refused : (p : ℕ) (refusal : Refusal) (c : Course) → c ≡ Err refusal → false ≡ leaves c p
+goes-refused p refusal c e = rw e
 
 pub ruleset courses = (tests, left-early, left_along, goes-along, goes-idle, goes-refused)
 

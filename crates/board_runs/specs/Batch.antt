@@ -1,11 +1,13 @@
 -- The departures from one call of one service, found without trying each run. Assumes nothing.
-use Rattle.std.specs.Prelude.{ℕ, ◌+◌, ◌-◌, ◌*◌, ◌≤◌, ◌<◌, ◌≡◌, List, [], map, Bool, true, false, cond, ◌&&◌, length, get_or, drop, ltb, leb, eqb}
+use Rattle.std.specs.Prelude.{ℕ, ◌+◌, ◌-◌, ◌*◌, ◌≤◌, ◌<◌, ◌≡◌, List, [], map, Bool, true, false, cond, ◌&&◌, length, get_or, drop, ltb, leb, eqb, Result, Ok, Err}
 use Rattle.std.proofs.Math.ListN.{get_elem?}
 use Rattle.base.specs.Lists.{upto}
+use Rattle.timetable.specs.Delivery.{Service}
 use Rattle.timetable.specs.Layout.{service_head, call_size, category_size, day_size, latest_time}
 use Rattle.timetable.specs.Runs.{opening_sound}
 use Rattle.timetable.specs.Table.{stops#, services#, calls#, categories#, days#, category_place, day_place, rows_in, day_at, call_at, opening_at, service_at, with_stops, call_sound, sizes_sound}
-use Rattle.timetable.specs.View.{View, ServiceFound, no_service, a_service}
+use Rattle.timetable.specs.View.{View}
+use Rattle.timetable.specs.declared.refusal.Refusal.{Refusal}
 use Rattle.table.specs.JustTable.{extras_sound}
 use Rattle.cover.specs.Inner.Cover.{legs_in, in_turn}
 use Rattle.index.specs.Index.{services_from, index_size, record_place_in, view_in}
@@ -17,9 +19,9 @@ use Rattle.board.specs.Board.{Departure, departure_of, runs_from, call_departure
 use Rattle.board_runs.specs.declared.Batch.{Batch}
 
 -- the departures from place p of the i-th service of a view
-abbrev pub found_at : View → ℕ → ℕ → ℕ → ℕ → ℕ → ℕ → ServiceFound → List Departure
-found_at v n k t u i p (no_service number) = []
-found_at v n k t u i p (a_service s) = place_departures v n k t u i s p
+abbrev pub found_at : View → ℕ → ℕ → ℕ → ℕ → ℕ → ℕ → Result Service Refusal → List Departure
+found_at v n k t u i p (Err refusal) = []
+found_at v n k t u i p (Ok s) = place_departures v n k t u i s p
 
 unfoldable pub departures_at : View → ℕ → ℕ → ℕ → ℕ → ℕ → ℕ → List Departure
 departures_at v n k t u i p = found_at v n k t u i p (v.service i)
@@ -47,8 +49,9 @@ abbrev pub call_stands : ℕ → List ℕ → ℕ → Bool
 call_stands stops s p = call_sound stops (call_at (drop (service_head + call_size * p) s))
 
 -- what the ranges alone say of a day: they are known, and place p is left
-abbrev pub says_left : DayLegs → ℕ → ℕ → Bool
-says_left l legs p = l.known && left_on legs l.start l.end l.again p
+abbrev pub says_left : Result DayLegs Refusal → ℕ → ℕ → Bool
+says_left (Ok l) legs p = left_on legs l.start l.end l.again p
+says_left (Err refusal) legs p = false
 
 -- so they say of day k, and the call at place p is sound
 unfoldable pub trusted : View → ℕ → List ℕ → ℕ → ℕ → Bool

@@ -2,8 +2,8 @@
 // `w` are words with a sound header, `x` an index of look-ups, or none.
 #![tactic(auto)]
 
-ghost use Rattle.std.specs.Prelude.{◌≡◌, [], map, true, ◌&&◌, ◌+◌, ◌-◌, ◌*◌, ◌≤◌, ◌<◌, length, drop, eqb, leb, ltb};
-ghost use Rattle.base.specs.Lists.{gathered, upto};
+ghost use Rattle.std.specs.Prelude.{◌≡◌, [], true, ◌&&◌, ◌+◌, ◌-◌, ◌*◌, ◌≤◌, ◌<◌, length, drop, eqb, leb, ltb};
+ghost use Rattle.base.specs.Lists.{gathered};
 ghost use Rattle.timetable.specs.Layout.{most_period_days, service_head, call_size, latest_time};
 ghost use Rattle.timetable.specs.Runs.{opening_sound};
 ghost use Rattle.timetable.specs.Table.{stops#, calls#, call_at, opening_at, sizes_sound};
@@ -22,8 +22,8 @@ ghost use Rattle.board_runs.specs.Inner.Goes.{Opened, DaysInTurn, CallReady};
 use course::{legs, rows};
 use sort::ROW_WORDS;
 use timetable::{
-    CALL_WORDS, CALLS_AT, CATEGORIES_AT, CATEGORY_WORDS, Call, Course, DAYS_AT, DAYS_WORDS,
-    NO_BOARDING, Opening, REPEATS_AT, SERVICE_WORDS, STOPS_AT,
+    Along, CALL_WORDS, CALLS_AT, CATEGORIES_AT, CATEGORY_WORDS, Call, DAYS_AT, DAYS_WORDS,
+    NO_BOARDING, Opening, REPEATS_AT, Refusal, SERVICE_WORDS, STOPS_AT,
 };
 
 // Departures from one place of a service's route: of the runs from `low` on and below `high`, where run 0 leaves at `departure`.
@@ -208,11 +208,10 @@ fn goes_from(w: &[u32], x: &[u32], s: &[u32], steady: bool, k: u32, p: u32) -> b
     if !cover::in_turn(v, n, DAYS_WORDS, s[CALLS_AT] - 1) {
         return goes_slowly(w, x, s, k, p);
     }
-    let day = legs::day_legs(w, x, v, n, k);
-    if !day.known {
-        return false;
+    match legs::day_legs(w, x, v, n, k) {
+        Ok(day) => goes_along(s, w[STOPS_AT], steady, day.start, day.end, day.again, p),
+        Err(refusal) => false,
     }
-    goes_along(s, w[STOPS_AT], steady, day.start, day.end, day.again, p)
 }
 
 // Whatever its ranges.
@@ -268,7 +267,7 @@ fn stands(s: &[u32], stops: u32, start: u32, legs: u32) -> bool
     if !table::record_sound(s, stops) {
         return false;
     }
-    rows::calls_refusal(s, start, legs) == 0
+    rows::calls_refusal(s, start, legs).is_ok()
 }
 
 // ---- whether the ranges of a record follow each other, as nearly always they do
@@ -286,13 +285,13 @@ fn ranges_follow(s: &[u32]) -> bool
 }
 
 // Whether a course goes on from place p of the route.
-fn goes_on(course: Course, p: u32) -> bool
+fn goes_on(course: Result<Option<Along>, Refusal>, p: u32) -> bool
     ensures { result ≡ leaves course p }
 {
     match course {
-        Course::Along { start, legs } => is_left(start, legs, p),
-        Course::NotRunning => false,
-        Course::Refused(number) => false,
+        Ok(Some(along)) => is_left(along.start, along.legs, p),
+        Ok(None) => false,
+        Err(refusal) => false,
     }
 }
 
@@ -418,53 +417,22 @@ pub fn put_batch(list: &mut [u32], at: usize, b: Batch) -> usize
     ensures end { result ≡ at + board_row_size * (b.high - b.low) }
     ensures words { list.new ≡ write list.old at (gathered board_row_words (batch_rows b)) }
 {
-    put_rows(
-        list,
-        at,
-        b.service,
-        b.opening,
-        b.place,
-        b.departure,
-        b.low,
-        b.high,
-    )
-}
-
-fn put_rows(
-    list: &mut [u32],
-    at: usize,
-    i: u32,
-    opening: Opening,
-    p: u32,
-    departure: u32,
-    low: u32,
-    high: u32,
-) -> usize
-    requires opening_value { opening_sound opening ≡ true }
-    requires high_bound { (high ≤ runs# opening) × (departure ≤ latest_time) }
-    requires low_in_bounds { at + board_row_size * (high - low) ≤ length list.old }
-    ensures end { result ≡ at + board_row_size * (high - low) }
-    ensures words { list.new ≡ write list.old at
-        (gathered board_row_words (map (departure_of i opening p departure) (upto (high - low) low))) }
-{
     let mut to = at;
-    let mut r = low;
-    while r < high {
-        put_row(list, to, i, opening, p, departure, r);
+    for r in b.low..b.high {
+        put_row(list, to, b, r);
         to += ROW_WORDS;
-        r += 1;
     }
     to
 }
 
-// Writes the row of run r.
-fn put_row(list: &mut [u32], to: usize, i: u32, opening: Opening, p: u32, departure: u32, r: u32)
-    requires opening_value { opening_sound opening ≡ true }
-    requires r_bound { (r < runs# opening) × (departure ≤ latest_time) }
+// Writes the row of run r of a batch.
+fn put_row(list: &mut [u32], to: usize, b: Batch, r: u32)
+    requires opening_value { opening_sound b.opening ≡ true }
+    requires r_bound { (r < runs# b.opening) × (b.departure ≤ latest_time) }
     requires board_row_size_in_bounds { to + board_row_size ≤ length list.old }
-    ensures { list.new ≡
-        write list.old to (board_row_words (departure_of i opening p departure r)) }
+    ensures { list.new ≡ write list.old to
+        (board_row_words (departure_of b.service b.opening b.place b.departure r)) }
 {
-    let time = departure + runs::lateness(opening, r);
-    words::put4(list, to, time, i, r, p);
+    let time = b.departure + runs::lateness(b.opening, r);
+    words::put(list, to, [time, b.service, r, b.place]);
 }

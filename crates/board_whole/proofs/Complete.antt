@@ -9,17 +9,19 @@ use native.Mathlib.Omega.{arith}
 use lib.ListN.{length, get_elem?}
 use lib.Seq.{get_or-take}
 use borrow.Author.Tests.{le-leb, lt-ltb}
+use Rattle.std.specs.Prelude.{Result, Ok, Err}
 use Rattle.base.proofs.Laws.{clash}
 use Rattle.calendar.specs.Calendar.{day_of}
-use Rattle.calendar.specs.declared.Date.TheVariants.{Day}
+use Rattle.std.specs.Prelude.{Some}
 use Rattle.timetable.specs.Delivery.{Files, Service}
 use Rattle.timetable.specs.Load.{loaded, written, delivered}
 use Rattle.timetable.specs.Runs.{has_run}
 use Rattle.timetable.specs.Table.{used_words, services#, used, table_of, is_table}
-use Rattle.timetable.specs.View.{ServiceFound, no_service, a_service, service_by, view_of}
+use Rattle.timetable.specs.View.{service_by, view_of}
 use Rattle.timetable.specs.Run.{no_run, run_of}
-use Rattle.timetable.specs.Questions.{Dated, dated, date_of, dated_run, refused, rows_along, journey, walk_of}
+use Rattle.timetable.specs.Questions.{date_of, dated_run, refused, rows_along, journey, walk_of}
 use Rattle.timetable.specs.declared.Loaded.TheVariants.{Accepted}
+use Rattle.timetable.specs.declared.refusal.Refusal.{Refusal}
 use Rattle.table.proofs.Says.{table-says}
 use Rattle.table.proofs.JustTable.{used-just, used-same}
 use Rattle.index.specs.Index.{view_in}
@@ -37,15 +39,15 @@ table-served w t =
     let s : services# (used w) ≡ services# w = get_or-take (used_words w) w 6 0 (omega (arith, (table-says w t).used_low)) in
     rw (e, s) at (served-shown (used w) [])
 
-is_service : ServiceFound → Bool
-is_service (no_service number) = false
-is_service (a_service s) = true
+is_service : Result Service Refusal → Bool
+is_service (Err refusal) = false
+is_service (Ok s) = true
 
-service_or : Service → ServiceFound → Service
-service_or d (no_service number) = d
-service_or d (a_service s) = s
+service_or : Service → Result Service Refusal → Service
+service_or d (Err refusal) = d
+service_or d (Ok s) = s
 
-found_some : (o : Option Service) (s : Service) → service_by o ≡ a_service s → o ≡ some s
+found_some : (o : Option Service) (s : Service) → service_by o ≡ Ok s → o ≡ some s
 unfolding is_service service_or
 found_some none s e = clash (ap is_service e)
 found_some (some x) s e = ap some (ap (service_or s) e)
@@ -54,22 +56,22 @@ module _ (f : Files) (t : List ℕ) (helper u : ℕ) (e : loaded f (length t) he
   abbrev w : List ℕ
   w = written f t helper
 
-  module _ (d m y day : ℕ) (q : day_of d m y ≡ Day day) (from : (delivered f).period.start ≤ day) (until : day < (delivered f).period.start + (delivered f).period.n) where
+  module _ (d m y day : ℕ) (q : day_of d m y ≡ Some day) (from : (delivered f).period.start ≤ day) (until : day < (delivered f).period.start + (delivered f).period.n) where
     abbrev k : ℕ
     k = day - (delivered f).period.start
 
-    on_day : date_of (view_of (delivered f)) d m y ≡ dated (day - (delivered f).period.start)
+    on_day : date_of (view_of (delivered f)) d m y ≡ Ok (day - (delivered f).period.start)
     on_day = rw (q, le-leb (delivered f).period.start day from, lt-ltb day ((delivered f).period.start + (delivered f).period.n) until)
 
-    walk_is : (i r number : ℕ) → run_of (view_of (delivered f)) i r (day - (delivered f).period.start) ≡ no_run number → walk_of (written f t helper) i r d m y ≡ refused number
+    walk_is : (i r : ℕ) (refusal : Refusal) → run_of (view_of (delivered f)) i r (day - (delivered f).period.start) ≡ no_run refusal → walk_of (written f t helper) i r d m y ≡ refused refusal
     unfolding walk_of journey
-    walk_is i r number g =
+    walk_is i r refusal g =
         rw (table_is f t helper u e, table-holds f t helper u e)
-        (ap (λ (x : Dated). rows_along (view_of (delivered f)) (dated_run (view_of (delivered f)) i r x)) on_day ∙ ap (rows_along (view_of (delivered f))) g)
+        (ap (λ (x : Result ℕ Refusal). rows_along (view_of (delivered f)) (dated_run (view_of (delivered f)) i r x)) on_day ∙ ap (rows_along (view_of (delivered f))) g)
 
-    never : (i r : ℕ) (s : Service) → (view_of (delivered f)).service i ≡ a_service s → has_run s.opening r ≡ true → (number : ℕ) → run_of (view_of (delivered f)) i r (day - (delivered f).period.start) ≡ no_run number → ⊥
-    never i r s g h number b =
-        (demand3 f t helper u e i r d m y day s (record { service = found_some (get_elem? (delivered f).services i) s g; repeat = h; date = q; from = from; until = until })).never_refused number (walk_is i r number b)
+    never : (i r : ℕ) (s : Service) → (view_of (delivered f)).service i ≡ Ok s → has_run s.opening r ≡ true → (refusal : Refusal) → run_of (view_of (delivered f)) i r (day - (delivered f).period.start) ≡ no_run refusal → ⊥
+    never i r s g h refusal b =
+        (demand3 f t helper u e i r d m y day s (record { service = found_some (get_elem? (delivered f).services i) s g; repeat = h; date = q; from = from; until = until })).never_refused refusal (walk_is i r refusal b)
 
     served : Served (view_of (delivered f)) (services# (written f t helper))
     served =

@@ -6,6 +6,7 @@ use Prim.Native.Nat.{ℕ, ◌+◌, ◌-◌, ◌*◌, ◌≤◌}
 use native.Mathlib.Nat.{mul-suc}
 use native.Mathlib.Omega.{arith}
 use lib.ListN.{length, drop, length-append}
+use Rattle.std.specs.Prelude.{Result, Ok, Err}
 use Rattle.base.specs.Lists.{gathered}
 use Rattle.base.proofs.Lists.{length-map-upto}
 use Rattle.base.proofs.Laws.{clash, by-ltb}
@@ -13,12 +14,10 @@ use Rattle.timetable.specs.Delivery.{Service}
 use Rattle.timetable.specs.Layout.{service_head, call_size}
 use Rattle.timetable.specs.Runs.{opening_sound}
 use Rattle.timetable.specs.Table.{stops#, services#, call_at, opening_at, service_at, with_stops}
-use Rattle.timetable.specs.View.{ServiceFound, no_service, a_service}
 use Rattle.timetable.specs.declared.Opening.{Opening}
+use Rattle.timetable.specs.declared.refusal.Refusal.{Refusal}
 use Rattle.table.proofs.Says.{record-says}
 use Rattle.index.specs.Index.{record_place_in, record_in, view_in}
-use Rattle.index.specs.declared.ServiceRecord.{ServiceRecord}
-use Rattle.index.specs.declared.ServiceRecord.TheVariants.{From, Refused}
 use Rattle.index.proofs.Records.{record-refused, record-service, record-sound}
 use Rattle.spans.specs.Spans.{most_runs, first_run, end_run}
 use Rattle.spans.proofs.Meaning.{end-few}
@@ -29,24 +28,24 @@ use Rattle.board_runs.proofs.Given.{none-past}
 use Rattle.board_runs.proofs.Quiet.{record-few}
 
 -- every service that words and an index show has an opening line as a table has it
-pub opening-shown : (w x : List ℕ) (i : ℕ) (s : Service) → (view_in w x).service i ≡ a_service s → opening_sound s.opening ≡ true
+pub opening-shown : (w x : List ℕ) (i : ℕ) (s : Service) → (view_in w x).service i ≡ Ok s → opening_sound s.opening ≡ true
 unfolding service_at
 opening-shown w x i s e = go (record_in w x i) refl
   where
-    is_service : ServiceFound → Bool
-    is_service (no_service number) = false
-    is_service (a_service s) = true
+    is_service : Result Service Refusal → Bool
+    is_service (Err refusal) = false
+    is_service (Ok s) = true
 
-    service_or : Service → ServiceFound → Service
-    service_or d (no_service number) = d
-    service_or d (a_service s) = s
+    service_or : Service → Result Service Refusal → Service
+    service_or d (Err refusal) = d
+    service_or d (Ok s) = s
 
-    go : (r : ServiceRecord) → r ≡ record_in w x i → opening_sound s.opening ≡ true
-    go (Refused number) q = clash (ap is_service (sym (record-refused w x i (Refused number) q number refl) ∙ e))
-    go (From p) q =
-        let f = record-service w x i (From p) q p refl (drop p w) refl in
+    go : (r : Result ℕ Refusal) → r ≡ record_in w x i → opening_sound s.opening ≡ true
+    go (Err refusal) q = clash (ap is_service (sym (record-refused w x i (Err refusal) q refusal refl) ∙ e))
+    go (Ok p) q =
+        let f = record-service w x i (Ok p) q p refl (drop p w) refl in
         let z : with_stops (view_in w x).shown (service_at (drop p w)) ≡ s = ap (service_or s) (sym f ∙ e) in
-        rw (← z) (record-says (stops# w) (drop p w) (record-sound w x i (From p) q p refl (drop p w) refl)).1.opening
+        rw (← z) (record-says (stops# w) (drop p w) (record-sound w x i (Ok p) q p refl (drop p w) refl)).1.opening
 
 runs-few : (t u i : ℕ) (o : Opening) (p d : ℕ) → opening_sound o ≡ true → length (runs_from t u i o p d) ≤ most_runs
 runs-few t u i o p d s =

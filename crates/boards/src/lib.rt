@@ -200,6 +200,7 @@ fn keep_from(
     ensures { KeptFrom w.now x.now y.now end s from n first last start rows
         kept.new result }
 {
+    // Kept: from call to call along the chains, which end where they stand.
     let mut c = start;
     let mut left = rows;
     let mut m: usize = 0;
@@ -242,6 +243,7 @@ fn next_loud(
     ensures { Behind w.now x.now y.now end s from n first last
         (record { call = call; stop = stop; left = left }) result }
 {
+    // Kept: from call to call along the chains.
     let mut c = stop_calls::next_call(w, x, y, end, s, from, n, call, stop, left);
     while c.call != 0 {
         if !gives_none(w, x, y, s, places, first, last, c.call) {
@@ -284,6 +286,7 @@ fn most_of(
 }
 
 // Whether call e is told to give no departure, before its record is checked.
+// Kept: beside `most_of`, which asks another thing of the same two words.
 fn gives_none(
     w: &[u32],
     x: &[u32],
@@ -340,6 +343,7 @@ fn count_from(
     ensures { result ≡
         length (left_departures w.now x.now y.now end s from n k first last start) }
 {
+    // Kept: from call to call along the chains.
     let mut c = start;
     let mut total: usize = 0;
     while c.call != 0 {
@@ -461,6 +465,7 @@ fn put_from(
         (gathered board_row_words (left_departures w.now x.now y.now end s from n k first
         last start)) }
 {
+    // Kept: from call to call along the chains.
     let mut c = start;
     let mut to: usize = 0;
     while c.call != 0 {
@@ -498,34 +503,6 @@ fn put_call(
     if gives_none(w, x, y, s, places, first, last, e) {
         return to;
     }
-    put_rows(w, x, y, s, places, n, k, first, last, e, list, to)
-}
-
-// The same, where its record is checked.
-fn put_rows(
-    w: &[u32],
-    x: &[u32],
-    y: &[u32],
-    s: u32,
-    places: usize,
-    n: u32,
-    k: u32,
-    first: u32,
-    last: u32,
-    e: u32,
-    list: &mut [u32],
-    to: usize,
-) -> usize
-    requires shelved { Shelved w.now x.now places × (k < most_period_days) }
-    requires s_in_bounds { (s ≤ length y.now) × (0 < e) × (e ≤ entries# s y.now) }
-    requires e_in_bounds { to + board_row_size * length (entry_departures w.now x.now s y.now n k first last e) ≤
-        length list.old }
-    ensures end { result ≡ to + board_row_size * length
-        (entry_departures w.now x.now s y.now n k first last e) }
-    ensures words { list.new ≡ write list.old to
-        (gathered board_row_words (entry_departures w.now x.now s y.now n k first
-        last e)) }
-{
     let b = call_batch(w, x, y, s, places, n, k, first, last, e);
     board_runs::put_batch(list, to, b)
 }
@@ -555,11 +532,9 @@ fn put_kept(
 {
     let s = w[STOPS_AT];
     let places = index::services_from(w);
-    let mut j: usize = 0;
     let mut to: usize = 0;
-    while j < m {
-        to = put_rows(w, x, y, s, places, n, k, first, last, kept[j], list, to);
-        j += 1;
+    for j in 0..m {
+        to = put_call(w, x, y, s, places, n, k, first, last, kept[j], list, to);
     }
     to / ROW_WORDS
 }

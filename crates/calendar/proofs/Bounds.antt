@@ -10,10 +10,7 @@ use borrow.Author.Tests.{ltb-false, leb-true}
 use Rattle.base.proofs.Laws.{apart}
 use Rattle.columns.specs.Columns.{columns, number}
 use Rattle.calendar.specs.Calendar.{most_period_days, is_leap, year_days, month_days, years_before, months_before, exists, day_of, last_day, date_in, period_of}
-use Rattle.calendar.specs.declared.Date.{Date}
-use Rattle.calendar.specs.declared.Date.TheVariants.{Day, NoSuchDate}
-use Rattle.calendar.specs.declared.PeriodLength.{PeriodLength}
-use Rattle.calendar.specs.declared.PeriodLength.TheVariants.{OfDays, NoPeriod}
+use Rattle.std.specs.Prelude.{Option, Some, None}
 
 -- a sum does not fall as it goes on
 sum-grows : (F g : ℕ → ℕ) → ((n : ℕ) → F (suc n) ≡ F n + g n) → (a k : ℕ) → F a ≤ F (a + k)
@@ -88,12 +85,12 @@ ranges d m y e =
     go false false false false false true h = absurd (false≢true h)
 
 -- the day number of a date, 0 for none
-abbrev day_or0 : Date → ℕ
-day_or0 (Day k) = k
-day_or0 NoSuchDate = 0
+abbrev day_or0 : Option ℕ → ℕ
+day_or0 (Some k) = k
+day_or0 None = 0
 
 -- no date is after 31.12.2199
-pub day-le-last : (d m y k : ℕ) → day_of d m y ≡ Day k → k ≤ last_day
+pub day-le-last : (d m y k : ℕ) → day_of d m y ≡ Some k → k ≤ last_day
 unfolding day_of
 day-le-last d m y k e =
     let q : day_or0 (day_of d m y) ≡ k = ap day_or0 e in
@@ -102,22 +99,22 @@ day-le-last d m y k e =
     n : ℕ
     n = years_before (y - 1900) + months_before y (m - 1) + (d - 1)
 
-    go : (t : Bool) → exists d m y ≡ t → day_or0 (cond t (Day n) NoSuchDate) ≤ last_day
+    go : (t : Bool) → exists d m y ≡ t → day_or0 (cond t (Some n) None) ≤ last_day
     go true h =
         let r = ranges d m y h in
         omega (arith, r, months-within y m r.month-low r.month-high, years-within y r.year-low r.year-high)
     go false h = omega arith
 
-pub date-le-last : (line : List ℕ) (k : ℕ) → date_in line ≡ Day k → k ≤ last_day
+pub date-le-last : (line : List ℕ) (k : ℕ) → date_in line ≡ Some k → k ≤ last_day
 unfolding date_in
 date-le-last line k e = day-le-last (number (columns 1 2 line)) (number (columns 4 5 line)) (number (columns 7 10 line)) k e
 
 -- "A period of n days has 1 to 380."
-pub days-le : (a b n : ℕ) → period_of a b ≡ OfDays n → n ≤ most_period_days
+pub days-le : (a b n : ℕ) → period_of a b ≡ Some n → n ≤ most_period_days
 unfolding period_of
 days-le a b n e = go (ltb b a) (leb (b + 1 - a) most_period_days) refl e
   where
-    go : (t u : Bool) → leb (b + 1 - a) most_period_days ≡ u → cond t NoPeriod (cond u (OfDays (b + 1 - a)) NoPeriod) ≡ OfDays n → n ≤ most_period_days
+    go : (t u : Bool) → leb (b + 1 - a) most_period_days ≡ u → cond t None (cond u (Some (b + 1 - a)) None) ≡ Some n → n ≤ most_period_days
     go true u k v = apart (cc)
     go false true k v = let q : b + 1 - a ≡ n = cc in omega (arith, leb-true (b + 1 - a) most_period_days k)
     go false false k v = apart (cc)

@@ -9,8 +9,7 @@ use lib.Dec.{ltb}
 use borrow.Author.Tests.{ne_eqb, lt-ltb, le-ltb, le-leb, lt-leb}
 use Rattle.base.proofs.Laws.{tests}
 use Rattle.calendar.specs.Calendar.{most_period_days, is_leap, month_days, years_before, months_before, exists, day_of, period_of}
-use Rattle.calendar.specs.declared.Date.TheVariants.{Day, NoSuchDate}
-use Rattle.calendar.specs.declared.PeriodLength.TheVariants.{OfDays, NoPeriod}
+use Rattle.std.specs.Prelude.{Some, None}
 use Rattle.calendar.proofs.Bounds.{months-within, years-within}
 use Rattle.calendar.proofs.Closed.{common_year, years-closed, months-closed, table-le}
 
@@ -61,12 +60,12 @@ module _ (d m y l : ℕ) (e : l ≡ month_days y m) (y1 : 1900 ≤ y) (y2 : y �
   unfolding exists
   by_length = rw (le-ltb y 1900 y1, le-ltb 2199 y y2, le-ltb m 1 m1, le-ltb 12 m m2, le-ltb d 1 d1, ← e)
 
-  pub day-past : l < d → NoSuchDate ≡ day_of d m y
+  pub day-past : l < d → None ≡ day_of d m y
   unfolding day_of
   day-past h = rw (by_length, lt-ltb l d h)
 
   module _ (a b : ℕ) (h : d ≤ l) (p : a ≡ years_before (y - 1900)) (q : b ≡ months_before y (m - 1)) where
-    pub day-in : Day (a + b + (d - 1)) ≡ day_of d m y
+    pub day-in : Some (a + b + (d - 1)) ≡ day_of d m y
     unfolding day_of
     day-in = rw (by_length, le-ltb l d h, p, q)
 
@@ -80,17 +79,17 @@ pub ruleset dates = (tests, day-past, day-in, day-fits, before-fits)
 
 -- ---- periods
 
-pub none_before : (s e : ℕ) → e < s → NoPeriod ≡ period_of s e
+pub none_before : (s e : ℕ) → e < s → None ≡ period_of s e
 unfolding period_of
 none_before s e h = rw (lt-ltb e s h)
 
-pub days-in : (s e : ℕ) → s ≤ e → e - s < most_period_days → OfDays (e - s + 1) ≡ period_of s e
+pub days-in : (s e : ℕ) → s ≤ e → e - s < most_period_days → Some (e - s + 1) ≡ period_of s e
 unfolding period_of
 days-in s e a b =
     let q : e + 1 - s ≡ e - s + 1 = omega arith in
     rw (le-ltb e s a, q, le-leb (e - s + 1) most_period_days (omega arith))
 
-pub days-over : (s e : ℕ) → s ≤ e → most_period_days ≤ e - s → NoPeriod ≡ period_of s e
+pub days-over : (s e : ℕ) → s ≤ e → most_period_days ≤ e - s → None ≡ period_of s e
 unfolding period_of
 days-over s e a b = rw (le-ltb e s a, lt-leb (e + 1 - s) most_period_days (omega arith))
 

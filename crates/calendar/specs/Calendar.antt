@@ -1,12 +1,8 @@
 -- "Gregorian dates 01.01.1900 to 31.12.2199, day 0 being the first; any other is "no such date". A period of n days has 1 to 380."
 -- Assumes nothing.
-use Rattle.std.specs.Prelude.{ℕ, zero, suc, ◌+◌, ◌-◌, ◌%◌, List, Bool, true, false, cond, not, ◌&&◌, ◌||◌, eqb, ltb, leb}
+use Rattle.std.specs.Prelude.{ℕ, zero, suc, ◌+◌, ◌-◌, ◌%◌, List, Bool, true, false, cond, not, ◌&&◌, ◌||◌, eqb, ltb, leb, Option, Some, None}
 use Rattle.columns.specs.Columns.{number}
 use Rattle.columns.specs.LineFields.{field_in, date_day, date_month, date_year}
-use Rattle.calendar.specs.declared.Date.{Date}
-use Rattle.calendar.specs.declared.Date.TheVariants.{Day, NoSuchDate}
-use Rattle.calendar.specs.declared.PeriodLength.{PeriodLength}
-use Rattle.calendar.specs.declared.PeriodLength.TheVariants.{OfDays, NoPeriod}
 
 -- every fourth year, but of the hundreds only every fourth
 abbrev pub is_leap : ℕ → Bool
@@ -33,15 +29,15 @@ unfoldable pub exists : ℕ → ℕ → ℕ → Bool
 exists d m y = not (ltb y 1900) && not (ltb 2199 y) && not (ltb m 1) && not (ltb 12 m) && not (ltb d 1) && not (ltb (month_days y m) d)
 
 -- the day number of day d, month m, year y
-unfoldable pub day_of : ℕ → ℕ → ℕ → Date
-day_of d m y = cond (exists d m y) (Day (years_before (y - 1900) + months_before y (m - 1) + (d - 1))) NoSuchDate
+unfoldable pub day_of : ℕ → ℕ → ℕ → Option ℕ
+day_of d m y = cond (exists d m y) (Some (years_before (y - 1900) + months_before y (m - 1) + (d - 1))) None
 
 -- 31.12.2199
 abbrev pub last_day : ℕ
 last_day = 109572
 
 -- "1-10 DD.MM.YYYY"
-unfoldable pub date_in : List ℕ → Date
+unfoldable pub date_in : List ℕ → Option ℕ
 date_in line = day_of (number (field_in date_day line)) (number (field_in date_month line)) (number (field_in date_year line))
 
 -- "A period of n days has 1 to 380."
@@ -49,5 +45,5 @@ abbrev pub most_period_days : ℕ
 most_period_days = 380
 
 -- how many days the period from one day to another has: "end before start; over 380 days"
-unfoldable pub period_of : ℕ → ℕ → PeriodLength
-period_of start end = cond (ltb end start) NoPeriod (cond (leb (end + 1 - start) most_period_days) (OfDays (end + 1 - start)) NoPeriod)
+unfoldable pub period_of : ℕ → ℕ → Option ℕ
+period_of start end = cond (ltb end start) None (cond (leb (end + 1 - start) most_period_days) (Some (end + 1 - start)) None)

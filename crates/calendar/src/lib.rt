@@ -6,53 +6,39 @@ ghost use Rattle.calendar.specs.Calendar.{is_leap, month_days, years_before, mon
 
 use columns::line_fields::date;
 
-// What day, month and year say: a day number, or that there is no such date.
-#[derive(Clone, Copy)]
-pub enum Date {
-    Day(u32),
-    NoSuchDate,
-}
-
-// The number of days of a period, or that it is none.
-#[derive(Clone, Copy)]
-pub enum PeriodLength {
-    OfDays(u32),
-    NoPeriod,
-}
-
 // 31.12.2199
 pub const LAST_DAY: u32 = 109572;
 
 // "A period of n days has 1 to 380."
 pub const MOST_PERIOD_DAYS: u32 = 380;
 
-// The day number of a date.
-pub fn day_of(d: u32, m: u32, y: u32) -> Date
+// The day number of a date, if there is such a date.
+pub fn day_of(d: u32, m: u32, y: u32) -> Option<u32>
     ensures { result ≡ day_of d m y }
 {
     if y < 1900 {
-        return Date::NoSuchDate;
+        return None;
     }
     if 2199 < y {
-        return Date::NoSuchDate;
+        return None;
     }
     if m < 1 {
-        return Date::NoSuchDate;
+        return None;
     }
     if 12 < m {
-        return Date::NoSuchDate;
+        return None;
     }
     if d < 1 {
-        return Date::NoSuchDate;
+        return None;
     }
     if month_days(y, m) < d {
-        return Date::NoSuchDate;
+        return None;
     }
-    Date::Day(years_before(y) + months_before(y, m) + (d - 1))
+    Some(years_before(y) + months_before(y, m) + (d - 1))
 }
 
-// The date in columns 1 to 10 of a line, DD.MM.YYYY.
-pub fn date_in(line: &[u8]) -> Date
+// The day number of the date in columns 1 to 10 of a line, DD.MM.YYYY.
+pub fn date_in(line: &[u8]) -> Option<u32>
     ensures { result ≡ date_in line.now }
 {
     day_of(
@@ -62,17 +48,17 @@ pub fn date_in(line: &[u8]) -> Date
     )
 }
 
-// The period from one day number to another.
-pub fn period_of(start: u32, end: u32) -> PeriodLength
+// How many days the period from one day number to another has, if it is one.
+pub fn period_of(start: u32, end: u32) -> Option<u32>
     ensures { result ≡ period_of start end }
 {
     if end < start {
-        return PeriodLength::NoPeriod;
+        return None;
     }
     if end - start < MOST_PERIOD_DAYS {
-        return PeriodLength::OfDays(end - start + 1);
+        return Some(end - start + 1);
     }
-    PeriodLength::NoPeriod
+    None
 }
 
 // The days of the years from 1900 up to y: 365 each, and the leap days. Among n years from 1900 on there are (n + 3) / 4 that 4 divides,

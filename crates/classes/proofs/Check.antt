@@ -1,5 +1,6 @@
 -- The check of ZUGART: the needs of the passes for forms (`search forming`) and for tariff groups (`search tariffs`), and what the passes say together
 -- (`search checks`). Assumes nothing.
+use Rattle.std.specs.Prelude.{Ok, Err}
 use mathlib.Core.Path.{◌≡◌, refl, ap, sym, ◌∙◌}
 use mathlib.Core.List.{List, [], ◌∷◌, ◌++◌, append-nil, append_assoc}
 use mathlib.Core.Bool.{Bool, true, false, cond, not}
@@ -17,16 +18,13 @@ use Rattle.base.proofs.Lists.{gathered-append}
 use Rattle.columns.specs.Columns.{column, is_blank}
 use Rattle.lines.specs.Lines.{Line, lines_of, skipped, cut_at}
 use Rattle.lines.specs.declared.Cut.{Cut}
-use Rattle.forms.specs.Form.{form_of}
+use Rattle.forms.specs.Form.{form_of, Form, Fits, Broken as BrokenForm}
 use Rattle.forms.specs.Columns.{class_columns}
-use Rattle.forms.specs.declared.Form.{Form}
-use Rattle.forms.specs.declared.Form.TheVariants.{Fits, Broken as BrokenForm}
 use Rattle.timetable.specs.Layout.{most_file_bytes}
 use Rattle.timetable.specs.Offences.{offence_at, given, ◌<|>◌, first, checked_by}
 use Rattle.timetable.specs.Files.{listed, held_in, held_by, class_of, has_tariff, tariff_of, tariff_offence, classes_first}
 use Rattle.timetable.specs.Plan.{three_bytes}
 use Rattle.timetable.specs.declared.Offence.{Offence}
-use Rattle.timetable.specs.declared.Checked.TheVariants.{Holds, Refused}
 use Rattle.timetable.proofs.Offences.{first-none}
 use Rattle.sections.specs.Inner.Sections.{is_sound, numbered_by, number_on, as_number, numbers, has_number, record_offence, line_offence, sound_section}
 use Rattle.sections.specs.declared.Section.TheVariants.{Classes}
@@ -283,8 +281,8 @@ first-at : (xs : List Line) (l : Line) (ys : List Line) (o : Offence) → first 
 unfolding first ◌<|>◌
 first-at xs l ys o e d = first-append offence [] xs (l ∷ ys) ∙ rw (e, d) refl
 
-refused-is : (f : List ℕ) (o : Offence) → first offence [] (lines_of f) ≡ some o → Refused o ≡ checked_by (classes_first (lines_of f)) (length (held_in class_of (lines_of f))) (length (lines_of f) + 1)
-refused-is f o e = classes-checked (lines_of f) 0 [] (Refused o) (rw e refl)
+refused-is : (f : List ℕ) (o : Offence) → first offence [] (lines_of f) ≡ some o → Err o ≡ checked_by (classes_first (lines_of f)) (length (held_in class_of (lines_of f))) (length (lines_of f) + 1)
+refused-is f o e = classes-checked (lines_of f) 0 [] (Err o) (rw e refl)
 
 -- the codes of lines stand once, and one of them is a record
 once-there : (xs : List Line) (l : Line) (ls : List Line) → number_on Classes l.text ≡ Number (three_bytes 1 l.text) → once any [] (numbers Classes (xs ++ (l ∷ ls))) ≡ true
@@ -446,24 +444,24 @@ module _ (f : List ℕ) (formed : Formed) (F : FormedAs f formed) where
             unfolding codes
             counted-all = F.counted ∙ ap (λ (ls : List Line). length (numbers Classes ls)) whole
 
-            pub check-holds : Holds formed.count formed.no ≡ checked_by (classes_first (lines_of f)) (length (held_in class_of (lines_of f))) (length (lines_of f) + 1)
-            check-holds = classes-checked (lines_of f) 0 [] (Holds formed.count formed.no)
+            pub check-holds : Ok (formed.count, formed.no) ≡ checked_by (classes_first (lines_of f)) (length (held_in class_of (lines_of f))) (length (lines_of f) + 1)
+            check-holds = classes-checked (lines_of f) 0 [] (Ok (formed.count, formed.no))
                 (rw (found_none, counted-all, F.number ∙ ap (λ (ls : List Line). length ls + 1) whole) refl)
 
-            pub check-index : (m : List ℕ) → IndexOf f m → ClassesAfter f (Holds formed.count formed.no) m
+            pub check-index : (m : List ℕ) → IndexOf f m → ClassesAfter f (Ok (formed.count, formed.no)) m
             check-index m i = record { held = λ _ _ _. i }
 
-          pub check-broken : formed.at < length f → Refused (record { number = 4; line = formed.no; column = formed.column }) ≡ checked_by (classes_first (lines_of f)) (length (held_in class_of (lines_of f))) (length (lines_of f) + 1)
+          pub check-broken : formed.at < length f → Err (record { number = 4; line = formed.no; column = formed.column }) ≡ checked_by (classes_first (lines_of f)) (length (held_in class_of (lines_of f))) (length (lines_of f) + 1)
           check-broken h = refused-is f _ (found-broken h)
 
-        pub check-repeat : (o : Offence) → repeat.at < formed.at → o ≡ offence_at 6 repeat.no → Refused o ≡ checked_by (classes_first (lines_of f)) (length (held_in class_of (lines_of f))) (length (lines_of f) + 1)
+        pub check-repeat : (o : Offence) → repeat.at < formed.at → o ≡ offence_at 6 repeat.no → Err o ≡ checked_by (classes_first (lines_of f)) (length (held_in class_of (lines_of f))) (length (lines_of f) + 1)
         check-repeat o h e = refused-is f o (found-repeat h ∙ ap some (sym e))
 
-      pub check-tariff : (o : Offence) → other.at < repeat.at → o ≡ offence_at 37 other.no → Refused o ≡ checked_by (classes_first (lines_of f)) (length (held_in class_of (lines_of f))) (length (lines_of f) + 1)
+      pub check-tariff : (o : Offence) → other.at < repeat.at → o ≡ offence_at 37 other.no → Err o ≡ checked_by (classes_first (lines_of f)) (length (held_in class_of (lines_of f))) (length (lines_of f) + 1)
       check-tariff o h e = refused-is f o (found-tariff h ∙ ap some (sym e))
 
 -- a refusal leaves no index
-pub check-none : (f : List ℕ) (o : Offence) (m : List ℕ) → ClassesAfter f (Refused o) m
+pub check-none : (f : List ℕ) (o : Offence) (m : List ℕ) → ClassesAfter f (Err o) m
 check-none f o m = record { held = λ c n e. apart cc }
 
 pub ruleset checks = (tests, end-inside, end_short, end-sound, stop-inside, stop-short, stop-sound, whole-sound, check-tariff, check-repeat, check-broken, check-holds, check-index, check-none)

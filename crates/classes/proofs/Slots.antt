@@ -18,10 +18,8 @@ use Rattle.columns.specs.Columns.{pad_to, columns, count, number}
 use Rattle.lines.specs.Lines.{Line, pieces, no_cr, numbered, lines_from, lines_of, skipped, cut_at}
 use Rattle.lines.specs.declared.Cut.{Cut}
 use Rattle.lines.proofs.Laws.{cutting, lines_none, walk}
-use Rattle.forms.specs.Form.{form_of}
+use Rattle.forms.specs.Form.{form_of, Form, Fits, Broken as BrokenForm}
 use Rattle.forms.specs.Columns.{class_columns}
-use Rattle.forms.specs.declared.Form.{Form}
-use Rattle.forms.specs.declared.Form.TheVariants.{Fits, Broken as BrokenForm}
 use Rattle.forms.proofs.Laws.{row-holds}
 use Rattle.chains.specs.Chains.{bucket_of}
 use Rattle.timetable.specs.Layout.{most_file_bytes, helper_head}

@@ -22,7 +22,7 @@ ghost use Rattle.classes.specs.Inner.Index.{EnteredOn, PutOn, ClassesAfter, Slot
 use columns::line_fields::class;
 use lines::reader;
 use sections::{Numbered, Section};
-use timetable::{Checked, Offence};
+use timetable::Offence;
 
 // ---- the check
 
@@ -51,7 +51,7 @@ struct Pass {
 }
 
 // ZUGART may have no record. Each pass looks only at the lines before the one that the pass before it found: so the last to find one found the first offence.
-pub fn check_classes(zugart: &[u8], index: &mut [u32]) -> Checked
+pub fn check_classes(zugart: &[u8], index: &mut [u32]) -> Result<(u32, u32), Offence>
     requires zugart_len_bound { length zugart.now ≤ most_file_bytes }
     requires index_room { IndexRoom index.old }
     ensures value { result ≡ classes_checked zugart.now }
@@ -63,20 +63,20 @@ pub fn check_classes(zugart: &[u8], index: &mut [u32]) -> Checked
     let stop = repeat.at;
     let other = other_tariff(&zugart[0..stop]);
     if other.at < stop {
-        return Checked::Refused(timetable::offence_at(37, other.no));
+        return Err(timetable::offence_at(37, other.no));
     }
     if stop < end {
-        return Checked::Refused(timetable::offence_at(6, repeat.no));
+        return Err(timetable::offence_at(6, repeat.no));
     }
     if end < zugart.len() {
-        return Checked::Refused(Offence {
+        return Err(Offence {
             number: 4,
             line: formed.no,
             column: formed.column,
         });
     }
     fill_index(zugart, index);
-    Checked::Holds(formed.count, formed.no)
+    Ok((formed.count, formed.no))
 }
 
 // ---- 4: a line breaks its form
@@ -88,6 +88,7 @@ fn formed_lines(f: &[u8]) -> Formed
     let mut at: usize = 0;
     let mut no: u32 = 1;
     let mut count: u32 = 0;
+    // Kept: a walk over a file from line to line, no loop by an index
     while at < f.len() {
         let cut = reader::line_from(f, at, no);
         let stop = cut.stop;
@@ -172,6 +173,7 @@ fn rises(f: &[u8]) -> bool
     let mut at: usize = 0;
     let mut no: u32 = 1;
     let mut below: u32 = 0;
+    // Kept: a walk over a file from line to line, no loop by an index
     while at < f.len() {
         let cut = reader::line_from(f, at, no);
         let stop = cut.stop;
@@ -200,6 +202,7 @@ fn repeat_by_bytes(f: &[u8]) -> Stand
     ensures { RepeatAs f.now result }
 {
     let mut pass = repeat_from(f, 0);
+    // Kept: a chain of passes, each over the lines that the one before leaves; no loop by an index
     while pass.next < FIRST_BYTES {
         let at = pass.at;
         pass = repeat_from(&f[0..at], pass.next);
@@ -231,6 +234,7 @@ fn marked_pass(f: &[u8], b: u32, marks: &mut [u32]) -> Pass
     let mut at: usize = 0;
     let mut no: u32 = 1;
     let mut next = FIRST_BYTES;
+    // Kept: a walk over a file from line to line, no loop by an index
     while at < f.len() {
         let cut = reader::line_from(f, at, no);
         let stop = cut.stop;
@@ -314,6 +318,7 @@ fn other_tariff(f: &[u8]) -> Stand
     let mut at: usize = 0;
     let mut no: u32 = 1;
     let mut group: u32 = 0;
+    // Kept: a walk over a file from line to line, no loop by an index
     while at < f.len() {
         let cut = reader::line_from(f, at, no);
         let stop = cut.stop;
@@ -384,6 +389,7 @@ fn put_lines(f: &[u8], index: &mut [u32]) -> usize
 {
     let mut at: usize = 0;
     let mut no: u32 = 1;
+    // Kept: a walk over a file from line to line, no loop by an index
     while at < f.len() {
         let cut = reader::line_from(f, at, no);
         let stop = cut.stop;
@@ -506,6 +512,7 @@ fn has_class(f: &[u8], from: usize, code: u32) -> bool
 {
     let mut at = from;
     let mut no: u32 = 1;
+    // Kept: a walk over a file from line to line, no loop by an index
     while at < f.len() {
         let cut = reader::line_from(f, at, no);
         let stop = cut.stop;

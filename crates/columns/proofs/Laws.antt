@@ -2,21 +2,21 @@
 -- of a loop over columns), `every-long` (a line whose columns pass a test reaches so far), `number_lt`, `columns-lt`. Assumes nothing.
 use mathlib.Core.Path.{◌≡◌, refl, ap, ◌∙◌, sym}
 use mathlib.Core.List.{List, [], ◌∷◌}
-use mathlib.Core.Bool.{Bool, true, false, cond, not, ◌&&◌, ◌||◌, false≢true}
+use mathlib.Core.Bool.{Bool, true, false, cond, ◌&&◌}
 use Prim.Native.Nat.{ℕ, zero, suc, ◌+◌, ◌-◌, ◌*◌, ◌≤◌, ◌<◌, ◌^◌}
 use native.Mathlib.Omega.{arith}
 use native.Mathlib.Nat.{add-sub_cancel_left, mul_assoc, mul_comm, mul-le-mul_right, pow-le-pow_right, pow-suc, one-le-pow}
 use native.Mathlib.Numerals.{add-one}
 use lib.ListN.{length, get_or, take, drop, drop_of_length-le, length-drop, length-take}
 use lib.Seq.{take-nil, take_all}
-use lib.Dec.{leb, eqb, lit<}
-use borrow.Author.Tests.{eq-eqb, ne_eqb, le-leb, lt-leb}
+use lib.Dec.{leb, lit<}
+use borrow.Author.Tests.{eq-eqb, ne_eqb, lt-leb}
 use Rattle.base.specs.Lists.{every}
 use Rattle.base.proofs.Laws.{drop-next, by-leb, clash, tests}
 use Rattle.base.proofs.Loops.{and-true}
-use Rattle.columns.specs.Columns.{pad_to, columns, blank, is_digit, digit_value, is_of, count, number_from, number, count_to}
+use Rattle.columns.specs.Columns.{pad_to, columns, blank, digit_value, is_of, count, number_from, number, count_to}
 use Rattle.columns.specs.declared.ByteClass.{ByteClass}
-use Rattle.columns.specs.declared.ByteClass.TheVariants.{Digit, Byte}
+use Rattle.columns.specs.declared.ByteClass.TheVariants.{Digit}
 
 -- ---- columns past the end
 
@@ -234,7 +234,7 @@ module _ (a b w : ℕ) (line p : List ℕ) (e : w ≡ b - (a - 1)) (q : p ≡ ta
 
 pub ruleset parts = (tests, part_none, part-whole, part-short, every-columns, all-columns, number-columns, no-count, count-columns)
 
--- ---- the needs of `all_of`, for `search alls`: b was read at place i, and u is what `both` answered
+-- ---- the needs of `all_of`, for `search alls`: b was read at place i, and u is whether all passed, with it
 
 pub all_start : (k : ByteClass) (p : List ℕ) → (true && every (is_of k) (drop 0 p)) ≡ every (is_of k) p
 all_start k p = refl

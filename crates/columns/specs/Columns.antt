@@ -1,6 +1,6 @@
 -- "A column is one byte, columns past the end read as blank (a blank is byte 32)." Columns are counted from 1.
 -- Assumes nothing.
-use Rattle.std.specs.Prelude.{ℕ, zero, suc, ◌+◌, ◌-◌, ◌*◌, List, [], ◌∷◌, Bool, true, false, cond, not, ◌&&◌, ◌||◌, get_or, drop, eqb, leb}
+use Rattle.std.specs.Prelude.{ℕ, zero, suc, ◌+◌, ◌-◌, ◌*◌, List, [], ◌∷◌, Bool, false, cond, not, ◌&&◌, ◌||◌, get_or, drop, eqb, leb}
 use Rattle.base.specs.Lists.{every}
 use Rattle.columns.specs.declared.ByteClass.{ByteClass}
 use Rattle.columns.specs.declared.ByteClass.TheVariants.{Digit, Hex, Filled, Byte}

@@ -63,7 +63,7 @@ pub fn count_in(line: &[u8], a: usize, b: usize, m: u32) -> bool
 pub fn part(line: &[u8], a: usize, b: usize) -> &[u8]
     ensures { result.now ≡ take (b - (a - 1)) (drop (a - 1) line.now) }
 {
-    let from = less(a, 1);
+    let from = a.saturating_sub(1);
     let w = width(a, b);
     if line.len() <= from {
         return &line[0..0];
@@ -79,14 +79,14 @@ pub fn part(line: &[u8], a: usize, b: usize) -> &[u8]
 pub fn width(a: usize, b: usize) -> usize
     ensures { result ≡ b - (a - 1) }
 {
-    less(b, less(a, 1))
+    b.saturating_sub(a.saturating_sub(1))
 }
 
 // Column c.
 pub fn column_at(line: &[u8], c: usize) -> u8
     ensures { result ≡ column c line.now }
 {
-    byte_at(line, less(c, 1))
+    byte_at(line, c.saturating_sub(1))
 }
 
 // ---- a part of a line, with its width
@@ -105,35 +105,23 @@ pub fn every_of(p: &[u8], w: usize, class: ByteClass) -> bool
     every_from(p, 0, w, class)
 }
 
-// Whether every byte is of the class.
+// Whether every byte is of the class. Each is tested: `all` would stop at the first that is not.
 fn all_of(p: &[u8], class: ByteClass) -> bool
     ensures { result ≡ every (is_of class) p.now }
 {
     let mut all = true;
-    let mut i = 0;
-    while i < p.len() {
-        all = both(all, is_of(class, p[i]));
-        i += 1;
+    for i in 0..p.len() {
+        all &= is_of(class, p[i]);
     }
     all
-}
-
-// Without a way out before b is known.
-fn both(a: bool, b: bool) -> bool
-    ensures { result ≡ (a && b) }
-{
-    a && b
 }
 
 // Whether every one of the w bytes from place `from` on is of the class.
 pub fn every_from(p: &[u8], from: usize, w: usize, class: ByteClass) -> bool
     ensures { result ≡ every (is_of class) (drop from (pad_to w p.now)) }
 {
-    let mut i = from;
-    while i < w {
-        if is_of(class, byte_at(p, i)) {
-            i += 1;
-        } else {
+    for i in from..w {
+        if !is_of(class, byte_at(p, i)) {
             return false;
         }
     }
@@ -146,10 +134,8 @@ pub fn number_of(p: &[u8], w: usize) -> u32
     ensures { result ≡ number (pad_to w p.now) }
 {
     let mut n: u32 = 0;
-    let mut i = 0;
-    while i < w {
+    for i in 0..w {
         n = n * 10 + digit_value(byte_at(p, i));
-        i += 1;
     }
     n
 }
@@ -158,12 +144,10 @@ pub fn number_of(p: &[u8], w: usize) -> u32
 fn count_of(p: &[u8], w: usize) -> bool
     ensures { result ≡ count (pad_to w p.now) }
 {
-    let mut i = 0;
-    while i < w {
+    for i in 0..w {
         if byte_at(p, i) != b' ' {
             return every_from(p, i, w, ByteClass::Digit);
         }
-        i += 1;
     }
     false // a count needs a digit
 }
@@ -174,13 +158,11 @@ fn at_most(p: &[u8], w: usize, m: u32) -> bool
 {
     let most = m as u64;
     let mut n: u64 = 0;
-    let mut i = 0;
-    while i < w {
+    for i in 0..w {
         if most < n {
             return false;
         }
         n = n * 10 + digit_value(byte_at(p, i)) as u64;
-        i += 1;
     }
     n <= most
 }
@@ -201,20 +183,13 @@ fn is_of(class: ByteClass, b: u8) -> bool
 pub fn is_digit(b: u8) -> bool
     ensures { result ≡ is_digit b }
 {
-    match b {
-        b'0'..=b'9' => true,
-        _ => false,
-    }
+    b.is_ascii_digit()
 }
 
 fn is_hex(b: u8) -> bool
     ensures { result ≡ is_hex b }
 {
-    match b {
-        b'0'..=b'9' => true,
-        b'A'..=b'F' => true,
-        _ => false,
-    }
+    matches!(b, b'0'..=b'9' | b'A'..=b'F')
 }
 
 // The value of a digit, 0 for another byte.
@@ -239,11 +214,4 @@ pub fn hex_value(b: u8) -> u32
         b'A'..=b'F' => (b - TEN_BEFORE_A) as u32,
         _ => 0,
     }
-}
-
-// a - b, or 0.
-fn less(a: usize, b: usize) -> usize
-    ensures { result ≡ a - b }
-{
-    if a < b { 0 } else { a - b }
 }

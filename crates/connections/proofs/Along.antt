@@ -10,27 +10,26 @@ use lib.ListN.{length, drop, get_elem?}
 use lib.Seq.{drop-drop}
 use lib.Dec.{ltb, leb, eqb}
 use borrow.Author.Tests.{ltb-true, leb-true, not-true, not-false}
+use Rattle.std.specs.Prelude.{Some, None, Ok, Err}
 use Rattle.base.proofs.Laws.{tests, apart}
 use Rattle.base.proofs.Loops.{and-true}
 use Rattle.timetable.specs.Layout.{service_head, call_size, latest_time}
 use Rattle.timetable.specs.Delivery.{Service}
 use Rattle.timetable.specs.Runs.{has_run, lateness, opening_sound}
 use Rattle.timetable.specs.Table.{rows_in, call_at, opening_at, calls#, service_at, record_sound}
-use Rattle.timetable.specs.View.{View, a_service}
-use Rattle.timetable.specs.Run.{category_on, a_run, run_along, run_by, service_course}
+use Rattle.timetable.specs.View.{View}
+use Rattle.timetable.specs.Run.{Course, category_on, a_run, run_along, run_by, service_course}
 use Rattle.timetable.specs.declared.Call.{Call}
-use Rattle.timetable.specs.declared.Course.{Course}
-use Rattle.timetable.specs.declared.Course.TheVariants.{Along, NotRunning, Refused as Barred}
 use Rattle.timetable.specs.declared.Opening.{Opening}
 use Rattle.table.proofs.Says.{record-says, record-sized, call-sound, call-says}
 use Rattle.course.specs.Inner.Rows.{call_shown, shown_by, service_shown}
 use Rattle.course.proofs.Laws.{legs-count, count-shown, course-shown}
 use Rattle.course.proofs.Within.{along-within}
+use Rattle.timetable.specs.declared.refusal.Refusal.{Refusal}
+use Rattle.timetable.specs.declared.refusal.Refusal.TheVariants.{CallNotListed, NotBoardable}
 use Rattle.connections.specs.declared.Part.{Part}
 use Rattle.connections.specs.declared.Stage.{Stage}
-use Rattle.connections.specs.declared.Staged.{Staged}
-use Rattle.connections.specs.declared.Staged.TheVariants.{Is, Refused}
-use Rattle.connections.specs.Connection.{moment, row_call, stage_along, stage_between, stage_by}
+use Rattle.connections.specs.Connection.{Staged, moment, row_call, stage_along, stage_between, stage_by}
 use Rattle.connections.specs.Inner.Stages.{run_in, call_in, stage_in, stage_ridden, stage_calls}
 
 -- ---- the course c of the service at the front of s, for a part p on day k
@@ -40,20 +39,20 @@ module _ (v : View) (s : List ℕ) (p : Part) (k : ℕ) (c : Course) (e : c ≡ 
   unfolding service_at shown_by
   opening-is = refl
 
-  course-is : run_by v (a_service (service_shown v s)) p.repeat k ≡ run_along (service_shown v s) (lateness (opening_at s) p.repeat) c
+  course-is : run_by v (Ok (service_shown v s)) p.repeat k ≡ run_along (service_shown v s) (lateness (opening_at s) p.repeat) c
   course-is = rw (course-shown v (service_at s) p.repeat k, opening-is, sym e)
 
-  pub course-refused : (number : ℕ) → c ≡ Barred number → Refused number ≡ stage_in v s p k
-  course-refused number g = rw (course-is, g)
+  pub course-refused : (refusal : Refusal) → c ≡ Err refusal → Err refusal ≡ stage_in v s p k
+  course-refused refusal g = rw (course-is, g)
 
-  pub course-idle : c ≡ NotRunning → Refused 47 ≡ stage_in v s p k
+  pub course-idle : c ≡ Ok None → Err CallNotListed ≡ stage_in v s p k
   course-idle g = rw (course-is, g)
 
-  module _ (a n : ℕ) (g : c ≡ Along a n) where
+  module _ (a n : ℕ) (g : c ≡ Ok (Some (record { start = a; legs = n }))) where
     pub course-along : (y : Staged) → y ≡ stage_by k p (a_run (run_in v s p.repeat a n)) → y ≡ stage_in v s p k
     course-along y f = rw (course-is, g) f
 
-    shown-along : service_course v (service_shown v s) p.repeat k ≡ Along a n
+    shown-along : service_course v (service_shown v s) p.repeat k ≡ Ok (Some (record { start = a; legs = n }))
     shown-along = course-shown v (service_at s) p.repeat k ∙ sym e ∙ g
 
     pub course-run : has_run (opening_at s) p.repeat ≡ true
@@ -87,7 +86,7 @@ call-there v s i c h e =
 
 -- ---- along a stretch from call a on with n legs; t says whether both calls are among its rows
 
-none-47 : (s : Service) (late k : ℕ) (p : Part) (o : Option Call) → stage_between s late k p o none ≡ Refused 47
+none-47 : (s : Service) (late k : ℕ) (p : Part) (o : Option Call) → stage_between s late k p o none ≡ Err CallNotListed
 none-47 s late k p none = refl
 none-47 s late k p (some b) = refl
 
@@ -95,7 +94,7 @@ abbrev among : ℕ → ℕ → ℕ → Bool
 among a n i = leb a i && leb i (a + n)
 
 module _ (p : Part) (a n : ℕ) (t : Bool) (e : t ≡ (among a n p.board && among a n p.alight)) where
-  pub along-47 : (v : View) (s : List ℕ) (k : ℕ) → not t ≡ true → Refused 47 ≡ stage_by k p (a_run (run_in v s p.repeat a n))
+  pub along-47 : (v : View) (s : List ℕ) (k : ℕ) → not t ≡ true → Err CallNotListed ≡ stage_by k p (a_run (run_in v s p.repeat a n))
   along-47 v s k f = go (among a n p.board) (among a n p.alight) (sym e ∙ not-true t f)
     where
       board : Option Call
@@ -104,7 +103,7 @@ module _ (p : Part) (a n : ℕ) (t : Bool) (e : t ≡ (among a n p.board && amon
       alight : Option Call
       alight = get_elem? (service_shown v s).calls p.alight
 
-      go : (x y : Bool) → (x && y) ≡ false → Refused 47 ≡ stage_between (service_shown v s) (lateness (opening_at s) p.repeat) k p (cond x board none) (cond y alight none)
+      go : (x y : Bool) → (x && y) ≡ false → Err CallNotListed ≡ stage_between (service_shown v s) (lateness (opening_at s) p.repeat) k p (cond x board none) (cond y alight none)
       go false y q = refl
       go true false q = sym (none-47 (service_shown v s) (lateness (opening_at s) p.repeat) k p board)
       go true true q = apart (cc)
@@ -154,11 +153,11 @@ module _ (p : Part) (b c : Call) (z : Bool) (g : z ≡ (ltb p.board p.alight && 
     as_read : ridden b c ≡ ridden (call_in s p.board) (call_in s p.alight)
     as_read = ap (λ (x : Call). ridden x c) q ∙ ap (ridden (call_in s p.board)) r
 
-    pub ride-48 : not z ≡ true → Refused 48 ≡ stage_ridden v s p k
+    pub ride-48 : not z ≡ true → Err NotBoardable ≡ stage_ridden v s p k
     ride-48 o = rw (sym g ∙ not-true z o) at as_read
 
-    pub ride-is : not z ≡ false → (y : Stage) → y ≡ stage_calls v s p k b c → Is y ≡ stage_ridden v s p k
-    ride-is o y i = ap Is i ∙ (rw (sym g ∙ not-false z o) at as_read)
+    pub ride-is : not z ≡ false → (y : Stage) → y ≡ stage_calls v s p k b c → Ok y ≡ stage_ridden v s p k
+    ride-is o y i = ap Ok i ∙ (rw (sym g ∙ not-false z o) at as_read)
 
 pub ruleset rides = (tests, record-sized, ride-order, ride-48, ride-is)
 

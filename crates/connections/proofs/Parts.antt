@@ -1,4 +1,5 @@
 -- The parts one after another, for `search connections`, `search firsts` and `search afters`. Assumes nothing.
+use Rattle.std.specs.Prelude.{Ok, Err}
 use mathlib.Core.Path.{◌≡◌, refl, sym, ap, ◌∙◌}
 use mathlib.Core.List.{List, [], ◌∷◌}
 use mathlib.Core.Bool.{Bool, true, false, not}
@@ -13,13 +14,11 @@ use Rattle.base.proofs.Loops.{and-true}
 use Rattle.timetable.specs.Table.{rows_in}
 use Rattle.timetable.specs.View.{View}
 use Rattle.timetable.proofs.Rows.{one-row}
+use Rattle.timetable.specs.declared.refusal.Refusal.{Refusal}
+use Rattle.timetable.specs.declared.refusal.Refusal.TheVariants.{PartsNotWhole}
 use Rattle.connections.specs.declared.Part.{Part}
 use Rattle.connections.specs.declared.Stage.{Stage}
-use Rattle.connections.specs.declared.Staged.{Staged}
-use Rattle.connections.specs.declared.Staged.TheVariants.{Is, Refused}
-use Rattle.connections.specs.declared.ConnectionAnswer.{ConnectionAnswer}
-use Rattle.connections.specs.declared.ConnectionAnswer.TheVariants.{Holds, Refused as BadPart}
-use Rattle.connections.specs.Connection.{part_size, most_parts, part_at, parts_of, whole_parts, stage_of, changed_to, parts_after, parts_hold, connection_in}
+use Rattle.connections.specs.Connection.{Staged, ConnectionAnswer, bad_part, part_size, most_parts, part_at, parts_of, whole_parts, stage_of, changed_to, parts_after, parts_hold, connection_in}
 
 -- ---- the words
 
@@ -48,7 +47,7 @@ parts_next ws at h m =
 -- ---- the question: b says whether they are 1 to 10 whole parts
 
 module _ (ws : List ℕ) (b : Bool) (e : b ≡ whole_parts (length ws)) where
-  pub parts-46 : (v : View) → not b ≡ true → BadPart 46 0 ≡ connection_in v ws
+  pub parts-46 : (v : View) → not b ≡ true → bad_part PartsNotWhole 0 ≡ connection_in v ws
   unfolding connection_in
   parts-46 v n = rw (sym e ∙ not-true b n)
 
@@ -71,48 +70,47 @@ module _ (ws : List ℕ) (h : whole_parts (length ws) ≡ true) where
     first_next : parts_of ws ≡ p ∷ parts_of (drop part_size ws)
     first_next = parts_next ws 0 (omega (arith, (whole_says (length ws) h).low)) (omega (arith, (whole_says (length ws) h).parted)) ∙ rw q refl
 
-    pub first-refused : (number : ℕ) → x ≡ Refused number → BadPart number 1 ≡ parts_hold v (parts_of ws)
-    first-refused number g = rw (first_next, sym e ∙ g)
+    pub first-refused : (refusal : Refusal) → x ≡ Err refusal → bad_part refusal 1 ≡ parts_hold v (parts_of ws)
+    first-refused refusal g = rw (first_next, sym e ∙ g)
 
-    pub first-staged : (s : Stage) → x ≡ Is s → (r : ConnectionAnswer) → r ≡ parts_after v s 2 (parts_of (drop part_size ws)) → r ≡ parts_hold v (parts_of ws)
+    pub first-staged : (s : Stage) → x ≡ Ok s → (r : ConnectionAnswer) → r ≡ parts_after v s 2 (parts_of (drop part_size ws)) → r ≡ parts_hold v (parts_of ws)
     first-staged s g r f = rw (first_next, sym e ∙ g) f
 
 pub ruleset firsts = (tests, first-room, first-refused, first-staged)
 
--- ---- the parts after a stage s, where n are passed and the next is at place `at`; r is what all of them answer
+-- ---- the parts after a stage s, where n are passed; r is what all of them answer
 
-pub after-start : (ws : List ℕ) → whole_parts (length ws) ≡ true → (length ws - part_size) % part_size ≡ 0
-after-start ws h = omega (arith, (whole_says (length ws) h).parted)
-
-pub after-within : (ws : List ℕ) → whole_parts (length ws) ≡ true → part_size ≤ length ws
-after-within ws h = (whole_says (length ws) h).low
-
-module _ (ws : List ℕ) (at : ℕ) (l : at < length ws) (m : (length ws - at) % part_size ≡ 0) where
-  pub after-room : at + part_size ≤ length ws
+module _ (ws : List ℕ) (h : whole_parts (length ws) ≡ true) (n : ℕ) (l : n < length ws / part_size) where
+  pub after-room : part_size * n + part_size ≤ length ws
   after-room = omega arith
 
-  pub after-parted : (length ws - (at + part_size)) % part_size ≡ 0
-  after-parted = omega arith
+  pub after-place : part_size * n < 2 ^ 64
+  after-place = omega (arith, (whole_says (length ws) h).high)
 
-  pub after-fits : (n : ℕ) → whole_parts (length ws) ≡ true → n ≤ at → n + 1 < 2 ^ 32
-  after-fits n h g = omega (arith, (whole_says (length ws) h).high)
+  pub after-number : n < 2 ^ 32
+  after-number = omega (arith, (whole_says (length ws) h).high)
 
-  pub after-counts : (n : ℕ) → n ≤ at → n + 1 ≤ at + part_size
-  after-counts n g = omega arith
+  pub after-fits : n + 1 < 2 ^ 32
+  after-fits = omega (arith, (whole_says (length ws) h).high)
 
-  module _ (v : View) (s : Stage) (n : ℕ) (r : ConnectionAnswer) (i : parts_after v s (n + 1) (parts_of (drop at ws)) ≡ r) (p : Part) (q : p ≡ part_at (drop at ws)) (x : Staged) (e : x ≡ changed_to v s (stage_of v p)) where
-    pub after-out : (number : ℕ) → x ≡ Refused number → BadPart number (n + 1) ≡ r
+  after_next : parts_of (drop (part_size * n) ws) ≡ part_at (drop (part_size * n) ws) ∷ parts_of (drop (part_size * (n + 1)) ws)
+  after_next =
+      let z : part_size * n + part_size ≡ part_size * (n + 1) = omega arith in
+      rw z at (parts_next ws (part_size * n) (omega arith) (omega (arith, (whole_says (length ws) h).parted)))
+
+  module _ (v : View) (s : Stage) (r : ConnectionAnswer) (i : parts_after v s (n + 1) (parts_of (drop (part_size * n) ws)) ≡ r) (p : Part) (q : p ≡ part_at (drop (part_size * n) ws)) (x : Staged) (e : x ≡ changed_to v s (stage_of v p)) where
+    pub after-out : (refusal : Refusal) → x ≡ Err refusal → bad_part refusal (n + 1) ≡ r
     unfolding parts_after
-    after-out number g = rw (parts_next ws at l m, sym q, sym e ∙ g) at i
+    after-out refusal g = rw (after_next, sym q, sym e ∙ g) at i
 
-    pub after-again : (t : Stage) → x ≡ Is t → parts_after v t (n + 1 + 1) (parts_of (drop (at + part_size) ws)) ≡ r
+    pub after-again : (t : Stage) → x ≡ Ok t → parts_after v t (n + 1 + 1) (parts_of (drop (part_size * (n + 1)) ws)) ≡ r
     unfolding parts_after
-    after-again t g = rw (parts_next ws at l m, sym q, sym e ∙ g) at i
+    after-again t g = rw (after_next, sym q, sym e ∙ g) at i
 
-pub after-done : (v : View) (ws : List ℕ) (s : Stage) (n at : ℕ) (r : ConnectionAnswer) → length ws ≤ at → parts_after v s n (parts_of (drop at ws)) ≡ r → Holds ≡ r
+pub after-done : (v : View) (ws : List ℕ) → whole_parts (length ws) ≡ true → (s : Stage) (n : ℕ) (r : ConnectionAnswer) → length ws / part_size ≤ n → parts_after v s (n + 1) (parts_of (drop (part_size * n) ws)) ≡ r → Ok tt ≡ r
 unfolding parts_after rows_in
-after-done v ws s n at r h i =
-    let z : length (drop at ws) / part_size ≡ 0 = omega (arith, length-drop at ws) in
+after-done v ws h s n r k i =
+    let z : length (drop (part_size * n) ws) / part_size ≡ 0 = omega (arith, length-drop (part_size * n) ws, (whole_says (length ws) h).parted) in
     rw z at i
 
-pub ruleset afters = (tests, after-start, after-within, after-room, after-parted, after-fits, after-counts, after-out, after-again, after-done)
+pub ruleset afters = (tests, after-room, after-place, after-number, after-fits, after-out, after-again, after-done)

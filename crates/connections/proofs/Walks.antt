@@ -7,41 +7,42 @@ use mathlib.Core.Option.{Option, none, some}
 use mathlib.Core.Logic.{◌⊎◌, inl, inr}
 use Prim.Native.Nat.{ℕ}
 use lib.Dec.{ltb}
+use Rattle.std.specs.Prelude.{Result, Ok, Err}
 use Rattle.base.proofs.Laws.{apart}
 use Rattle.timetable.specs.View.{View}
 use Rattle.timetable.specs.Delivery.{Service}
 use Rattle.timetable.specs.Run.{RunFound, no_run, at_rest, a_run, run_of}
-use Rattle.timetable.specs.Questions.{Dated, undated, dated, date_of, Journey, refused, idle, rows, rows_along, dated_run, journey}
+use Rattle.timetable.specs.Questions.{date_of, Journey, refused, idle, rows, rows_along, dated_run, journey}
 use Rattle.timetable.specs.declared.Call.{Call}
+use Rattle.timetable.specs.declared.refusal.Refusal.{Refusal}
+use Rattle.timetable.specs.declared.refusal.Refusal.TheVariants.{CallNotListed, NotBoardable}
 use Rattle.connections.specs.declared.Part.{Part}
-use Rattle.connections.specs.declared.Staged.{Staged}
-use Rattle.connections.specs.declared.Staged.TheVariants.{Is, Refused}
-use Rattle.connections.specs.Connection.{row_call, boarding_allowed, alighting_allowed, stage_along, stage_between, stage_by, stage_dated, stage_of}
+use Rattle.connections.specs.Connection.{Staged, row_call, boarding_allowed, alighting_allowed, stage_along, stage_between, stage_by, stage_dated, stage_of}
 
 -- what a part answers, by what its walk gives
 abbrev pub ByWalk : Journey → Staged → Type 0
-ByWalk (refused number) x = x ≡ Refused number
-ByWalk idle x = x ≡ Refused 47
-ByWalk (rows ws) x = (number : ℕ) → x ≡ Refused number → (number ≡ 47) ⊎ (number ≡ 48)
+ByWalk (refused refusal) x = x ≡ Err refusal
+ByWalk idle x = x ≡ Err CallNotListed
+ByWalk (rows ws) x = (refusal : Refusal) → x ≡ Err refusal → (refusal ≡ CallNotListed) ⊎ (refusal ≡ NotBoardable)
 
-between-by : (s : Service) (late k : ℕ) (p : Part) (b a : Option Call) (number : ℕ) → stage_between s late k p b a ≡ Refused number → (number ≡ 47) ⊎ (number ≡ 48)
-between-by s late k p none a number e = inl (cc)
-between-by s late k p (some b) none number e = inl (cc)
-between-by s late k p (some b) (some a) number e = go (ltb p.board p.alight && (boarding_allowed b && alighting_allowed a)) e
+between-by : (s : Service) (late k : ℕ) (p : Part) (b a : Option Call) (refusal : Refusal) → stage_between s late k p b a ≡ Err refusal → (refusal ≡ CallNotListed) ⊎ (refusal ≡ NotBoardable)
+between-by s late k p none a refusal e = inl (cc)
+between-by s late k p (some b) none refusal e = inl (cc)
+between-by s late k p (some b) (some a) refusal e = go (ltb p.board p.alight && (boarding_allowed b && alighting_allowed a)) e
   where
-    go : (t : Bool) → cond t (Is (stage_along s late k p b a)) (Refused 48) ≡ Refused number → (number ≡ 47) ⊎ (number ≡ 48)
+    go : (t : Bool) → cond t (Ok (stage_along s late k p b a)) (Err NotBoardable) ≡ Err refusal → (refusal ≡ CallNotListed) ⊎ (refusal ≡ NotBoardable)
     go true e = apart (cc)
     go false e = inr (cc)
 
 module _ (v : View) (p : Part) where
   by-run : (k : ℕ) (x : RunFound) → ByWalk (rows_along v x) (stage_by k p x)
-  by-run k (no_run number) = refl
+  by-run k (no_run refusal) = refl
   by-run k at_rest = refl
-  by-run k (a_run x) = λ number e. between-by x.service x.late k p (row_call x p.board) (row_call x p.alight) number e
+  by-run k (a_run x) = λ refusal e. between-by x.service x.late k p (row_call x p.board) (row_call x p.alight) refusal e
 
-  by-date : (t : Dated) → ByWalk (rows_along v (dated_run v p.service p.repeat t)) (stage_dated v p t)
-  by-date (undated number) = refl
-  by-date (dated k) = by-run k (run_of v p.service p.repeat k)
+  by-date : (t : Result ℕ Refusal) → ByWalk (rows_along v (dated_run v p.service p.repeat t)) (stage_dated v p t)
+  by-date (Err refusal) = refl
+  by-date (Ok k) = by-run k (run_of v p.service p.repeat k)
 
   pub part-by-walk : ByWalk (journey v p.service p.repeat p.day p.month p.year) (stage_of v p)
   unfolding journey stage_of

@@ -1,12 +1,12 @@
 -- What it means that a connection holds, in the words of document 02, No. 12, with no order of tests: `IsConnection`, of the words proposed
 -- `Proposed`. Proved in proofs/Accepts.antt: `accepts-exactly` (it is answered "holds" exactly if the words are `Proposed`) and `names-first` (else 46, which names 0, or
 -- the part named is the first that does not go on). Assumes nothing.
-use Rattle.std.specs.Prelude.{ℕ, ◌+◌, ◌-◌, ◌*◌, ◌/◌, ◌%◌, ◌≤◌, ◌<◌, ◌≡◌, List, [], ◌∷◌, true, length, take}
+use Rattle.std.specs.Prelude.{ℕ, ◌+◌, ◌-◌, ◌*◌, ◌/◌, ◌%◌, ◌≤◌, ◌<◌, ◌≡◌, List, [], ◌∷◌, true, length, take, Ok}
 use Rattle.std.proofs.Math.Option.{some}
 use Rattle.std.proofs.Math.ListN.{get_elem?}
 use Rattle.timetable.specs.View.{View}
 use Rattle.timetable.specs.Run.{category_on, Run, a_run, run_of}
-use Rattle.timetable.specs.Questions.{dated, date_of, minutes_for}
+use Rattle.timetable.specs.Questions.{date_of, minutes_for}
 use Rattle.timetable.specs.declared.Call.{Call}
 use Rattle.connections.specs.declared.Part.{Part}
 use Rattle.connections.specs.declared.Stage.{Stage}
@@ -17,7 +17,7 @@ pub record IsStage (v : View) (p : Part) (s : Stage) : Type 0 where
   -- that day, a day of the period; the service's run that day, which has rows
   pub k : ℕ
   pub run : Run
-  pub on_day : date_of v p.day p.month p.year ≡ dated k
+  pub on_day : date_of v p.day p.month p.year ≡ Ok k
   pub runs : run_of v p.service p.repeat k ≡ a_run run
   -- the calls where it boards and alights, both among the rows, in this order
   pub boarding : Call

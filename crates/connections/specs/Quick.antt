@@ -2,8 +2,7 @@
 use Rattle.std.specs.Prelude.{ℕ, List}
 use Rattle.timetable.specs.View.{View}
 use Rattle.index.specs.Quick.{quickly}
-use Rattle.connections.specs.declared.ConnectionAnswer.{ConnectionAnswer}
-use Rattle.connections.specs.Connection.{connection_in, no_connection}
+use Rattle.connections.specs.Connection.{ConnectionAnswer, connection_in, no_connection}
 
 unfoldable pub connection_quick : List ℕ → List ℕ → List ℕ → ConnectionAnswer
 connection_quick w x ws = quickly no_connection (λ (v : View). connection_in v ws) w x

@@ -9,16 +9,14 @@ ghost use Rattle.timetable.specs.Run.{category_on, a_run, run_of};
 ghost use Rattle.timetable.specs.Runs.{has_run};
 ghost use Rattle.index.specs.Index.{view_in};
 ghost use Rattle.index.specs.Inner.Ready.{Ready};
-ghost use Rattle.connections.specs.Inner.Stages.{run_in, call_in, stage_in, stage_ridden, stage_calls, change_number};
+ghost use Rattle.connections.specs.Inner.Stages.{run_in, call_in, stage_in, stage_ridden, stage_calls, change_answer};
 ghost use Rattle.connections.specs.Connection.{part_size, part_at, parts_of, whole_parts, moment, stage_by, stage_of};
 ghost use Rattle.connections.specs.Connection.{change_to, changed_to, parts_after, parts_hold, connection_in};
-ghost use Rattle.connections.specs.Connection.{connection_asked};
+ghost use Rattle.connections.specs.Connection.{connection_asked, connection_refusal};
 ghost use Rattle.connections.specs.Quick.{connection_quick};
 
 use course::rows;
-use index::ServiceRecord;
-use lookups::PeriodDay;
-use timetable::{Call, Course, NO_ALIGHTING, NO_BOARDING};
+use timetable::{Call, NO_ALIGHTING, NO_BOARDING, Refusal};
 
 // A part: a run by its service, its repeat and its date, and the calls where it is boarded and left, counted from 0 along the route.
 #[derive(Clone, Copy)]
@@ -44,18 +42,20 @@ pub struct Stage {
     pub arriving: u32,
 }
 
-// A stage, or the number of the refusal.
+// Why a connection does not hold, and the first bad part, counted from 1 (0 for 21 and 46, and for 43 of the index as a whole).
 #[derive(Clone, Copy)]
-pub enum Staged {
-    Is(Stage),
-    Refused(u32),
+pub struct ConnectionRefusal {
+    pub refusal: Refusal,
+    pub part: u32,
 }
 
-// That a connection holds, or the refusal and the first bad part, counted from 1 (0 for 21 and 46, and for 43 of the index as a whole).
-#[derive(Clone, Copy)]
-pub enum ConnectionAnswer {
-    Holds,
-    Refused { number: u32, part: u32 },
+// Of no part.
+impl From<Refusal> for ConnectionRefusal {
+    ghost from_gives = { λ r c. c ≡ connection_refusal r 0 };
+
+    fn from(refusal: Refusal) -> ConnectionRefusal {
+        ConnectionRefusal { refusal, part: 0 }
+    }
 }
 
 // The words of a part.
@@ -69,175 +69,151 @@ const DAY_MINUTES: u32 = 1440;
 // ---- the connection
 
 // Whether a proposed connection holds, on any words: 21, 46, then part by part.
-pub fn connection(w: &[u32], parts: &[u32]) -> ConnectionAnswer
+pub fn connection(w: &[u32], parts: &[u32]) -> Result<(), ConnectionRefusal>
     ensures { result ≡ connection_asked w.now parts.now }
 {
     if !table::is_table(w) {
-        return ConnectionAnswer::Refused {
-            number: 21,
-            part: 0,
-        };
+        return Err(ConnectionRefusal::from(Refusal::NoTable));
     }
     connection_by(table::used_words(w), &w[0..0], parts)
 }
 
 // The same on any words with any words lent as their index: 21, 43 (both name 0), 46, then part by part; 43 of a service's record names the part.
-pub fn quick_connection(w: &[u32], x: &[u32], parts: &[u32]) -> ConnectionAnswer
+pub fn quick_connection(w: &[u32], x: &[u32], parts: &[u32]) -> Result<(), ConnectionRefusal>
     ensures { result ≡ connection_quick w.now x.now parts.now }
 {
-    let number = index::quick_refusal(w, x.len());
-    if number != 0 {
-        return ConnectionAnswer::Refused { number, part: 0 };
-    }
+    index::quick_refusal(w, x.len())?;
     let u = index::headed_words(w);
     connection_by(u, index::lookup_words(u, x), parts)
 }
 
 // Whether the parts proposed hold: 46 not 1 to 10 whole parts, then part by part.
-pub fn connection_by(w: &[u32], x: &[u32], parts: &[u32]) -> ConnectionAnswer
+pub fn connection_by(w: &[u32], x: &[u32], parts: &[u32]) -> Result<(), ConnectionRefusal>
     requires { Ready w.now x.now }
     ensures { result ≡ connection_in (view_in w.now x.now) parts.now }
 {
     if !whole_parts(parts.len()) {
-        return ConnectionAnswer::Refused {
-            number: 46,
-            part: 0,
-        };
+        return Err(ConnectionRefusal::from(Refusal::PartsNotWhole));
     }
     parts_hold(w, x, parts)
 }
 
 // The first part, then the others.
-fn parts_hold(w: &[u32], x: &[u32], parts: &[u32]) -> ConnectionAnswer
+fn parts_hold(w: &[u32], x: &[u32], parts: &[u32]) -> Result<(), ConnectionRefusal>
     requires ready { Ready w.now x.now }
     requires parts_value { whole_parts (length parts.now) ≡ true }
     ensures { result ≡ parts_hold (view_in w.now x.now) (parts_of parts.now) }
 {
-    let first = stage_of(w, x, part_at(parts, 0));
-    match first {
-        Staged::Refused(number) => ConnectionAnswer::Refused { number, part: 1 },
-        Staged::Is(stage) => parts_after(w, x, parts, stage),
+    match stage_of(w, x, part_at(parts, 0)) {
+        Err(refusal) => Err(ConnectionRefusal { refusal, part: 1 }),
+        Ok(stage) => parts_after(w, x, parts, stage),
     }
 }
 
 // The parts from the second on, after the stage of the first.
-fn parts_after(w: &[u32], x: &[u32], parts: &[u32], first: Stage) -> ConnectionAnswer
+fn parts_after(w: &[u32], x: &[u32], parts: &[u32], first: Stage) -> Result<(), ConnectionRefusal>
     requires ready { Ready w.now x.now }
     requires parts_value { whole_parts (length parts.now) ≡ true }
     ensures { result ≡
         parts_after (view_in w.now x.now) first 2 (parts_of (drop part_size parts.now)) }
 {
     let mut before = first;
-    let mut passed: u32 = 1;
-    let mut at = PART_WORDS;
-    while at < parts.len() {
-        let next = next_stage(w, x, before, part_at(parts, at));
-        match next {
-            Staged::Refused(number) => {
-                return ConnectionAnswer::Refused {
-                    number,
-                    part: passed + 1,
-                };
+    for passed in 1..parts.len() / PART_WORDS {
+        match next_stage(w, x, before, part_at(parts, PART_WORDS * passed)) {
+            Err(refusal) => {
+                return Err(ConnectionRefusal {
+                    refusal,
+                    part: passed as u32 + 1,
+                });
             }
-            Staged::Is(stage) => {
-                before = stage;
-                passed += 1;
-                at += PART_WORDS;
-            }
+            Ok(stage) => before = stage,
         }
     }
-    ConnectionAnswer::Holds
+    Ok(())
 }
 
 // The stage of the next part, after a change.
-fn next_stage(w: &[u32], x: &[u32], before: Stage, part: Part) -> Staged
+fn next_stage(w: &[u32], x: &[u32], before: Stage, part: Part) -> Result<Stage, Refusal>
     requires { Ready w.now x.now }
     ensures { result ≡ changed_to (view_in w.now x.now) before
         (stage_of (view_in w.now x.now) part) }
 {
-    let next = stage_of(w, x, part);
-    match next {
-        Staged::Refused(number) => Staged::Refused(number),
-        Staged::Is(stage) => change_to(w, x, before, stage),
-    }
+    change_to(w, x, before, stage_of(w, x, part)?)
 }
 
 // ---- a change
 
 // The next stage, where a change to it is right.
-fn change_to(w: &[u32], x: &[u32], before: Stage, next: Stage) -> Staged
+fn change_to(w: &[u32], x: &[u32], before: Stage, next: Stage) -> Result<Stage, Refusal>
     requires { Ready w.now x.now }
     ensures { result ≡ change_to (view_in w.now x.now) before next }
 {
     let listed = questions::both_listed(w, x, before.arriving, next.departing);
     let minutes = questions::minutes_between(w, x, next.from, before.arriving, next.departing);
     let long = waits(before.arrives, minutes, next.departs);
-    let number = change_refusal(before.to == next.from, listed, long);
-    if number != 0 {
-        return Staged::Refused(number);
-    }
-    Staged::Is(next)
+    change_refusal(before.to == next.from, listed, long)?;
+    Ok(next)
 }
 
-// What a change is refused for: 49 other stop, 38 a category not listed, 50 wait too short; 0 for nothing.
-fn change_refusal(same: bool, listed: bool, long: bool) -> u32
-    ensures { result ≡ change_number same listed long }
+// What a change is refused for: 49 other stop, 38 a category not listed, 50 wait too short.
+fn change_refusal(same: bool, listed: bool, long: bool) -> Result<(), Refusal>
+    ensures { result ≡ change_answer same listed long }
 {
     if !same {
-        return 49;
+        return Err(Refusal::OtherStop);
     }
     if !listed {
-        return 38;
+        return Err(Refusal::CategoryUnlisted);
     }
     if !long {
-        return 50;
+        return Err(Refusal::WaitTooShort);
     }
-    0
+    Ok(())
 }
 
 // ---- a stage
 
 // The stage of a part: the walk's own refusals but 29, 47 not among the rows, 48 order or permission.
-fn stage_of(w: &[u32], x: &[u32], part: Part) -> Staged
+fn stage_of(w: &[u32], x: &[u32], part: Part) -> Result<Stage, Refusal>
     requires { Ready w.now x.now }
     ensures { result ≡ stage_of (view_in w.now x.now) part }
 {
-    let on = index::dated(w, x, part.day, part.month, part.year);
-    match on {
-        PeriodDay::Refused(number) => Staged::Refused(number),
-        PeriodDay::On(k) => stage_on(w, x, part, k),
-    }
+    let k = index::dated(w, x, part.day, part.month, part.year)?;
+    stage_on(w, x, part, k)
 }
 
 // On day k of the period: 24 service index not below V.
-fn stage_on(w: &[u32], x: &[u32], part: Part, k: u32) -> Staged
+fn stage_on(w: &[u32], x: &[u32], part: Part, k: u32) -> Result<Stage, Refusal>
     requires { Ready w.now x.now × (k < most_period_days) }
     ensures { result ≡
         stage_by k part (run_of (view_in w.now x.now) part.service part.repeat k) }
 {
-    let record = index::service_record(w, x, part.service);
-    match record {
-        ServiceRecord::Refused(number) => Staged::Refused(number),
-        ServiceRecord::From(p) => stage_in(w, x, index::words_from(w, p), part, k),
-    }
+    let p = index::service_record(w, x, part.service)?;
+    stage_in(w, x, index::words_from(w, p), part, k)
 }
 
 // Of the service at the front of `s`: what its course is refused for, and 47 on a day without a run.
-fn stage_in(w: &[u32], x: &[u32], s: &[u32], part: Part, k: u32) -> Staged
+fn stage_in(w: &[u32], x: &[u32], s: &[u32], part: Part, k: u32) -> Result<Stage, Refusal>
     requires ready { Ready w.now x.now × (k < most_period_days) }
     requires s_value { record_sound (stops# w.now) s.now ≡ true }
     ensures { result ≡ stage_in (view_in w.now x.now) s.now part k }
 {
-    let course = course::service_course(w, x, s, part.repeat, k);
-    match course {
-        Course::Refused(number) => Staged::Refused(number),
-        Course::NotRunning => Staged::Refused(47),
-        Course::Along { start, legs } => stage_along(w, x, s, part, k, start, legs),
+    match course::service_course(w, x, s, part.repeat, k)? {
+        None => Err(Refusal::CallNotListed), // at rest
+        Some(along) => stage_along(w, x, s, part, k, along.start, along.legs),
     }
 }
 
 // Along the stretch from call `start` on with so many legs: 47 not among the rows, 48 order or permission.
-fn stage_along(w: &[u32], x: &[u32], s: &[u32], part: Part, k: u32, start: u32, legs: u32) -> Staged
+fn stage_along(
+    w: &[u32],
+    x: &[u32],
+    s: &[u32],
+    part: Part,
+    k: u32,
+    start: u32,
+    legs: u32,
+) -> Result<Stage, Refusal>
     requires ready { Ready w.now x.now × (k < most_period_days) }
     requires s_value { record_sound (stops# w.now) s.now ≡ true }
     requires legs_bound { (start + legs < calls# s.now) × (has_run (opening_at s.now) part.repeat ≡ true) }
@@ -245,13 +221,13 @@ fn stage_along(w: &[u32], x: &[u32], s: &[u32], part: Part, k: u32, start: u32, 
         (run_in (view_in w.now x.now) s.now part.repeat start legs)) }
 {
     if !both_in_rows(start, legs, part.board, part.alight) {
-        return Staged::Refused(47);
+        return Err(Refusal::CallNotListed);
     }
     stage_ridden(w, x, s, part, k)
 }
 
 // Of two calls that are among the rows.
-fn stage_ridden(w: &[u32], x: &[u32], s: &[u32], part: Part, k: u32) -> Staged
+fn stage_ridden(w: &[u32], x: &[u32], s: &[u32], part: Part, k: u32) -> Result<Stage, Refusal>
     requires ready { Ready w.now x.now × (k < most_period_days) }
     requires s_value { record_sound (stops# w.now) s.now ≡ true }
     requires board_bound { (part.board < calls# s.now) × (part.alight < calls# s.now)
@@ -261,9 +237,9 @@ fn stage_ridden(w: &[u32], x: &[u32], s: &[u32], part: Part, k: u32) -> Staged
     let boarding = rows::call_of(s, part.board);
     let alighting = rows::call_of(s, part.alight);
     if !may_ride(part.board, part.alight, boarding.flags, alighting.flags) {
-        return Staged::Refused(48);
+        return Err(Refusal::NotBoardable);
     }
-    Staged::Is(stage_between(w, x, s, part, k, boarding, alighting))
+    Ok(stage_between(w, x, s, part, k, boarding, alighting))
 }
 
 // From the call where it boards to the call where it alights.

@@ -11,15 +11,13 @@ ghost use Rattle.timetable.specs.Run.{leg_refusal, first_refusal};
 ghost use Rattle.index.specs.Index.{view_in};
 ghost use Rattle.index.specs.Inner.Ready.{Ready};
 ghost use Rattle.course.specs.Inner.Run.{noted, range_known, range_runs, gap};
-ghost use Rattle.course.specs.Inner.Turn.{no_legs, unknown_legs, with_operated, with_idle, with_range, ranges_say};
+ghost use Rattle.course.specs.Inner.Turn.{no_legs, with_operated, with_idle, with_range, ranges_say};
 
-use timetable::{DAYS_AT, DAYS_WORDS, DayWords};
+use timetable::{DAYS_AT, DAYS_WORDS, DayWords, Refusal};
 
-// The operated legs of a day: where the first stretch of them begins and ends, and where another begins; all three are the end where there is none. Not `known`: a
-// range has an unknown bit field, and the others say nothing.
+// The operated legs of a day: where the first stretch of them begins and ends, and where another begins; all three are the end where there is none.
 #[derive(Clone, Copy)]
 pub struct DayLegs {
-    pub known: bool,
     pub start: u32,
     pub end: u32,
     pub again: u32,
@@ -27,27 +25,25 @@ pub struct DayLegs {
 
 // ---- range by range
 
-// What n ranges that follow each other from leg 0 on say of day k of the period. Their words are read here: handed on to a reader, `v` would be handed to this function
+// What n ranges that follow each other from leg 0 on say of day k of the period: 31 where one has an unknown bit field. Their words are read here: handed on to a reader, `v` would be handed to this function
 // in memory.
-pub fn day_legs(w: &[u32], x: &[u32], v: &[u32], n: u32, k: u32) -> DayLegs
+pub fn day_legs(w: &[u32], x: &[u32], v: &[u32], n: u32, k: u32) -> Result<DayLegs, Refusal>
     requires ready { Ready w.now x.now × (k < most_period_days) }
     requires day_size_in_bounds { n * day_size ≤ length v.now }
     ensures { result ≡
         ranges_say (view_in w.now x.now) k no_legs (rows_in day_at day_size n v.now) }
 {
     let mut p: usize = 0;
-    let mut left = n;
     let mut seen = no_legs();
-    while 0 < left {
+    for i in 0..n {
         let field = index::field_day(w, x, v[p], k);
         if !field.known {
-            return unknown_legs();
+            return Err(Refusal::LegFieldUnknown);
         }
         seen = with_range(seen, v[p + 1], v[p + 2], field.runs);
         p += DAYS_WORDS;
-        left -= 1;
     }
-    seen
+    Ok(seen)
 }
 
 // The legs so far, which end at `from`, with those from there to `to`, which are all operated or all not.
@@ -68,7 +64,6 @@ fn with_operated(seen: DayLegs, from: u32, to: u32) -> DayLegs
         return seen;
     }
     DayLegs {
-        known: true,
         start: seen.start,
         end: to,
         again: to,
@@ -81,7 +76,6 @@ fn with_idle(seen: DayLegs, from: u32, to: u32) -> DayLegs
 {
     if seen.start == from {
         return DayLegs {
-            known: true,
             start: to,
             end: to,
             again: to,
@@ -91,7 +85,6 @@ fn with_idle(seen: DayLegs, from: u32, to: u32) -> DayLegs
         return seen;
     }
     DayLegs {
-        known: true,
         start: seen.start,
         end: seen.end,
         again: to,
@@ -102,18 +95,6 @@ fn no_legs() -> DayLegs
     ensures { result ≡ no_legs }
 {
     DayLegs {
-        known: true,
-        start: 0,
-        end: 0,
-        again: 0,
-    }
-}
-
-fn unknown_legs() -> DayLegs
-    ensures { result ≡ unknown_legs }
-{
-    DayLegs {
-        known: false,
         start: 0,
         end: 0,
         again: 0,
@@ -122,26 +103,21 @@ fn unknown_legs() -> DayLegs
 
 // ---- 34 and 31
 
-// What the first refused one of the legs is refused for; 0 for none.
-pub fn legs_refusal(w: &[u32], x: &[u32], s: &[u32], legs: u32) -> u32
+// What the first refused one of the legs is refused for.
+pub fn legs_refusal(w: &[u32], x: &[u32], s: &[u32], legs: u32) -> Result<(), Refusal>
     requires ready { Ready w.now x.now }
     requires s_value { sizes_sound s.now ≡ true }
     ensures { noted result ≡ first_refusal
         (leg_refusal (view_in w.now x.now) (service_at s.now)) (below legs) }
 {
-    let mut leg: u32 = 0;
-    while leg < legs {
-        let number = leg_refusal(w, x, s, leg);
-        if number != 0 {
-            return number;
-        }
-        leg += 1;
+    for leg in 0..legs {
+        leg_refusal(w, x, s, leg)?;
     }
-    0
+    Ok(())
 }
 
-// What a leg is refused for: 34 not exactly one *A VE, 31 its bit field unknown; 0 for nothing.
-fn leg_refusal(w: &[u32], x: &[u32], s: &[u32], leg: u32) -> u32
+// What a leg is refused for: 34 not exactly one *A VE, 31 its bit field unknown.
+fn leg_refusal(w: &[u32], x: &[u32], s: &[u32], leg: u32) -> Result<(), Refusal>
     requires ready { Ready w.now x.now }
     requires s_value { sizes_sound s.now ≡ true }
     ensures { noted result ≡
@@ -150,12 +126,12 @@ fn leg_refusal(w: &[u32], x: &[u32], s: &[u32], leg: u32) -> u32
     let v = day_words(s);
     let n = s[DAYS_AT];
     if !cover::covered_once(v, n, DAYS_WORDS, leg) {
-        return 34;
+        return Err(Refusal::LegDaysNotOnce);
     }
     if !ranges_known(w, x, v, n, leg) {
-        return 31;
+        return Err(Refusal::LegFieldUnknown);
     }
-    0
+    Ok(())
 }
 
 // Whether the ranges among n that cover a leg have known bit fields.
@@ -166,13 +142,11 @@ fn ranges_known(w: &[u32], x: &[u32], v: &[u32], n: u32, leg: u32) -> bool
         every (range_known (view_in w.now x.now) leg) (rows_in day_at day_size n v.now) }
 {
     let mut p: usize = 0;
-    let mut left = n;
-    while 0 < left {
+    for i in 0..n {
         if !range_known(w, x, timetable::day_at(v, p), leg) {
             return false;
         }
         p += DAYS_WORDS;
-        left -= 1;
     }
     true
 }
@@ -203,6 +177,7 @@ pub fn next_leg(w: &[u32], x: &[u32], s: &[u32], k: u32, from: u32, legs: u32, o
         (upto (legs - from) from)) }
 {
     let mut leg = from;
+    // Kept: (d) where no leg is left the answer is `from`, and not `legs`: a `for` would need a test of its own for that.
     while leg < legs {
         if leg_runs(w, x, s, leg, k) == on {
             return leg;
@@ -230,13 +205,11 @@ fn ranges_run(w: &[u32], x: &[u32], v: &[u32], n: u32, leg: u32, k: u32) -> bool
         (rows_in day_at day_size n v.now) }
 {
     let mut p: usize = 0;
-    let mut left = n;
-    while 0 < left {
+    for i in 0..n {
         if range_runs(w, x, timetable::day_at(v, p), leg, k) {
             return true;
         }
         p += DAYS_WORDS;
-        left -= 1;
     }
     false
 }

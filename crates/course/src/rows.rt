@@ -15,10 +15,9 @@ ghost use Rattle.course.specs.Inner.Run.{noted};
 ghost use Rattle.course.specs.Inner.Rows.{times_fine, time_fine, times_stand, later_stand, row_for, walk_row_words};
 ghost use Rattle.course.specs.Inner.Rows.{calls_from, call_shown, calls_shown, service_shown};
 
-use cover::FirstRange;
 use timetable::{
     CALL_WORDS, CALLS_AT, CATEGORIES_AT, CATEGORY_WORDS, Call, DEPARTURE, NO_ALIGHTING,
-    NO_BOARDING, ROW_WORDS, SERVICE_WORDS,
+    NO_BOARDING, ROW_WORDS, Refusal, SERVICE_WORDS,
 };
 
 // A row of a walk.
@@ -38,9 +37,9 @@ pub struct WalkRow {
 
 // ---- 36 and 33
 
-// What the first refused call of the stretch is refused for; 0 for none. Where the *G follow each other each leg has exactly one, and where the times stand, looked at
+// What the first refused call of the stretch is refused for. Where the *G follow each other each leg has exactly one, and where the times stand, looked at
 // together, there is none; else call by call.
-pub fn calls_refusal(s: &[u32], start: u32, legs: u32) -> u32
+pub fn calls_refusal(s: &[u32], start: u32, legs: u32) -> Result<(), Refusal>
     requires s_value { sizes_sound s.now ≡ true }
     requires legs_bound { start + legs < calls# s.now }
     ensures { noted result ≡
@@ -53,11 +52,11 @@ pub fn calls_refusal(s: &[u32], start: u32, legs: u32) -> u32
     if !times_stand(s, start, legs) {
         return first_refusal(s, start, legs);
     }
-    0
+    Ok(())
 }
 
 // Call by call, its times and its leaving leg.
-fn first_refusal(s: &[u32], start: u32, legs: u32) -> u32
+fn first_refusal(s: &[u32], start: u32, legs: u32) -> Result<(), Refusal>
     requires s_value { sizes_sound s.now ≡ true }
     requires legs_bound { start + legs < calls# s.now }
     ensures { noted result ≡
@@ -67,32 +66,36 @@ fn first_refusal(s: &[u32], start: u32, legs: u32) -> u32
     let mut before: u32 = 0;
     while i <= legs {
         let call = call_of(s, start + i);
-        let number = call_refusal(s, start, legs, i, before, call);
-        if number != 0 {
-            return number;
-        }
+        call_refusal(s, start, legs, i, before, call)?;
         before = needed_last(legs, i, call);
         i += 1;
     }
-    0
+    Ok(())
 }
 
-// What a call is refused for: 36 a needed time, 33 its leaving leg without exactly one *G; 0 for nothing.
-fn call_refusal(s: &[u32], start: u32, legs: u32, i: u32, before: u32, call: Call) -> u32
+// What a call is refused for: 36 a needed time, 33 its leaving leg without exactly one *G.
+fn call_refusal(
+    s: &[u32],
+    start: u32,
+    legs: u32,
+    i: u32,
+    before: u32,
+    call: Call,
+) -> Result<(), Refusal>
     requires s_value { sizes_sound s.now ≡ true }
     requires legs_bound { (start + legs < calls# s.now) × (i ≤ legs) }
     ensures { noted result ≡ call_refusal (service_at s.now) start legs i before call }
 {
     if !times_needed(legs, i, before, call) {
-        return 36;
+        return Err(Refusal::TimeNeeded);
     }
     if legs <= i {
-        return 0;
+        return Ok(());
     }
     if !category_once(s, start + i) {
-        return 33;
+        return Err(Refusal::LegCategoryNotOnce);
     }
-    0
+    Ok(())
 }
 
 // Whether the times that a call needs are stated, and not below the needed one before.
@@ -262,9 +265,9 @@ fn put_row(t: &mut [u32], at: usize, row: WalkRow)
     requires { at + row_size ≤ length t.old }
     ensures { t.new ≡ write t.old at (walk_row_words row) }
 {
-    words::put4(t, at, row.stop, row.arrival, row.departure, row.flags);
-    words::put3(t, at + 4, row.number, row.high, row.low);
-    words::put3(t, at + 7, row.category, row.first, row.second);
+    words::put(t, at, [row.stop, row.arrival, row.departure, row.flags]);
+    words::put(t, at + 4, [row.number, row.high, row.low]);
+    words::put(t, at + 7, [row.category, row.first, row.second]);
 }
 
 // The row of a call: its stop by its number, "Rows still show the number."
@@ -356,8 +359,7 @@ pub fn category_on(s: &[u32], leg: u32) -> u32
     ensures { result ≡ category_on (service_at s.now) leg }
 {
     let g = category_words(s);
-    let first = cover::covering_place(g, s[CATEGORIES_AT], CATEGORY_WORDS, leg);
-    let FirstRange::At(p) = first else {
+    let Some(p) = cover::covering_place(g, s[CATEGORIES_AT], CATEGORY_WORDS, leg) else {
         return 0;
     };
     let range = timetable::category_at(g, p);

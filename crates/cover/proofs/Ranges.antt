@@ -15,8 +15,7 @@ use Rattle.timetable.specs.Table.{rows_in, legs_at}
 use Rattle.timetable.specs.Inner.Words.{legs_read, legs_held}
 use Rattle.timetable.specs.declared.LegWords.{LegWords}
 use Rattle.timetable.proofs.Rows.{room-start, room-now, room_fits, room_next, rows_left}
-use Rattle.cover.specs.declared.FirstRange.{FirstRange}
-use Rattle.cover.specs.declared.FirstRange.TheVariants.{At, Nowhere}
+use Rattle.std.specs.Prelude.{Option, Some, None}
 use Rattle.cover.specs.Inner.Cover.{legs_in, cover_place_from}
 
 -- ---- a range is read where it stands
@@ -52,24 +51,24 @@ count-done leg width (suc left) at count r w h v = absurd (omega arith)
 
 -- ---- where the first stands that covers a leg
 
-place-next : (leg width left at : ℕ) (w : List ℕ) → 0 < left → cover_place_from leg width at left (drop at w) ≡ cond (covers leg (legs_at (width - 2) (drop at w))) (At at) (cover_place_from leg width (at + width) (left - 1) (drop (at + width) w))
+place-next : (leg width left at : ℕ) (w : List ℕ) → 0 < left → cover_place_from leg width at left (drop at w) ≡ cond (covers leg (legs_at (width - 2) (drop at w))) (Some at) (cover_place_from leg width (at + width) (left - 1) (drop (at + width) w))
 unfolding cover_place_from
 place-next leg width zero at w h = absurd (omega arith)
 place-next leg width (suc m) at w h =
     let e : suc m - 1 ≡ m = omega arith in
     rw (e, ← (drop-drop width at w)) refl
 
-module _ (leg width left at : ℕ) (r : FirstRange) (w : List ℕ) (t : Bool) (h : 0 < left) (e : t ≡ covers leg (legs_at (width - 2) (drop at w))) (v : cover_place_from leg width at left (drop at w) ≡ r) where
-  place-by-test : cond t (At at) (cover_place_from leg width (at + width) (left - 1) (drop (at + width) w)) ≡ r
-  place-by-test = ap (λ (x : Bool). cond x (At at) (cover_place_from leg width (at + width) (left - 1) (drop (at + width) w))) e ∙ sym (place-next leg width left at w h) ∙ v
+module _ (leg width left at : ℕ) (r : Option ℕ) (w : List ℕ) (t : Bool) (h : 0 < left) (e : t ≡ covers leg (legs_at (width - 2) (drop at w))) (v : cover_place_from leg width at left (drop at w) ≡ r) where
+  place-by-test : cond t (Some at) (cover_place_from leg width (at + width) (left - 1) (drop (at + width) w)) ≡ r
+  place-by-test = ap (λ (x : Bool). cond x (Some at) (cover_place_from leg width (at + width) (left - 1) (drop (at + width) w))) e ∙ sym (place-next leg width left at w h) ∙ v
 
   pub place-again : t ≡ false → cover_place_from leg width (at + width) (left - 1) (drop (at + width) w) ≡ r
-  place-again k = ap (λ (x : Bool). cond x (At at) (cover_place_from leg width (at + width) (left - 1) (drop (at + width) w))) (sym k) ∙ place-by-test
+  place-again k = ap (λ (x : Bool). cond x (Some at) (cover_place_from leg width (at + width) (left - 1) (drop (at + width) w))) (sym k) ∙ place-by-test
 
-  pub place_out : t ≡ true → At at ≡ r
-  place_out k = ap (λ (x : Bool). cond x (At at) (cover_place_from leg width (at + width) (left - 1) (drop (at + width) w))) (sym k) ∙ place-by-test
+  pub place_out : t ≡ true → Some at ≡ r
+  place_out k = ap (λ (x : Bool). cond x (Some at) (cover_place_from leg width (at + width) (left - 1) (drop (at + width) w))) (sym k) ∙ place-by-test
 
-pub place-done : (leg width left at : ℕ) (r : FirstRange) (w : List ℕ) → left ≤ 0 → cover_place_from leg width at left (drop at w) ≡ r → Nowhere ≡ r
+pub place-done : (leg width left at : ℕ) (r : Option ℕ) (w : List ℕ) → left ≤ 0 → cover_place_from leg width at left (drop at w) ≡ r → None ≡ r
 unfolding cover_place_from
 place-done leg width zero at r w h v = v
 place-done leg width (suc left) at r w h v = absurd (omega arith)

@@ -16,8 +16,7 @@ use Rattle.timetable.specs.Delivery.{Legs, CategoryRange, DayRange}
 use Rattle.timetable.specs.Legs.{covers, covering}
 use Rattle.timetable.specs.Checks.{each_once}
 use Rattle.timetable.specs.Table.{rows_in, legs_at, category_at, day_at}
-use Rattle.cover.specs.declared.FirstRange.{FirstRange}
-use Rattle.cover.specs.declared.FirstRange.TheVariants.{At, Nowhere}
+use Rattle.std.specs.Prelude.{Option as StdOption, Some, None}
 use Rattle.cover.specs.Inner.Cover.{legs_in, once_in, cover_place_from}
 
 -- ---- rows of any kind whose legs are their last two words
@@ -32,9 +31,9 @@ module _ {X : Type 0} (f : List ℕ → X) (legs : X → Legs) (width : ℕ) (e 
   once-rows n count w = ap (λ (t : ℕ → Bool). every t (below count)) (fun_ext (λ k. ap (λ (m : ℕ). eqb m 1) (covering-rows k n w)))
 
   -- the row at a place
-  abbrev pub row_at : List ℕ → FirstRange → Option X
-  row_at w (At p) = some (f (drop p w))
-  row_at w Nowhere = none
+  abbrev pub row_at : List ℕ → StdOption ℕ → Option X
+  row_at w (Some p) = some (f (drop p w))
+  row_at w None = none
 
   first-from : (leg at n : ℕ) (w : List ℕ) → find (λ (r : X). covers leg (legs r)) (rows_in f width n (drop at w)) ≡ row_at w (cover_place_from leg width at n (drop at w))
   unfolding find rows_in cover_place_from
@@ -44,7 +43,7 @@ module _ {X : Type 0} (f : List ℕ → X) (legs : X → Legs) (width : ℕ) (e 
       ∙ go (covers leg (legs_at (width - 2) (drop at w))) (rw (← (drop-drop width at w)) at (first-from leg (at + width) n w))
     where
       go : (t : Bool) → find (λ (r : X). covers leg (legs r)) (rows_in f width n (drop width (drop at w))) ≡ row_at w (cover_place_from leg width (at + width) n (drop width (drop at w))) →
-          cond t (some (f (drop at w))) (find (λ (r : X). covers leg (legs r)) (rows_in f width n (drop width (drop at w)))) ≡ row_at w (cond t (At at) (cover_place_from leg width (at + width) n (drop width (drop at w))))
+          cond t (some (f (drop at w))) (find (λ (r : X). covers leg (legs r)) (rows_in f width n (drop width (drop at w)))) ≡ row_at w (cond t (Some at) (cover_place_from leg width (at + width) n (drop width (drop at w))))
       go true ih = refl
       go false ih = ih
 
@@ -61,9 +60,9 @@ days-once n legs w = once-rows day_at (λ (r : DayRange). r.legs) day_size (λ v
 
 -- ---- the first range that covers a leg lies within the words
 
-abbrev Within : ℕ → ℕ → FirstRange → Type 0
-Within width l (At p) = p + width ≤ l
-Within width l Nowhere = Unit {0}
+abbrev Within : ℕ → ℕ → StdOption ℕ → Type 0
+Within width l (Some p) = p + width ≤ l
+Within width l None = Unit {0}
 
 place-within : (leg width at n : ℕ) (w : List ℕ) → Within width (at + n * width) (cover_place_from leg width at n w)
 unfolding cover_place_from
@@ -73,12 +72,12 @@ place-within leg width at (suc n) w = go (covers leg (legs_at (width - 2) w)) (p
     e : suc n * width ≡ n * width + width
     e = suc-mul n width
 
-    go : (t : Bool) → Within width (at + width + n * width) (cover_place_from leg width (at + width) n (drop width w)) → Within width (at + suc n * width) (cond t (At at) (cover_place_from leg width (at + width) n (drop width w)))
+    go : (t : Bool) → Within width (at + width + n * width) (cover_place_from leg width (at + width) n (drop width w)) → Within width (at + suc n * width) (cond t (Some at) (cover_place_from leg width (at + width) n (drop width w)))
     go true ih = omega (arith, e)
     go false ih =
         let q : at + width + n * width ≡ at + suc n * width = omega (arith, e) in
         subst (λ (l : ℕ). Within width l (cover_place_from leg width (at + width) n (drop width w))) q ih
 
 -- x is the place found
-pub place-fits : (leg width n p : ℕ) (x : FirstRange) (w : List ℕ) → x ≡ cover_place_from leg width 0 n w → x ≡ At p → p + width ≤ n * width
+pub place-fits : (leg width n p : ℕ) (x : StdOption ℕ) (w : List ℕ) → x ≡ cover_place_from leg width 0 n w → x ≡ Some p → p + width ≤ n * width
 place-fits leg width n p x w e k = omega (arith, subst (Within width (0 + n * width)) (sym e ∙ k) (place-within leg width 0 n w))

@@ -11,13 +11,6 @@ ghost use Rattle.cover.specs.Inner.Cover.{legs_in, once_in, cover_place_from, be
 
 use timetable::LegWords;
 
-// The place of the first range that covers a leg, or that none does.
-#[derive(Clone, Copy)]
-pub enum FirstRange {
-    At(usize),
-    Nowhere,
-}
-
 // ---- 17 and 18: legs covered exactly once
 
 // Whether each leg is covered by exactly one of n ranges.
@@ -26,11 +19,8 @@ pub fn each_once(w: &[u32], n: u32, width: usize, legs: u32) -> bool
     requires width_in_bounds { n * width ≤ length w.now }
     ensures { result ≡ every (once_in width n w.now) (below legs) }
 {
-    let mut leg: u32 = 0;
-    while leg < legs {
-        if covered_once(w, n, width, leg) {
-            leg += 1;
-        } else {
+    for leg in 0..legs {
+        if !covered_once(w, n, width, leg) {
             return false;
         }
     }
@@ -46,22 +36,23 @@ pub fn covered_once(w: &[u32], n: u32, width: usize, leg: u32) -> bool
     covering(w, n, width, leg) == 1
 }
 
-// Where the first of n ranges that covers a leg stands.
-pub fn covering_place(w: &[u32], n: u32, width: usize, leg: u32) -> FirstRange
+// Where the first of n ranges that covers a leg stands, if one does.
+pub fn covering_place(w: &[u32], n: u32, width: usize, leg: u32) -> Option<usize>
     requires le_width { 2 ≤ width }
     requires width_in_bounds { n * width ≤ length w.now }
     ensures { result ≡ cover_place_from leg width 0 n w.now }
 {
     let mut left = n;
     let mut at: usize = 0;
+    // Kept: (c) tried as `for _ in 0..n`: the laws of the rows left say `left` and `left - 1`, and the search did not find them at `n - counter`.
     while 0 < left {
         if covers_at(w, at, width, leg) {
-            return FirstRange::At(at);
+            return Some(at);
         }
         at += width;
         left -= 1;
     }
-    FirstRange::Nowhere
+    None
 }
 
 // How many of n ranges cover a leg.
@@ -73,6 +64,7 @@ fn covering(w: &[u32], n: u32, width: usize, leg: u32) -> u32
     let mut count: u32 = 0;
     let mut left = n;
     let mut at: usize = 0;
+    // Kept: (c) tried as `for _ in 0..n`: the laws of the rows left say `left` and `left - 1`, and the search did not find them at `n - counter`.
     while 0 < left {
         let here = covers_at(w, at, width, leg);
         at += width;
@@ -95,6 +87,7 @@ pub fn in_turn(w: &[u32], n: u32, width: usize, legs: u32) -> bool
     let mut left = n;
     let mut at: usize = 0;
     let mut leg: u32 = 0;
+    // Kept: (c) tried as `for _ in 0..n`: the laws of the rows left say `left` and `left - 1`, and the search did not find them at `n - counter`.
     while 0 < left {
         if !begins_at(w, at, width, leg) {
             return false;

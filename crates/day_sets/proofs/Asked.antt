@@ -1,4 +1,5 @@
 -- The needs of the functions on lent words and on fields by value: `fields` and `answers`. Assumes nothing.
+use Rattle.std.specs.Prelude.{Ok, Err}
 use mathlib.Core.Path.{◌≡◌, refl, sym, ap, ◌∙◌}
 use mathlib.Core.List.{List, append-nil}
 use mathlib.Core.Bool.{Bool, true, false, cond, not, ◌&&◌, ◌||◌}
@@ -12,12 +13,11 @@ use Rattle.base.proofs.Laws.{tests}
 use Rattle.base.proofs.Loops.{and-true}
 use Rattle.bitfield.specs.BitField.{bit_words, bit_count, bit, runs_on, framed}
 use Rattle.timetable.specs.Layout.{most_period_days}
+use Rattle.timetable.specs.declared.refusal.Refusal.TheVariants.{NoProperField}
 use Rattle.words.specs.Words.{write}
 use Rattle.words.proofs.Laws.{write-front}
 use Rattle.day_sets.specs.declared.Operation.{Operation}
 use Rattle.day_sets.specs.declared.Operation.TheVariants.{Union, Intersection, Difference}
-use Rattle.day_sets.specs.declared.SetAnswer.TheVariants.{Given, Refused}
-use Rattle.day_sets.specs.declared.CountAnswer.TheVariants.{Days, Refused as CountRefused}
 use Rattle.day_sets.specs.DaySets.{field_of, combined, complement, day_count, is_field, pair_taken, combine_asked, combine_written, one_taken, complement_asked, complement_written, count_asked}
 use Rattle.day_sets.proofs.Fields.{field-length, field-same}
 
@@ -110,7 +110,7 @@ all-written t' t r f e q l m =
 
 -- two fields and the words l lent for the result; x and y are what the code's tests said of the fields
 module _ (n : ℕ) (a b l : List ℕ) (x : Bool) (p : x ≡ is_field n a) where
-  pub first-refused : not x ≡ true → Refused 42 ≡ combine_asked n a b l
+  pub first-refused : not x ≡ true → Err NoProperField ≡ combine_asked n a b l
   unfolding combine_asked pair_taken
   first-refused k = rw (sym p ∙ not-true x k)
 
@@ -119,7 +119,7 @@ module _ (n : ℕ) (a b l : List ℕ) (x : Bool) (p : x ≡ is_field n a) where
   first-kept o k = rw (sym p ∙ not-true x k)
 
   module _ (h : not x ≡ false) (y : Bool) (q : y ≡ is_field n b) where
-    pub second-refused : not y ≡ true → Refused 42 ≡ combine_asked n a b l
+    pub second-refused : not y ≡ true → Err NoProperField ≡ combine_asked n a b l
     unfolding combine_asked pair_taken
     second-refused k = rw (sym p ∙ not-false x h, sym q ∙ not-true y k)
 
@@ -128,7 +128,7 @@ module _ (n : ℕ) (a b l : List ℕ) (x : Bool) (p : x ≡ is_field n a) where
     second-kept o k = rw (sym p ∙ not-false x h, sym q ∙ not-true y k)
 
     module _ (k : not y ≡ false) where
-      pub room-refused : (length l ≡ bit_words → ⊥) → Refused 42 ≡ combine_asked n a b l
+      pub room-refused : (length l ≡ bit_words → ⊥) → Err NoProperField ≡ combine_asked n a b l
       unfolding combine_asked pair_taken
       room-refused e = rw (sym p ∙ not-false x h, sym q ∙ not-false y k, ne_eqb (length l) bit_words e)
 
@@ -137,7 +137,7 @@ module _ (n : ℕ) (a b l : List ℕ) (x : Bool) (p : x ≡ is_field n a) where
       room-kept o e = rw (sym p ∙ not-false x h, sym q ∙ not-false y k, ne_eqb (length l) bit_words e)
 
       module _ (e : length l ≡ bit_words) where
-        pub combine-given : Given ≡ combine_asked n a b l
+        pub combine-given : Ok tt ≡ combine_asked n a b l
         unfolding combine_asked pair_taken
         combine-given = rw (sym p ∙ not-false x h, sym q ∙ not-false y k, eq-eqb (length l) bit_words e)
 
@@ -153,7 +153,7 @@ pub ruleset answers = (lent, first-refused, first-kept, second-refused, second-k
 -- ---- one field, for `search alone`
 
 module _ (n : ℕ) (a l : List ℕ) (x : Bool) (p : x ≡ is_field n a) where
-  pub alone-refused : not x ≡ true → Refused 42 ≡ complement_asked n a l
+  pub alone-refused : not x ≡ true → Err NoProperField ≡ complement_asked n a l
   unfolding complement_asked one_taken
   alone-refused k = rw (sym p ∙ not-true x k)
 
@@ -162,7 +162,7 @@ module _ (n : ℕ) (a l : List ℕ) (x : Bool) (p : x ≡ is_field n a) where
   alone-kept k = rw (sym p ∙ not-true x k)
 
   module _ (h : not x ≡ false) where
-    pub alone-room-refused : (length l ≡ bit_words → ⊥) → Refused 42 ≡ complement_asked n a l
+    pub alone-room-refused : (length l ≡ bit_words → ⊥) → Err NoProperField ≡ complement_asked n a l
     unfolding complement_asked one_taken
     alone-room-refused e = rw (sym p ∙ not-false x h, ne_eqb (length l) bit_words e)
 
@@ -171,7 +171,7 @@ module _ (n : ℕ) (a l : List ℕ) (x : Bool) (p : x ≡ is_field n a) where
     alone-room-kept e = rw (sym p ∙ not-false x h, ne_eqb (length l) bit_words e)
 
     module _ (e : length l ≡ bit_words) where
-      pub complement-given : Given ≡ complement_asked n a l
+      pub complement-given : Ok tt ≡ complement_asked n a l
       unfolding complement_asked one_taken
       complement-given = rw (sym p ∙ not-false x h, eq-eqb (length l) bit_words e)
 
@@ -182,11 +182,11 @@ module _ (n : ℕ) (a l : List ℕ) (x : Bool) (p : x ≡ is_field n a) where
           (all-written t l r (complement n a) w (rw u at c) e (field-length n _))
 
 module _ (n : ℕ) (a : List ℕ) (x : Bool) (p : x ≡ is_field n a) where
-  pub count-refused : not x ≡ true → CountRefused 42 ≡ count_asked n a
+  pub count-refused : not x ≡ true → Err NoProperField ≡ count_asked n a
   unfolding count_asked
   count-refused k = rw (sym p ∙ not-true x k)
 
-  pub count-given : (r : ℕ) (f : List ℕ) → not x ≡ false → f ≡ a → r ≡ day_count n f → Days r ≡ count_asked n a
+  pub count-given : (r : ℕ) (f : List ℕ) → not x ≡ false → f ≡ a → r ≡ day_count n f → Ok r ≡ count_asked n a
   unfolding count_asked
   count-given r f h u c = rw (sym p ∙ not-false x h, c, u)
 

@@ -1,15 +1,13 @@
 -- Request No. 7: "Over two bit fields of the same n give union, intersection, first without second and complement inside the period, each with a
 -- proper frame, and the number of days." Assumes nothing.
-use Rattle.std.specs.Prelude.{ℕ, ◌+◌, ◌-◌, ◌*◌, List, [], ◌∷◌, map, Bool, true, false, cond, not, ◌&&◌, ◌||◌, length, eqb, ltb, leb}
+use Rattle.std.specs.Prelude.{ℕ, ◌+◌, ◌-◌, ◌*◌, List, [], ◌∷◌, map, Bool, true, false, cond, not, ◌&&◌, ◌||◌, length, eqb, ltb, leb, Result, Ok, Err}
 use Rattle.base.specs.Lists.{count_if, upto, below}
 use Rattle.bitfield.specs.BitField.{bit_words, bit, runs_on, framed}
 use Rattle.timetable.specs.Layout.{most_period_days}
+use Rattle.timetable.specs.declared.refusal.Refusal.{Refusal}
+use Rattle.timetable.specs.declared.refusal.Refusal.TheVariants.{NoProperField}
 use Rattle.day_sets.specs.declared.Operation.{Operation}
 use Rattle.day_sets.specs.declared.Operation.TheVariants.{Union, Intersection, Difference}
-use Rattle.day_sets.specs.declared.SetAnswer.{SetAnswer}
-use Rattle.day_sets.specs.declared.SetAnswer.TheVariants.{Given, Refused}
-use Rattle.day_sets.specs.declared.CountAnswer.{CountAnswer}
-use Rattle.day_sets.specs.declared.CountAnswer.TheVariants.{Days, Refused as CountRefused}
 
 -- ---- a field said by its days: the frame is the same for every field of n days
 
@@ -58,14 +56,14 @@ day_count n field = count_if (runs_on field) (below n)
 unfoldable pub is_field : ℕ → List ℕ → Bool
 is_field n words = leb 1 n && (leb n most_period_days && (eqb (length words) bit_words && framed n words))
 
-abbrev pub set_answer : Bool → SetAnswer
-set_answer taken = cond taken Given (Refused 42)
+abbrev pub set_answer : Bool → Result (Unit {0}) Refusal
+set_answer taken = cond taken (Ok tt) (Err NoProperField)
 
 -- two fields, and the words lent for the result
 unfoldable pub pair_taken : ℕ → List ℕ → List ℕ → List ℕ → Bool
 pair_taken n first second lent = is_field n first && (is_field n second && eqb (length lent) bit_words)
 
-unfoldable pub combine_asked : ℕ → List ℕ → List ℕ → List ℕ → SetAnswer
+unfoldable pub combine_asked : ℕ → List ℕ → List ℕ → List ℕ → Result (Unit {0}) Refusal
 combine_asked n first second lent = set_answer (pair_taken n first second lent)
 
 unfoldable pub combine_written : Operation → ℕ → List ℕ → List ℕ → List ℕ → List ℕ
@@ -75,12 +73,12 @@ combine_written op n first second lent = cond (pair_taken n first second lent) (
 unfoldable pub one_taken : ℕ → List ℕ → List ℕ → Bool
 one_taken n field lent = is_field n field && eqb (length lent) bit_words
 
-unfoldable pub complement_asked : ℕ → List ℕ → List ℕ → SetAnswer
+unfoldable pub complement_asked : ℕ → List ℕ → List ℕ → Result (Unit {0}) Refusal
 complement_asked n field lent = set_answer (one_taken n field lent)
 
 unfoldable pub complement_written : ℕ → List ℕ → List ℕ → List ℕ
 complement_written n field lent = cond (one_taken n field lent) (complement n field) lent
 
 -- one field alone
-unfoldable pub count_asked : ℕ → List ℕ → CountAnswer
-count_asked n field = cond (is_field n field) (Days (day_count n field)) (CountRefused 42)
+unfoldable pub count_asked : ℕ → List ℕ → Result ℕ Refusal
+count_asked n field = cond (is_field n field) (Ok (day_count n field)) (Err NoProperField)

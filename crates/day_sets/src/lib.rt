@@ -1,5 +1,5 @@
 // Arithmetic on operating days: union, intersection, first without second and complement inside a period of n days, each a bit field with a proper
-// frame, and the number of days. First on words that a caller lends, which may be refused; then on fields by value.
+// frame, and the number of days. First on words that a caller lends, which 42 may refuse; then on fields by value.
 #![tactic(auto)]
 
 ghost use Rattle.std.specs.Prelude.{◌≡◌, cond, ◌-◌, ◌≤◌, ◌<◌, length};
@@ -10,7 +10,7 @@ ghost use Rattle.day_sets.specs.DaySets.{word_of, field_of, bit_in, combined, co
 ghost use Rattle.day_sets.specs.DaySets.{combine_asked, combine_written, complement_asked, complement_written};
 ghost use Rattle.day_sets.specs.DaySets.{count_asked};
 
-use timetable::{BIT_WORDS, MOST_PERIOD_DAYS};
+use timetable::{BIT_WORDS, MOST_PERIOD_DAYS, Refusal};
 
 // What of two sets of days is wanted: the days of either, those of both, those of the first that the second has not.
 #[derive(Clone, Copy)]
@@ -20,67 +20,56 @@ pub enum Operation {
     Difference,
 }
 
-// That the result holds the field, or a refusal.
-#[derive(Clone, Copy)]
-pub enum SetAnswer {
-    Given,
-    Refused(u32),
-}
-
-// The number of days, or a refusal.
-#[derive(Clone, Copy)]
-pub enum CountAnswer {
-    Days(u32),
-    Refused(u32),
-}
-
-// "n is not 1 to 380 or a lent field or the result is not twelve words, or a field has a wrong frame"
-const NO_FIELD: u32 = 42;
-
 // ---- on lent words
 
 // Two fields taken together, into the result.
-pub fn combine(op: Operation, n: u32, first: &[u32], second: &[u32], res: &mut [u32]) -> SetAnswer
+pub fn combine(
+    op: Operation,
+    n: u32,
+    first: &[u32],
+    second: &[u32],
+    res: &mut [u32],
+) -> Result<(), Refusal>
     ensures answer { result ≡ combine_asked n first.now second.now res.old }
     ensures words { res.new ≡
         combine_written op n first.now second.now res.old }
 {
     if !is_field(n, first) {
-        return SetAnswer::Refused(NO_FIELD);
+        return Err(Refusal::NoProperField);
     }
     if !is_field(n, second) {
-        return SetAnswer::Refused(NO_FIELD);
+        return Err(Refusal::NoProperField);
     }
     if res.len() != BIT_WORDS {
-        return SetAnswer::Refused(NO_FIELD);
+        return Err(Refusal::NoProperField);
     }
-    words::put12(res, 0, combined(op, n, field_in(first), field_in(second)));
-    SetAnswer::Given
+    words::put(res, 0, combined(op, n, field_in(first), field_in(second)));
+    Ok(())
 }
 
 // The days of the period that a field has not, into the result.
-pub fn complement(n: u32, field: &[u32], res: &mut [u32]) -> SetAnswer
+pub fn complement(n: u32, field: &[u32], res: &mut [u32]) -> Result<(), Refusal>
     ensures answer { result ≡ complement_asked n field.now res.old }
     ensures words { res.new ≡ complement_written n field.now res.old }
 {
     if !is_field(n, field) {
-        return SetAnswer::Refused(NO_FIELD);
+        return Err(Refusal::NoProperField);
     }
     if res.len() != BIT_WORDS {
-        return SetAnswer::Refused(NO_FIELD);
+        return Err(Refusal::NoProperField);
     }
-    words::put12(res, 0, other_days(n, field_in(field)));
-    SetAnswer::Given
+    words::put(res, 0, other_days(n, field_in(field)));
+    Ok(())
 }
 
 // The number of days of a field.
-pub fn count(n: u32, field: &[u32]) -> CountAnswer
+pub fn count(n: u32, field: &[u32]) -> Result<u32, Refusal>
     ensures { result ≡ count_asked n field.now }
 {
     if !is_field(n, field) {
-        return CountAnswer::Refused(NO_FIELD);
+        return Err(Refusal::NoProperField);
     }
-    CountAnswer::Days(day_count(n, field_in(field)))
+    Ok(day_count(n, field_in(field)))
 }
 
 // Whether lent words are a field of n days, and n the days of a period.
@@ -148,10 +137,8 @@ fn count_bits(bits: [u32; BIT_WORDS], from: u32, to: u32) -> u32
     ensures { result ≡ count_if (bit bits) (upto (to - from) from) }
 {
     let mut count: u32 = 0;
-    let mut k = from;
-    while k < to {
+    for k in from..to {
         count += one_if(bitfield::bit_of(bits, k));
-        k += 1;
     }
     count
 }
@@ -162,10 +149,8 @@ fn in_frame(n: u32, days: [u32; BIT_WORDS]) -> [u32; BIT_WORDS]
     ensures { result ≡ field_of n (runs_on days) }
 {
     let mut r = [0u32; BIT_WORDS];
-    let mut i: usize = 0;
-    while i < BIT_WORDS {
+    for i in 0..BIT_WORDS {
         r[i] = framed_word(n, days, i as u32);
-        i += 1;
     }
     r
 }
@@ -176,10 +161,8 @@ fn framed_word(n: u32, days: [u32; BIT_WORDS], i: u32) -> u32
     ensures { result ≡ word_of (bit_in n days) i }
 {
     let mut word: u32 = 0;
-    let mut k = i * 32;
-    while k < i * 32 + 32 {
+    for k in i * 32..i * 32 + 32 {
         word = word * 2 + one_if(framed_bit(n, days, k));
-        k += 1;
     }
     word
 }

@@ -231,17 +231,7 @@ module _ (o : Opening) (c : ℕ) (w : List ℕ) where
       let e : calls_on c w ≡ calls_on m w ++ (call_back (drop (m * draft_call) w) ∷ []) = rw s at (rows_last call_back draft_call m w) in
       rw (e, last-behind (opened o) (calls_on m w) (call_back (drop (m * draft_call) w)), p, get_or-drop (m * draft_call) w 4 0, get_or-drop (m * draft_call) w 5 0, get_or-drop (m * draft_call) w 6 0) refl
 
-pub before-said : (b : Bool) (x y : ℕ) → b ≡ true → x ≡ cond b x y
-before-said b x y e = rw e
-
-pub before-blank : (b : Bool) (x y : ℕ) → b ≡ false → y ≡ cond b x y
-before-blank b x y e = rw e
-
-pub called-by : (a : Announced) (l : CallLine) (n h k : ℕ) → n ≡ cond l.numbered l.number a.number → h ≡ cond l.administered l.high a.high → k ≡ cond l.administered l.low a.low
-    → record { stop = l.stop; arrival = l.arrival; departure = l.departure; flags = l.flags; number = n; high = h; low = k } ≡ call_by a l
-called-by a l n h k p q r = rw (p, q, r)
-
-pub ruleset holds = (tests, last_none, last_some, before-said, before-blank, called-by)
+pub ruleset holds = (tests, last_none, last_some)
 
 -- ---- the needs of `draft_call`, `draft_range` and `count_part`, for `search drafted`
 

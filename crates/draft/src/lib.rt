@@ -15,7 +15,9 @@ ghost use Rattle.draft.specs.Inner.Draft.{range_back, calls_on, ranges_on, on_li
 ghost use Rattle.draft.specs.Inner.Draft.{count_calls, count_part, count_ranges, counted, ranges#, Within};
 
 use fields::{Appearance, Detail, RangeEnd, RouteIndex, StopNumber};
-use timetable::{Announced, Call, CallLine, End, Ends, Opening, RangeKind, RangeLine, Told};
+use timetable::{
+    Administration, Announced, Call, CallLine, End, Ends, Opening, RangeKind, RangeLine, Told,
+};
 
 // The words of a call in the draft: those of the table (stop, arrival, departure, flags, and the number and administration that hold there), and its
 // line's number.
@@ -59,6 +61,22 @@ pub struct Drafted {
 struct Code {
     pub tag: u32,
     pub value: u32,
+}
+
+// ---- where the words stand
+
+// Where the words of call i start.
+pub fn call_start(i: u32) -> usize
+    ensures { result ≡ draft_call * i }
+{
+    DRAFT_CALL_WORDS * i as usize
+}
+
+// Where those of range i do.
+pub fn range_start(i: u32) -> usize
+    ensures { result ≡ draft_range * i }
+{
+    DRAFT_RANGE_WORDS * i as usize
 }
 
 // ---- written
@@ -161,25 +179,21 @@ fn announced_last(opening: Opening, c: u32, calls: &[u32]) -> Announced
 fn call_by(before: Announced, line: CallLine) -> Call
     ensures { result ≡ call_by before line }
 {
+    let number = line.number.unwrap_or(before.number);
+    let held = Administration {
+        high: before.high,
+        low: before.low,
+    };
+    let administration = line.administration.unwrap_or(held);
     Call {
         stop: line.stop,
         arrival: line.arrival,
         departure: line.departure,
         flags: line.flags,
-        number: or_before(line.numbered, line.number, before.number),
-        high: or_before(line.administered, line.high, before.high),
-        low: or_before(line.administered, line.low, before.low),
+        number,
+        high: administration.high,
+        low: administration.low,
     }
-}
-
-// What is said, else what held before.
-fn or_before(says: bool, said: u32, before: u32) -> u32
-    ensures { result ≡ cond says said before }
-{
-    if says {
-        return said;
-    }
-    before
 }
 
 // Drafts the range of a *G or *A line.
@@ -225,15 +239,12 @@ fn put_call(calls: &mut [u32], at: usize, line: u32, call: Call)
     requires { at + draft_call ≤ length calls.old }
     ensures { calls.new ≡ write calls.old at (call_draft (line, call)) }
 {
-    words::put4(
+    words::put(
         calls,
         at,
-        call.stop,
-        call.arrival,
-        call.departure,
-        call.flags,
+        [call.stop, call.arrival, call.departure, call.flags],
     );
-    words::put4(calls, at + 4, call.number, call.high, call.low, line);
+    words::put(calls, at + 4, [call.number, call.high, call.low, line]);
 }
 
 fn put_range(ranges: &mut [u32], at: usize, line: u32, range: RangeLine)
@@ -245,7 +256,7 @@ fn put_range(ranges: &mut [u32], at: usize, line: u32, range: RangeLine)
     let from = ends.from;
     let to = ends.to;
     let number = part_number(part);
-    words::put4(ranges, at, line, number, range.name, range.field);
+    words::put(ranges, at, [line, number, range.name, range.field]);
     put_end(ranges, at + 4, from);
     put_end(ranges, at + 8, to);
 }
@@ -258,7 +269,7 @@ fn put_end(ranges: &mut [u32], at: usize, end: End)
     let detail = end.detail;
     let p = place_code(place);
     let d = detail_code(detail);
-    words::put4(ranges, at, p.tag, p.value, d.tag, d.value);
+    words::put(ranges, at, [p.tag, p.value, d.tag, d.value]);
 }
 
 fn place_code(place: RangeEnd) -> Code

@@ -4,13 +4,13 @@ use mathlib.Core.List.{List}
 use mathlib.Core.Bool.{true}
 use Prim.Native.Nat.{ℕ}
 use lib.ListN.{length, take}
+use Rattle.std.specs.Prelude.{Result, Ok, Err}
+use Rattle.timetable.specs.declared.refusal.Refusal.{Refusal}
 use Rattle.timetable.specs.Delivery.{Files}
 use Rattle.timetable.specs.Files.{has_stop}
 use Rattle.timetable.specs.Load.{delivered, loaded, written}
 use Rattle.timetable.specs.View.{View}
 use Rattle.timetable.specs.Questions.{between_in, between_asked}
-use Rattle.timetable.specs.declared.InterchangeAnswer.{InterchangeAnswer}
-use Rattle.timetable.specs.declared.InterchangeAnswer.TheVariants.{Minutes, Refused}
 use Rattle.whole_runs.specs.Classes.{OwnClass, Between}
 use Rattle.whole_runs.proofs.Classes.{between-answered}
 use Rattle.estelunya.specs.declared.LoadResult.{LoadResult}
@@ -27,8 +27,8 @@ pub between-exported : (f : Files) (t : List ℕ) (helper : ℕ) {a : LoadResult
 unfolding between_asked
 between-exported f t helper {a} {left} b q e w front stop arriving departing h k l {x} z =
     let own = between-answered f t helper (load_result (loaded f (length t) helper)).words (accepted f (length t) helper (sym (ap (λ (c : LoadResult). c.number) b) ∙ e)) stop h arriving departing k l in
-    let same : x ≡ interchange_result (between_asked (written f t helper) stop arriving departing) = z ∙ ap interchange_result (unaltered f t helper a left b q e w front Refused (λ (v : View). between_in v stop arriving departing)) in
+    let same : x ≡ interchange_result (between_asked (written f t helper) stop arriving departing) = z ∙ ap interchange_result (unaltered f t helper a left b q e w front Err (λ (v : View). between_in v stop arriving departing)) in
     subst (BetweenGiven f stop arriving departing) (sym same) (go (between_asked (written f t helper) stop arriving departing) own own.answer)
   where
-    go : (y : InterchangeAnswer) → Between f stop arriving departing y → {n : ℕ} → y ≡ Minutes n → BetweenGiven f stop arriving departing (interchange_result y)
-    go y own {n} v = subst (λ (r : InterchangeAnswer). BetweenGiven f stop arriving departing (interchange_result r)) (sym v) (record { answered = refl; own = subst (Between f stop arriving departing) v own })
+    go : (y : Result ℕ Refusal) → Between f stop arriving departing y → {n : ℕ} → y ≡ Ok n → BetweenGiven f stop arriving departing (interchange_result y)
+    go y own {n} v = subst (λ (r : Result ℕ Refusal). BetweenGiven f stop arriving departing (interchange_result r)) (sym v) (record { answered = refl; own = subst (Between f stop arriving departing) v own })

@@ -1,12 +1,13 @@
 -- What a caller of the arithmetic on operating days holds in hand: a number of 0 says that the result holds the field, the only other is 42, and then
 -- the words are as they were lent; the promises leave no slack: Slack. Assumes nothing.
+use Rattle.std.specs.Prelude.{Ok, Err}
 use mathlib.Core.Path.{◌≡◌, refl}
 use mathlib.Core.List.{List}
 use mathlib.Core.Bool.{Bool, true, false, cond}
 use Prim.Native.Nat.{ℕ}
 use native.Mathlib.Omega.{arith}
+use Rattle.timetable.specs.declared.refusal.Refusal.TheVariants.{NoProperField}
 use Rattle.day_sets.specs.declared.Operation.{Operation}
-use Rattle.day_sets.specs.declared.CountAnswer.TheVariants.{Days, Refused}
 use Rattle.day_sets.specs.DaySets.{set_answer, combined, complement, day_count, is_field, pair_taken, combine_asked, combine_written, one_taken, complement_asked, complement_written, count_asked}
 use Rattle.estelunya.specs.declared.DaySetResult.{DaySetResult}
 use Rattle.estelunya.specs.declared.DayCountResult.{DayCountResult}
@@ -31,7 +32,7 @@ pub data Counted (taken : Bool) (days : ℕ) : DayCountResult → Type 0 where
   days-given : taken ≡ true → Counted taken days (record { number = 0; days = days })
   days-refused : taken ≡ false → Counted taken days (record { number = 42; days = 0 })
 
-counted : (taken : Bool) (days : ℕ) → Counted taken days (day_count_result (cond taken (Days days) (Refused 42)))
+counted : (taken : Bool) (days : ℕ) → Counted taken days (day_count_result (cond taken (Ok days) (Err NoProperField)))
 counted true days = days-given refl
 counted false days = days-refused refl
 

@@ -3,22 +3,22 @@
 use mathlib.Core.Path.{◌≡◌, refl, sym, ap, subst, ◌∙◌}
 use mathlib.Core.Logic.{◌⊎◌, ⊎_elim}
 use mathlib.Core.List.{List}
+use mathlib.Core.Bool.{Bool}
 use Prim.Native.Nat.{ℕ, ◌-◌, ◌*◌, ◌≤◌}
 use native.Mathlib.Omega.{arith}
 use lib.ListN.{length, take, replicate}
+use Rattle.std.specs.Prelude.{Some, None, Result, Ok, Err}
+use Rattle.timetable.specs.declared.refusal.Refusal.{Refusal}
 use Rattle.timetable.specs.Delivery.{Files, Service, Delivery}
 use Rattle.timetable.specs.Load.{delivered, onto, helper_needed, loaded, written, helped}
 use Rattle.timetable.specs.Layout.{row_size}
 use Rattle.timetable.specs.View.{View}
-use Rattle.timetable.specs.Questions.{asked, day_asked, interchange_asked, between_asked, Journey, refused, journey, walk_of, walked_by, walked, rows_by}
-use Rattle.timetable.specs.declared.DayAnswer.{DayAnswer}
-use Rattle.timetable.specs.declared.DayAnswer.TheVariants.{Refused as DayRefused}
-use Rattle.timetable.specs.declared.InterchangeAnswer.{InterchangeAnswer}
-use Rattle.timetable.specs.declared.InterchangeAnswer.TheVariants.{Refused as InterchangeRefused}
+use Rattle.timetable.specs.Questions.{asked, day_asked, interchange_asked, between_asked, Journey, refused, journey, walk_of, Walked, walk_refusal, walked_by, walked, rows_by}
+use Rattle.timetable.specs.Refusals.{number_of}
 use Rattle.timetable.specs.declared.Loaded.{Loaded}
 use Rattle.timetable.specs.declared.Loaded.TheVariants.{Accepted, Refused}
-use Rattle.timetable.specs.declared.Walked.{Walked}
-use Rattle.timetable.specs.declared.Walked.TheVariants.{Listed, NotRunning, Refused as WalkRefused}
+use Rattle.timetable.specs.declared.WalkRefusal.{WalkRefusal}
+use Rattle.timetable.proofs.Numbered.{numbered}
 use Rattle.whole_runs.specs.Rows.{RunsNowhere}
 use Rattle.whole_runs.specs.Promise.{Walk, not_running, short, runs, TwoRows}
 use Rattle.whole_runs.proofs.Any.{two-rows}
@@ -58,29 +58,29 @@ helper-kept f room h e = subst (λ (y : LoadResult). ((y.number ≡ 1) ⊎ (y.nu
     go (Refused number file line column needed) q = (helper-stays f h room number file line column needed q, helper-zeros f h room number file line column needed q)
 
 -- and so with the questions: an answer numbered 0 is no refusal
-pub day-answered : (w : List ℕ) (d m y field number : ℕ) → (day_result (day_asked w d m y field)).number ≡ 0 → day_asked w d m y field ≡ DayRefused number → ⊥
-day-answered w d m y field number e q = omega (arith, day-numbered w d m y field number q, ap (λ (a : DayAnswer). (day_result a).number) q, e)
+pub day-answered : (w : List ℕ) (d m y field : ℕ) (refusal : Refusal) → (day_result (day_asked w d m y field)).number ≡ 0 → day_asked w d m y field ≡ Err refusal → ⊥
+day-answered w d m y field refusal e q = omega (arith, day-numbered w d m y field refusal q, ap (λ (a : Result Bool Refusal). (day_result a).number) q, e)
 
-pub interchange-answered : (w : List ℕ) (stop a b number : ℕ) → (interchange_result (interchange_asked w stop a b)).number ≡ 0 → interchange_asked w stop a b ≡ InterchangeRefused number → ⊥
-interchange-answered w stop a b number e q = omega (arith, interchange-numbered w stop a b number q, ap (λ (x : InterchangeAnswer). (interchange_result x).number) q, e)
+pub interchange-answered : (w : List ℕ) (stop a b : ℕ) (refusal : Refusal) → (interchange_result (interchange_asked w stop a b)).number ≡ 0 → interchange_asked w stop a b ≡ Err refusal → ⊥
+interchange-answered w stop a b refusal e q = omega (arith, interchange-numbered w stop a b refusal q, ap (λ (x : Result ℕ Refusal). (interchange_result x).number) q, e)
 
-pub between-answered : (w : List ℕ) (stop a b number : ℕ) → (interchange_result (between_asked w stop a b)).number ≡ 0 → between_asked w stop a b ≡ InterchangeRefused number → ⊥
-between-answered w stop a b number e q = omega (arith, between-numbered w stop a b number q, ap (λ (x : InterchangeAnswer). (interchange_result x).number) q, e)
+pub between-answered : (w : List ℕ) (stop a b : ℕ) (refusal : Refusal) → (interchange_result (between_asked w stop a b)).number ≡ 0 → between_asked w stop a b ≡ Err refusal → ⊥
+between-answered w stop a b refusal e q = omega (arith, between-numbered w stop a b refusal q, ap (λ (x : Result ℕ Refusal). (interchange_result x).number) q, e)
 
-pub walk-answered : (w : List ℕ) (i r d m y room number needed : ℕ) → (walk_result (walked w i r d m y room)).number ≡ 0 → walked w i r d m y room ≡ WalkRefused number needed → ⊥
-walk-answered w i r d m y room number needed e q = omega (arith, walk-numbered w i r d m y room number needed q, ap (λ (a : Walked). (walk_result a).number) q, e)
+pub walk-answered : (w : List ℕ) (i r d m y room : ℕ) (refusal : Refusal) (needed : ℕ) → (walk_result (walked w i r d m y room)).number ≡ 0 → walked w i r d m y room ≡ Err (walk_refusal refusal needed) → ⊥
+walk-answered w i r d m y room refusal needed e q = omega (arith, walk-numbered w i r d m y room needed refusal q, ap (λ (a : Walked). (walk_result a).number) q, e)
 
 -- ---- of any words: what an answer is, told from its numbers
 
 pub decoded : (w : List ℕ) (i r d m y room : ℕ) {x : WalkResult} → x ≡ walk_result (walked w i r d m y room) → Decoded (walked w i r d m y room) x
-decoded w i r d m y room e = subst (Decoded (walked w i r d m y room)) (sym e) (go (walked w i r d m y room) (two-rows w i r d m y room) (λ number needed. walk-numbered w i r d m y room number needed))
+decoded w i r d m y room e = subst (Decoded (walked w i r d m y room)) (sym e) (go (walked w i r d m y room) (two-rows w i r d m y room))
   where
-    go : (a : Walked) → TwoRows a → ((number needed : ℕ) → a ≡ WalkRefused number needed → 1 ≤ number) → Decoded a (walk_result a)
-    go (Listed n) h k = record { idle = λ p q. absurd (omega arith); listing = λ p q. (refl, h); refusal = λ p. absurd (omega arith) }
-    go NotRunning h k = record { idle = λ p q. refl; listing = λ p q. absurd (omega arith); refusal = λ p. absurd (omega arith) }
-    go (WalkRefused number needed) h k =
-        let l = k number needed refl in
-        record { idle = λ p q. absurd (omega arith); listing = λ p q. absurd (omega arith); refusal = λ p. refl }
+    go : (a : Walked) → TwoRows a → Decoded a (walk_result a)
+    go (Ok (Some n)) h = record { idle = λ p q. absurd (omega arith); listing = λ p q. (refl, h); refusal = λ p. absurd (omega arith) }
+    go (Ok None) h = record { idle = λ p q. refl; listing = λ p q. absurd (omega arith); refusal = λ p. absurd (omega arith) }
+    go (Err x) h =
+        let l = numbered x.refusal in
+        record { idle = λ p q. absurd (omega arith); listing = λ p q. absurd (omega arith); refusal = λ p. (x.refusal, refl, refl) }
 
 -- ---- demand 3
 
@@ -107,7 +107,7 @@ module _ {d : Delivery} {s : Service} {r k : ℕ} {lent : List ℕ} where
 
 -- of the words that load left, and of any that are unaltered: every question is answered alike
 pub unaltered : (f : Files) (t : List ℕ) (helper : ℕ) (a : LoadResult) (left : List ℕ) → a ≡ load_result (loaded f (length t) helper) → left ≡ written f t helper → a.number ≡ 0
-    → (w : List ℕ) → take a.words w ≡ take a.words left → {X : Type 0} (refusal : ℕ → X) (question : View → X) → asked refusal question w ≡ asked refusal question (written f t helper)
+    → (w : List ℕ) → take a.words w ≡ take a.words left → {X : Type 0} (refusal : Refusal → X) (question : View → X) → asked refusal question w ≡ asked refusal question (written f t helper)
 unaltered f t helper a left b q e w same refusal question =
     let n : (load_result (loaded f (length t) helper)).words ≡ a.words = ap (λ (c : LoadResult). c.words) (sym b) in
     unaltered-asked f t helper (load_result (loaded f (length t) helper)).words (accepted f (length t) helper (sym (ap (λ (c : LoadResult). c.number) b) ∙ e)) w

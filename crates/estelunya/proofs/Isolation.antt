@@ -3,11 +3,11 @@ use mathlib.Core.Path.{◌≡◌, sym, ap, ◌∙◌}
 use mathlib.Core.List.{List}
 use Prim.Native.Nat.{ℕ}
 use lib.ListN.{length, take}
+use Rattle.std.specs.Prelude.{Err}
 use Rattle.timetable.specs.Delivery.{Files}
 use Rattle.timetable.specs.Load.{loaded, written}
 use Rattle.timetable.specs.View.{View}
 use Rattle.timetable.specs.Questions.{day_in, day_asked, Journey, refused, journey, walk_of, walked_by, walked, rows_by, walk_rows}
-use Rattle.timetable.specs.declared.DayAnswer.TheVariants.{Refused as DayRefused}
 use Rattle.timetable.specs.declared.Loaded.TheVariants.{Accepted}
 use Rattle.isolation.specs.Alike.{WalksAlike}
 use Rattle.isolation.specs.Rename.{renamed}
@@ -30,7 +30,7 @@ module _ (f : Files) (t : List ℕ) (helper : ℕ) (a : LoadResult) (left w : Li
 
   day-left : (d m y n : ℕ) → day_asked w d m y n ≡ day_asked (written f t helper) d m y n
   unfolding day_asked
-  day-left d m y n = unaltered f t helper a left h.answered h.leaves h.accepted w h.unaltered DayRefused (λ (o : View). day_in o d m y n)
+  day-left d m y n = unaltered f t helper a left h.answered h.leaves h.accepted w h.unaltered Err (λ (o : View). day_in o d m y n)
 
 same_walks : (w w' z z' : List ℕ) (i : ℕ) → ((r d m y : ℕ) → walk_of w i r d m y ≡ walk_of z i r d m y) → ((r d m y : ℕ) → walk_of w' i r d m y ≡ walk_of z' i r d m y)
     → WalksAlike z z' i → SameWalks w w' i

@@ -1,12 +1,12 @@
 -- Demand 3 at the boundary, in the numbers that a caller holds: what `estelunya_walk` answers and leaves in the rows, of the table that
 -- `estelunya_load` left where its number was 0. Whole it is `WholeRuns`. Proved in proofs/Exported.antt: `demand3-exported`, and of any words `decoded`. Assumes nothing.
-use Rattle.std.specs.Prelude.{◌≡◌, List, ℕ, ◌+◌, ◌-◌, ◌*◌, ◌<◌, ◌≤◌, length, take}
+use Rattle.std.specs.Prelude.{◌≡◌, List, ℕ, ◌+◌, ◌-◌, ◌*◌, ◌<◌, ◌≤◌, length, take, Some, None, Ok, Err}
+use Rattle.timetable.specs.declared.refusal.Refusal.{Refusal}
 use Rattle.timetable.specs.Layout.{row_size}
 use Rattle.timetable.specs.Delivery.{Files, Service, Delivery}
 use Rattle.timetable.specs.Load.{delivered, loaded, written, onto}
-use Rattle.timetable.specs.Questions.{walked, walk_rows}
-use Rattle.timetable.specs.declared.Walked.{Walked}
-use Rattle.timetable.specs.declared.Walked.TheVariants.{Listed, NotRunning, Refused}
+use Rattle.timetable.specs.Questions.{Walked, walk_refusal, walked, walk_rows}
+use Rattle.timetable.specs.Refusals.{number_of}
 use Rattle.whole_runs.specs.Rows.{RunsNowhere, Stretched}
 use Rattle.whole_runs.specs.Promise.{Asked, OwnRun}
 use Rattle.estelunya.specs.Answers.{load_result, walk_result}
@@ -47,6 +47,7 @@ WholeRuns =
 
 -- of any words, table or not: what an answer a is, told from its numbers
 pub record Decoded (a : Walked) (x : WalkResult) : Type 0 where
-  pub idle : x.number ≡ 0 → x.rows ≡ 0 → a ≡ NotRunning
-  pub listing : x.number ≡ 0 → 1 ≤ x.rows → (a ≡ Listed x.rows) × (2 ≤ x.rows)
-  pub refusal : 1 ≤ x.number → a ≡ Refused x.number x.needed
+  pub idle : x.number ≡ 0 → x.rows ≡ 0 → a ≡ Ok None
+  pub listing : x.number ≡ 0 → 1 ≤ x.rows → (a ≡ Ok (Some x.rows)) × (2 ≤ x.rows)
+  -- no two refusals have one number (timetable/proofs/Numbered)
+  pub refusal : 1 ≤ x.number → (r : Refusal) × (a ≡ Err (walk_refusal r x.needed)) × (number_of r ≡ x.number)

@@ -25,13 +25,15 @@ ghost use Rattle.room.specs.Room.{room_for, Enough};
 ghost use Rattle.estelunya.specs.DaySets.{day_set_result, day_count_result};
 
 use board::BoardAnswer;
-use connections::ConnectionAnswer;
-use day_sets::{CountAnswer, Operation, SetAnswer};
+use connections::ConnectionRefusal;
+use day_sets::Operation;
 use index_check::IndexCheck;
-use plan_writing::WriteAnswer;
+use plan_writing::WriteRefusal;
 use questions::stop_names;
-use timetable::{DayAnswer, InterchangeAnswer, Loaded, NameAnswer, Walked};
+use timetable::{Loaded, NamePart, Refusal, WalkRefusal};
 use whole_index::Made;
+
+// Kept: a struct of plain numbers for each answer, as the C interface has it; the crates below answer by Result.
 
 // number 0: accepted, and words is the words used; else the refusal's number, file and line, words is the words needed (0 unless 20 or 51), and column is
 // where the line breaks its form (0 unless 4).
@@ -512,79 +514,90 @@ fn load_result(a: Loaded) -> LoadResult
     }
 }
 
-fn day_result(a: DayAnswer) -> DayResult
+fn day_result(a: Result<bool, Refusal>) -> DayResult
     ensures { result ≡ day_result a }
 {
     match a {
-        DayAnswer::Runs => DayResult { number: 0, runs: 1 },
-        DayAnswer::Idle => DayResult { number: 0, runs: 0 },
-        DayAnswer::Refused(number) => DayResult { number, runs: 0 },
+        Ok(true) => DayResult { number: 0, runs: 1 },
+        Ok(false) => DayResult { number: 0, runs: 0 },
+        Err(refusal) => DayResult {
+            number: u32::from(refusal),
+            runs: 0,
+        },
     }
 }
 
-fn interchange_result(a: InterchangeAnswer) -> InterchangeResult
+fn interchange_result(a: Result<u32, Refusal>) -> InterchangeResult
     ensures { result ≡ interchange_result a }
 {
     match a {
-        InterchangeAnswer::Minutes(minutes) => InterchangeResult { number: 0, minutes },
-        InterchangeAnswer::Refused(number) => InterchangeResult { number, minutes: 0 },
+        Ok(minutes) => InterchangeResult { number: 0, minutes },
+        Err(refusal) => InterchangeResult {
+            number: u32::from(refusal),
+            minutes: 0,
+        },
     }
 }
 
-fn name_result(a: NameAnswer) -> NameResult
+fn name_result(a: Result<NamePart, Refusal>) -> NameResult
     ensures { result ≡ name_result a }
 {
     match a {
-        NameAnswer::Part { start, size } => NameResult {
+        Ok(part) => NameResult {
             number: 0,
-            start,
-            length: size,
+            start: part.start,
+            length: part.size,
         },
-        NameAnswer::Refused(number) => NameResult {
-            number,
+        Err(refusal) => NameResult {
+            number: u32::from(refusal),
             start: 0,
             length: 0,
         },
     }
 }
 
-fn walk_result(a: Walked) -> WalkResult
+fn walk_result(a: Result<Option<u32>, WalkRefusal>) -> WalkResult
     ensures { result ≡ walk_result a }
 {
     match a {
-        Walked::Listed(rows) => WalkResult {
+        Ok(Some(rows)) => WalkResult {
             number: 0,
             rows,
             needed: 0,
         },
-        Walked::NotRunning => WalkResult {
+        Ok(None) => WalkResult {
             number: 0,
             rows: 0,
             needed: 0,
         },
-        Walked::Refused { number, needed } => WalkResult {
-            number,
+        Err(refused) => WalkResult {
+            number: u32::from(refused.refusal),
             rows: 0,
-            needed,
+            needed: refused.needed,
         },
     }
 }
 
-fn day_set_result(a: SetAnswer) -> DaySetResult
+fn day_set_result(a: Result<(), Refusal>) -> DaySetResult
     ensures { result ≡ day_set_result a }
 {
     match a {
-        SetAnswer::Given => DaySetResult { number: 0 },
-        SetAnswer::Refused(number) => DaySetResult { number },
+        Ok(()) => DaySetResult { number: 0 },
+        Err(refusal) => DaySetResult {
+            number: u32::from(refusal),
+        },
     }
 }
 
-fn day_count_result(a: CountAnswer) -> DayCountResult
+fn day_count_result(a: Result<u32, Refusal>) -> DayCountResult
     ensures { result ≡ day_count_result a }
 {
     match a {
-        CountAnswer::Days(days) => DayCountResult { number: 0, days },
-        CountAnswer::Refused(number) => DayCountResult { number, days: 0 },
+        Ok(days) => DayCountResult { number: 0, days },
+        Err(refusal) => DayCountResult {
+            number: u32::from(refusal),
+            days: 0,
+        },
     }
 }
 
@@ -609,24 +622,27 @@ fn check_number(a: IndexCheck) -> u32
     }
 }
 
-fn write_result(a: WriteAnswer) -> WriteResult
+fn write_result(a: Result<usize, WriteRefusal>) -> WriteResult
     ensures { result ≡ write_result a }
 {
     match a {
-        WriteAnswer::Bytes(bytes) => WriteResult { number: 0, bytes },
-        WriteAnswer::Refused { number, needed } => WriteResult {
-            number,
-            bytes: needed,
+        Ok(bytes) => WriteResult { number: 0, bytes },
+        Err(r) => WriteResult {
+            number: u32::from(r.refusal),
+            bytes: r.needed,
         },
     }
 }
 
-fn connection_result(a: ConnectionAnswer) -> ConnectionResult
+fn connection_result(a: Result<(), ConnectionRefusal>) -> ConnectionResult
     ensures { result ≡ connection_result a }
 {
     match a {
-        ConnectionAnswer::Holds => ConnectionResult { number: 0, part: 0 },
-        ConnectionAnswer::Refused { number, part } => ConnectionResult { number, part },
+        Ok(()) => ConnectionResult { number: 0, part: 0 },
+        Err(r) => ConnectionResult {
+            number: u32::from(r.refusal),
+            part: r.part,
+        },
     }
 }
 

@@ -8,7 +8,7 @@ use mathlib.Core.Bool.{true, false}
 use mathlib.Core.Option.{some}
 use lib.ListN.{length, get_elem?}
 use Rattle.calendar.specs.Calendar.{day_of}
-use Rattle.calendar.specs.declared.Date.TheVariants.{Day}
+use Rattle.std.specs.Prelude.{Some}
 use Rattle.timetable.specs.Delivery.{Service}
 use Rattle.timetable.specs.Runs.{has_run, lateness}
 use Rattle.timetable.specs.Service.{service_of}
@@ -42,7 +42,7 @@ period-is : ((delivered dial).period.start ≡ 45990) × ((delivered dial).perio
 unfolding computing
 period-is = (refl, refl)
 
-friday : day_of 5 12 2025 ≡ Day 45994
+friday : day_of 5 12 2025 ≡ Some 45994
 unfolding computing
 friday = refl
 

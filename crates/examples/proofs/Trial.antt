@@ -9,17 +9,16 @@ use mathlib.Core.Option.{some}
 use lib.ListN.{length, get_or, drop, get_elem?, replicate, length-replicate}
 use lib.Dec.{ltb}
 use borrow.Author.Tests.{le-ltb, lt-ltb}
+use Rattle.std.specs.Prelude.{Some, None, Ok, Err}
 use Rattle.calendar.specs.Calendar.{day_of}
-use Rattle.calendar.specs.declared.Date.TheVariants.{Day}
+use Rattle.timetable.specs.declared.refusal.Refusal.TheVariants.{TooFewWords}
 use Rattle.timetable.specs.Delivery.{Service}
 use Rattle.timetable.specs.Load.{delivered, onto, helper_needed, loaded, written, helped}
 use Rattle.timetable.specs.Runs.{has_run}
 use Rattle.timetable.specs.Table.{table_words}
 use Rattle.timetable.specs.View.{view_of}
-use Rattle.timetable.specs.Questions.{idle, rows, journey, walk_of, walked_by, walked, rows_by, walk_rows}
+use Rattle.timetable.specs.Questions.{idle, rows, journey, walk_of, walked_by, walked, rows_by, walk_rows, Walked, walk_refusal}
 use Rattle.timetable.specs.declared.Loaded.TheVariants.{Accepted, Refused as LoadRefused}
-use Rattle.timetable.specs.declared.Walked.{Walked}
-use Rattle.timetable.specs.declared.Walked.TheVariants.{Listed, NotRunning, Refused}
 use Rattle.timetable.specs.Trial.{trial_words}
 use Rattle.whole_runs.specs.Promise.{Demand3, Asked, Walk}
 use Rattle.whole_runs.proofs.Accepted.{written_is, walk-accepted}
@@ -77,12 +76,12 @@ unfolding computing
 saturday-journey = refl
 
 -- 40 words are room enough for four rows
-friday-room : (room : List ℕ) → 40 ≤ length room → (walked_by (rows friday_rows) (length room) ≡ Listed 4) × (rows_by (rows friday_rows) room ≡ friday_rows ++ drop 40 room)
+friday-room : (room : List ℕ) → 40 ≤ length room → (walked_by (rows friday_rows) (length room) ≡ Ok (Some 4)) × (rows_by (rows friday_rows) room ≡ friday_rows ++ drop 40 room)
 unfolding friday_rows onto
 friday-room room h = (rw (le-ltb (length room) 40 h), rw (le-ltb (length room) 40 h))
 
 -- with fewer they are what 29 names
-friday-lack : (room : List ℕ) → length room < 40 → (walked_by (rows friday_rows) (length room) ≡ Refused 29 40) × (rows_by (rows friday_rows) room ≡ room)
+friday-lack : (room : List ℕ) → length room < 40 → (walked_by (rows friday_rows) (length room) ≡ Err (walk_refusal TooFewWords 40)) × (rows_by (rows friday_rows) room ≡ room)
 unfolding friday_rows
 friday-lack room h = (rw (lt-ltb (length room) 40 h), rw (lt-ltb (length room) 40 h))
 
@@ -94,15 +93,15 @@ module _ (t : List ℕ) (lent : length t ≡ 4096) (helper : ℕ) (enough : 84 �
   saturday-walk = walk-accepted trial t helper 82 (week-accepted t lent helper enough) 0 0 6 12 2025 ∙ saturday-journey
 
   -- "The walk on 05.12.2025 gives four rows"
-  pub friday : (room : List ℕ) → 40 ≤ length room → (walked (written trial t helper) 0 0 5 12 2025 (length room) ≡ Listed 4) × (walk_rows (written trial t helper) 0 0 5 12 2025 room ≡ friday_rows ++ drop 40 room)
+  pub friday : (room : List ℕ) → 40 ≤ length room → (walked (written trial t helper) 0 0 5 12 2025 (length room) ≡ Ok (Some 4)) × (walk_rows (written trial t helper) 0 0 5 12 2025 room ≡ friday_rows ++ drop 40 room)
   friday room h = rw friday-walk (friday-room room h)
 
   -- "29 row slice too short", "29 also the words needed"
-  pub friday-short : (room : List ℕ) → length room < 40 → (walked (written trial t helper) 0 0 5 12 2025 (length room) ≡ Refused 29 40) × (walk_rows (written trial t helper) 0 0 5 12 2025 room ≡ room)
+  pub friday-short : (room : List ℕ) → length room < 40 → (walked (written trial t helper) 0 0 5 12 2025 (length room) ≡ Err (walk_refusal TooFewWords 40)) × (walk_rows (written trial t helper) 0 0 5 12 2025 room ≡ room)
   friday-short room h = rw friday-walk (friday-lack room h)
 
   -- "on 06.12.2025 it is not running"
-  pub saturday : (room : List ℕ) → (walked (written trial t helper) 0 0 6 12 2025 (length room) ≡ NotRunning) × (walk_rows (written trial t helper) 0 0 6 12 2025 room ≡ room)
+  pub saturday : (room : List ℕ) → (walked (written trial t helper) 0 0 6 12 2025 (length room) ≡ Ok None) × (walk_rows (written trial t helper) 0 0 6 12 2025 room ≡ room)
   saturday room = rw saturday-walk (refl, refl)
 
 -- ---- demand 3
@@ -125,12 +124,12 @@ period-is : ((delivered trial).period.start ≡ 45990) × ((delivered trial).per
 unfolding computing
 period-is = (refl, refl)
 
-days-are : (day_of 5 12 2025 ≡ Day 45994) × (day_of 6 12 2025 ≡ Day 45995)
+days-are : (day_of 5 12 2025 ≡ Some 45994) × (day_of 6 12 2025 ≡ Some 45995)
 unfolding computing
 days-are = (refl, refl)
 
 -- a date of the week
-asked : (d k : ℕ) → day_of d 12 2025 ≡ Day (45990 + k) → k < 7 → Asked trial 0 0 d 12 2025 ferry (45990 + k)
+asked : (d k : ℕ) → day_of d 12 2025 ≡ Some (45990 + k) → k < 7 → Asked trial 0 0 d 12 2025 ferry (45990 + k)
 asked d k e l =
     let p = period-is.0 in let n = period-is.1 in
     record { service = ferry-is; repeat = ferry-runs; date = e; from = omega arith; until = omega arith }
@@ -143,14 +142,14 @@ module _ (t : List ℕ) (lent : length t ≡ 4096) (helper : ℕ) (enough : 84 �
   saturday-demand = demand3 trial t helper 82 (week-accepted t lent helper enough) 0 0 6 12 2025 45995 ferry (asked 6 5 days-are.1 (omega arith))
 
   -- And of a walk on these days demand 3 allows no other answer and no other rows: not "not running" for all, nor rows left as lent.
-  pub friday-only : (room : List ℕ) → 40 ≤ length room → {a : Walked} {v : List ℕ} → Walk (delivered trial) ferry 0 (45994 - (delivered trial).period.start) room a v → (a ≡ Listed 4) × (v ≡ friday_rows ++ drop 40 room)
+  pub friday-only : (room : List ℕ) → 40 ≤ length room → {a : Walked} {v : List ℕ} → Walk (delivered trial) ferry 0 (45994 - (delivered trial).period.start) room a v → (a ≡ Ok (Some 4)) × (v ≡ friday_rows ++ drop 40 room)
   friday-only room h x =
       let w = demand3-rows trial t helper 82 (week-accepted t lent helper enough) 0 0 5 12 2025 45994 ferry (asked 5 4 days-are.0 (omega arith)) room in
       let e = no-slack (delivered trial) ferry 0 (45994 - (delivered trial).period.start) room x w in
       let f = friday t lent helper enough room h in
       (e.0 ∙ f.0, e.1 ∙ f.1)
 
-  pub saturday-only : (room : List ℕ) → {a : Walked} {v : List ℕ} → Walk (delivered trial) ferry 0 (45995 - (delivered trial).period.start) room a v → (a ≡ NotRunning) × (v ≡ room)
+  pub saturday-only : (room : List ℕ) → {a : Walked} {v : List ℕ} → Walk (delivered trial) ferry 0 (45995 - (delivered trial).period.start) room a v → (a ≡ Ok None) × (v ≡ room)
   saturday-only room x =
       let w = demand3-rows trial t helper 82 (week-accepted t lent helper enough) 0 0 6 12 2025 45995 ferry (asked 6 5 days-are.1 (omega arith)) room in
       let e = no-slack (delivered trial) ferry 0 (45995 - (delivered trial).period.start) room x w in

@@ -1,12 +1,12 @@
 -- ZUGART (request No. 1): the trial week with other lines there or in FPLAN, at load, and the question between two categories. Assumes nothing.
-use Rattle.std.specs.Prelude.{ℕ, zero, suc, List, [], ◌∷◌, ◌++◌, take, drop}
+use Rattle.std.specs.Prelude.{ℕ, zero, suc, List, [], ◌∷◌, ◌++◌, take, drop, Result, Ok, Err}
+use Rattle.timetable.specs.declared.refusal.Refusal.{Refusal}
+use Rattle.timetable.specs.declared.refusal.Refusal.TheVariants.{NoTable, StopUnknown, CategoryUnlisted}
 use Rattle.timetable.specs.Delivery.{Files}
 use Rattle.timetable.specs.Load.{delivered}
 use Rattle.timetable.specs.Questions.{rows as listed, between_asked, walk_of}
 use Rattle.timetable.specs.Table.{table_words}
 use Rattle.timetable.specs.Trial.{trial_words}
-use Rattle.timetable.specs.declared.InterchangeAnswer.{InterchangeAnswer}
-use Rattle.timetable.specs.declared.InterchangeAnswer.TheVariants.{Minutes, Refused as NotAnswered}
 use Rattle.timetable.specs.declared.Loaded.TheVariants.{Accepted, Refused}
 use Rattle.examples.specs.Trial.{line, opening, bat, category_over_all, trial, friday_rows, planned_listing, planned}
 use Rattle.examples.specs.Rows.{Row, row, answer, with_category}
@@ -51,7 +51,7 @@ other_category = line "*G XXX                                                   
 abbrev pub three_classes : Files
 three_classes = listing (bat ++ (ice ++ line "IC   2   0 IC       1"))
 
-abbrev pub between : ℕ → ℕ → ℕ → InterchangeAnswer
+abbrev pub between : ℕ → ℕ → ℕ → Result ℕ Refusal
 between stop a b = between_asked (table_words (delivered three_classes)) stop a b
 
 -- the trial week's words with another code and class in the record of its one category (words 34 and 35)
@@ -81,20 +81,20 @@ rows =
     ∷ row (answer (planned (opening ++ (category_lines 50 ++ other_category)))) (Refused 13 5 52 0 0)
     ∷ row (answer (planned (opening ++ (category_lines 49 ++ other_category)))) (Refused 38 5 51 0 0)
     -- the question: both classes 0, 1 or 2 give the first time; "38 .., in the question, after 27"; 21
-    ∷ row (between 1000011 4801349 4801312) (Minutes 2)
-    ∷ row (between 1000011 4801349 4342100) (Minutes 3)
-    ∷ row (between 1000011 4342100 4801312) (Minutes 3)
-    ∷ row (between 1 0 0) (NotAnswered 27)
-    ∷ row (between 1000011 0 4342100) (NotAnswered 38)
-    ∷ row (between 1000011 4342100 0) (NotAnswered 38)
-    ∷ row (between_asked (take 8 trial_words) 1 0 0) (NotAnswered 21)
+    ∷ row (between 1000011 4801349 4801312) (Ok 2)
+    ∷ row (between 1000011 4801349 4342100) (Ok 3)
+    ∷ row (between 1000011 4342100 4801312) (Ok 3)
+    ∷ row (between 1 0 0) (Err StopUnknown)
+    ∷ row (between 1000011 0 4342100) (Err CategoryUnlisted)
+    ∷ row (between 1000011 4342100 0) (Err CategoryUnlisted)
+    ∷ row (between_asked (take 8 trial_words) 1 0 0) (Err NoTable)
     -- "21 reads the new sizes and refuses a class over 13"
-    ∷ row (between_asked (of_class 4342100 13) 1000011 4342100 4342100) (Minutes 3)
-    ∷ row (between_asked (of_class 4342100 14) 1 0 0) (NotAnswered 21)
+    ∷ row (between_asked (of_class 4342100 13) 1000011 4342100 4342100) (Ok 3)
+    ∷ row (between_asked (of_class 4342100 14) 1 0 0) (Err NoTable)
     -- words from elsewhere, which may list a code twice: "Lookups take the first match."
-    ∷ row (between_asked (table_words (delivered (listing (bat0 ++ bat)))) 1000011 4342100 4342100) (Minutes 2)
-    ∷ row (between_asked (table_words (delivered (listing (bat ++ bat0)))) 1000011 4342100 4342100) (Minutes 3)
+    ∷ row (between_asked (table_words (delivered (listing (bat0 ++ bat)))) 1000011 4342100 4342100) (Ok 2)
+    ∷ row (between_asked (table_words (delivered (listing (bat ++ bat0)))) 1000011 4342100 4342100) (Ok 3)
     -- or not list a *G's at all (0 in its place): a walk lists it as it stands, the paper names no refusal for it
     ∷ row (walk_of (of_class 0 4) 0 0 5 12 2025) (listed friday_rows)
-    ∷ row (between_asked (of_class 0 4) 1000011 4342100 4342100) (NotAnswered 38)
+    ∷ row (between_asked (of_class 0 4) 1000011 4342100 4342100) (Err CategoryUnlisted)
     ∷ []

@@ -1,13 +1,14 @@
 -- Section 5.1's printed stops, set to their columns, as lines more in the trial week's BAHNHOF (request No. 3). Assumes nothing.
-use Rattle.std.specs.Prelude.{ℕ, List, [], ◌∷◌, ◌++◌, take, drop}
+use Rattle.std.specs.Prelude.{ℕ, List, [], ◌∷◌, ◌++◌, take, drop, Result, Ok, Err}
 use Rattle.std.proofs.Math.Option.{none, some}
 use Rattle.base.specs.Text.{bytes}
+use Rattle.timetable.specs.declared.refusal.Refusal.{Refusal}
+use Rattle.timetable.specs.declared.refusal.Refusal.TheVariants.{NoTable, StopUnknown, NoNameList, NotAskable, NameOutside}
 use Rattle.timetable.specs.Delivery.{Files}
 use Rattle.timetable.specs.Load.{delivered, offence}
 use Rattle.timetable.specs.StopNames.{stop_name_asked}
 use Rattle.timetable.specs.Table.{table_words}
-use Rattle.timetable.specs.declared.NameAnswer.{NameAnswer}
-use Rattle.timetable.specs.declared.NameAnswer.TheVariants.{Part, Refused}
+use Rattle.timetable.specs.declared.NamePart.{NamePart}
 use Rattle.examples.specs.Trial.{line, trial}
 use Rattle.examples.specs.Rows.{Row, row}
 
@@ -38,17 +39,17 @@ three = with_stops (bruxelles ++ (aaaa ++ cccc))
 -- what is answered: the bytes of the part of BAHNHOF, or the refusal
 pub data Said : Type 0 where
   name : List ℕ → Said
-  refused : ℕ → Said
+  refused : Refusal → Said
 
-abbrev pub said_by : List ℕ → NameAnswer → Said
-said_by bahnhof (Part start size) = name (take size (drop start bahnhof))
-said_by bahnhof (Refused number) = refused number
+abbrev pub said_by : List ℕ → Result NamePart Refusal → Said
+said_by bahnhof (Ok part) = name (take part.size (drop part.start bahnhof))
+said_by bahnhof (Err refusal) = refused refusal
 
 abbrev pub asked : ℕ → ℕ → ℕ → Said
 asked stop language type = said_by three.bahnhof (stop_name_asked (table_words (delivered three)) three.bahnhof stop language type)
 
 -- what the delivery of three answers, asked with a BAHNHOF of other bytes
-abbrev pub asked_with : List ℕ → NameAnswer
+abbrev pub asked_with : List ℕ → Result NamePart Refusal
 asked_with bahnhof = stop_name_asked (table_words (delivered three)) bahnhof 8800002 100 0
 
 abbrev pub rows : List Row
@@ -63,7 +64,7 @@ rows =
     ∷ row (asked 8800002 110 0) (name (bytes "Brussel Noord"))
     ∷ row (asked 8800002 102 0) (name (bytes "Bruxelles-Nord"))
     -- where it stands: BAHNHOF's fourth line starts at byte 57, so that column 13 is byte 69
-    ∷ row (asked_with three.bahnhof) (Part 84 12)
+    ∷ row (asked_with three.bahnhof) (Ok (record { start = 84; size = 12 }))
     -- ""AAAA", which is a german name, carrying type 1 and 2. Moreover, this is a french name, having types 2 and 3. .. "BBBB", which is used in English and
     -- French and it has type 1." French with type 1 is "BBBB": of "AAAA" one pattern has the language and another the type.
     ∷ row (asked 1234567 100 1) (name (bytes "AAAA"))
@@ -74,10 +75,10 @@ rows =
     ∷ row (asked 7654321 0 4) (name (bytes "DDDD"))
     ∷ row (asked 7654321 0 5) (name (bytes "CCCC"))
     -- "in order, 21, 40 .., 27, 41 .., 39": each with all that come after it
-    ∷ row (stop_name_asked [] [] 1 97 0) (Refused 21)
-    ∷ row (asked 1 97 0) (refused 40)
-    ∷ row (asked 1 100 10) (refused 40)
-    ∷ row (asked 1 100 0) (refused 27)
-    ∷ row (asked_with (take 117 ((with_stops (line "8800002     Bru$$les")).bahnhof ++ three.bahnhof))) (Refused 41)
-    ∷ row (asked_with ((with_stops (line "8800002     Bru$$les")).bahnhof ++ three.bahnhof)) (Refused 39)
+    ∷ row (stop_name_asked [] [] 1 97 0) (Err NoTable)
+    ∷ row (asked 1 97 0) (refused NotAskable)
+    ∷ row (asked 1 100 10) (refused NotAskable)
+    ∷ row (asked 1 100 0) (refused StopUnknown)
+    ∷ row (asked_with (take 117 ((with_stops (line "8800002     Bru$$les")).bahnhof ++ three.bahnhof))) (Err NameOutside)
+    ∷ row (asked_with ((with_stops (line "8800002     Bru$$les")).bahnhof ++ three.bahnhof)) (Err NoNameList)
     ∷ []

@@ -1,6 +1,8 @@
 -- Calls that point at stops (document 02, No. 10), in the trial week. Assumes nothing.
 use Rattle.std.specs.Prelude.{ℕ, ◌+◌, ◌*◌, List, [], ◌∷◌, ◌++◌, map, true, false, drop, take, set}
 use Rattle.base.specs.Lists.{gathered}
+use Rattle.timetable.specs.declared.refusal.Refusal.{Refusal}
+use Rattle.timetable.specs.declared.refusal.Refusal.TheVariants.{NoTable, StopUnknown}
 use Rattle.timetable.specs.Delivery.{Files, Service}
 use Rattle.timetable.specs.Layout.{header_size, bit_field_size, stop_size, service_head}
 use Rattle.timetable.specs.Load.{delivered}
@@ -65,10 +67,10 @@ rows =
     -- "21 additionally refuses a place not below S": S is 3; so it refuses the old table's words
     ∷ row (is_table (first_call_at 2 trial)) true
     ∷ row (is_table (first_call_at 3 trial)) false
-    ∷ row (on_friday (first_call_at 3 trial)) (refused 21)
-    ∷ row (on_friday (old_table_words (delivered trial))) (refused 21)
+    ∷ row (on_friday (first_call_at 3 trial)) (refused NoTable)
+    ∷ row (on_friday (old_table_words (delivered trial))) (refused NoTable)
     -- "each question answers as it did on the old table"
-    ∷ row (old_walk_of (old_table_words (delivered trial)) 0 0 5 12 2025) (listed friday_rows)
-    -- a walk left as it was would take a place for a number
-    ∷ row (old_walk_of (table_words (delivered trial)) 0 0 5 12 2025) (refused 32)
+    ∷ row (old_walk_of StopUnknown (old_table_words (delivered trial)) 0 0 5 12 2025) (listed friday_rows)
+    -- a walk left as it was would take a place for a number (its 32 is "stop unknown")
+    ∷ row (old_walk_of StopUnknown (table_words (delivered trial)) 0 0 5 12 2025) (refused StopUnknown)
     ∷ []

@@ -1,22 +1,20 @@
 -- "Rows marked P are proved together as one list by one theorem": the rows, each with its line of the paper (the last ones with document 02's).
 -- `Rattle.examples.proofs.Rows` proves them.
 -- Assumes nothing.
-use Rattle.std.specs.Prelude.{ℕ, ◌≡◌, List, [], ◌∷◌, ◌++◌, map, get_or, replicate}
+use Rattle.std.specs.Prelude.{ℕ, ◌≡◌, List, [], ◌∷◌, ◌++◌, map, get_or, replicate, Bool, true, false, Result, Ok, Some, None}
 use Prim.Native.String.{String}
 use Rattle.base.specs.Lists.{gathered, upto}
 use Rattle.base.specs.Text.{bytes}
 use Rattle.calendar.specs.Calendar.{day_of}
-use Rattle.calendar.specs.declared.Date.TheVariants.{Day, NoSuchDate}
 use Rattle.lines.specs.Lines.{lines_of}
+use Rattle.timetable.specs.declared.refusal.Refusal.{Refusal}
+use Rattle.timetable.specs.declared.refusal.Refusal.TheVariants.{NoSuchRun}
 use Rattle.timetable.specs.Delivery.{Files, CategoryRange, Service}
 use Rattle.timetable.specs.Files.{period_in}
 use Rattle.timetable.specs.Load.{delivered, loaded}
 use Rattle.timetable.specs.Table.{table_words}
 use Rattle.timetable.specs.Questions.{rows as listed, refused, day_asked, interchange_asked, walk_of, walk_rows}
 use Rattle.timetable.specs.declared.Call.{Call}
-use Rattle.timetable.specs.declared.DayAnswer.{DayAnswer}
-use Rattle.timetable.specs.declared.DayAnswer.TheVariants.{Runs, Idle}
-use Rattle.timetable.specs.declared.InterchangeAnswer.TheVariants.{Minutes}
 use Rattle.timetable.specs.declared.Loaded.{Loaded}
 use Rattle.timetable.specs.declared.Loaded.TheVariants.{Accepted, Refused}
 use Rattle.examples.specs.Trial.{line, week, period, trial_period, bit_field, category_over_all, days_over_all, trial, changing, changing_calls, changing_rows, planned, opened_by, dial_line, dial}
@@ -41,7 +39,7 @@ abbrev pub answer : Files → Loaded
 answer f = loaded f 4096 4096
 
 -- n days from 01.12.2025 on, asked of a delivery's table: whether bit field 000001 runs
-abbrev pub days : ℕ → Files → List DayAnswer
+abbrev pub days : ℕ → Files → List (Result Bool Refusal)
 days n f = map (λ (d : ℕ). day_asked (table_words (delivered f)) d 12 2025 1) (upto n 1)
 
 -- another *G line
@@ -70,18 +68,18 @@ one_day = week (period "01.12.2025" "01.12.2025") (bit_field "000001" "D8") (cat
 abbrev pub rows : List Row
 rows =
     -- "P 30.09.1996 is day 35,336; to 01.06.1997 is 245 days."
-    row (day_of 30 9 1996) (Day 35336)
+    row (day_of 30 9 1996) (Some 35336)
     ∷ row (period_in (lines_of (period "30.09.1996" "01.06.1997"))) (record { start = 35336; n = 245 })
     -- "P 29.02.2000 exists, 29.02.1900 does not."
-    ∷ row (day_of 29 2 2000) (Day 36583)
-    ∷ row (day_of 29 2 1900) NoSuchDate
+    ∷ row (day_of 29 2 2000) (Some 36583)
+    ∷ row (day_of 29 2 1900) None
     -- "P With n = 7, FE6 and zeros runs on days 0 to 4"
-    ∷ row (days 7 trial) (Runs ∷ Runs ∷ Runs ∷ Runs ∷ Runs ∷ Idle ∷ Idle ∷ [])
+    ∷ row (days 7 trial) (Ok true ∷ Ok true ∷ Ok true ∷ Ok true ∷ Ok true ∷ Ok false ∷ Ok false ∷ [])
     -- "P FE4 and zeros answers 8": file 2, line 1
     ∷ row (answer (week trial_period (bit_field "000001" "FE4") (category_over_all ++ days_over_all))) (Refused 8 2 1 0 0)
     -- "P n = 1, D8 and zeros: never."
     ∷ row (answer one_day) (Accepted 82)
-    ∷ row (days 1 one_day) (Idle ∷ [])
+    ∷ row (days 1 one_day) (Ok false ∷ [])
     -- "P On R, to 1000022 is 3"
     ∷ row (ends (with_category "*G BAT         1000022                                    %")) (3 ∷ [])
     -- "P from it is 1"
@@ -112,9 +110,9 @@ rows =
     (Accepted 85)
     -- "P Times 2 and 3: classes 1, 1 give 2"; document 02, No. 2, in place of "classes 2, 2 give 3": "its marked case for classes 2, 2 change (now 2);
     -- classes 2, 3 give 3"
-    ∷ row (interchange_asked (table_words (delivered trial)) 1000011 1 1) (Minutes 2)
-    ∷ row (interchange_asked (table_words (delivered trial)) 1000011 2 2) (Minutes 2)
-    ∷ row (interchange_asked (table_words (delivered trial)) 1000011 2 3) (Minutes 3)
+    ∷ row (interchange_asked (table_words (delivered trial)) 1000011 1 1) (Ok 2)
+    ∷ row (interchange_asked (table_words (delivered trial)) 1000011 2 2) (Ok 2)
+    ∷ row (interchange_asked (table_words (delivered trial)) 1000011 2 3) (Ok 3)
     -- No. 6: "A refusal 4 also returns the column .. (59 for a missing "%")": file 5, line 2
     ∷ row (answer (with_category "*G BAT")) (Refused 4 5 2 59 0)
     -- No. 13: "helper words are lent: 64, and four for each line of BITFELD, BAHNHOF and UMSTEIGB" (1, 3 and 1 lines): one too few, and enough; then
@@ -134,7 +132,7 @@ rows =
     -- No. 8: 5.3.3's example "0240 0450" has runs 0 to 32; run 1 is 8 minutes late, run 3 is 23, run 32 is 240, and run 33 answers 25
     ∷ row (answer dial) (Accepted 82)
     ∷ row (map (leaves dial) (0 ∷ 1 ∷ 3 ∷ 32 ∷ [])) (480 ∷ 488 ∷ 503 ∷ 720 ∷ [])
-    ∷ row (walk_of (table_words (delivered dial)) 0 33 5 12 2025) (refused 25)
+    ∷ row (walk_of (table_words (delivered dial)) 0 33 5 12 2025) (refused NoSuchRun)
     -- "the *Z values of No. 5, may be a *T's" (80_ is 38 30 5F and ___ 5F 5F 5F in hex)
     ∷ row (numbers dial) (replicate 4 (1554 ∷ 3682399 ∷ 6250335 ∷ []))
     -- "the negative density of section 5.3.17's example answers 4": file 5, line 1, where the density starts; and density 0

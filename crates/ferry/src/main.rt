@@ -82,6 +82,7 @@ fn read_named(rt: &HostRuntime, path: &str, buf: &mut [u8]) -> usize
 fn read_whole(mut file: File, buf: &mut [u8]) -> usize
     ensures { IsPrefixLen result buf.new }
 {
+    // Kept: a walk, not an index loop: the place goes on by what each read gives.
     let mut at = 0;
     while at < buf.len() {
         match file.read(&mut buf[at..]) {

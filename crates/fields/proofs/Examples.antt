@@ -5,8 +5,7 @@ use mathlib.Core.List.{List, [], ◌∷◌}
 use Rattle.base.specs.Lists.{every}
 use Rattle.base.specs.Text.{bytes}
 use Rattle.columns.specs.Columns.{pad_to, number_from}
-use Rattle.fields.specs.declared.Hash.{Hash}
-use Rattle.fields.specs.declared.Hash.TheVariants.{Numbered, NoNumber}
+use Rattle.std.specs.Prelude.{ℕ, Option, Some, None}
 use Rattle.fields.specs.declared.Time.{Time}
 use Rattle.fields.specs.declared.Time.TheVariants.{Absent, Stated, NoTime}
 use Rattle.fields.specs.declared.RangeEnd.{RangeEnd}
@@ -16,18 +15,18 @@ use Rattle.fields.specs.declared.Detail.TheVariants.{Plain, Nth, Timed, NoDetail
 use Rattle.fields.specs.Fields.{hash_digits, hash, time_in, time, range_end_in, range_end, detail_in, detail}
 use Rattle.fields.proofs.Cases.{Case, ◌⇒◌, Says}
 
-abbrev pub hashes : List (Case Hash)
+abbrev pub hashes : List (Case (Option ℕ))
 hashes =
-    "#0" ⇒ Numbered 0
-    ∷ "  #007 " ⇒ Numbered 7
-    ∷ "#" ⇒ NoNumber
-    ∷ "# 7" ⇒ NoNumber
-    ∷ "#7 8" ⇒ NoNumber
-    ∷ "#7a" ⇒ NoNumber
-    ∷ "##7" ⇒ NoNumber
-    ∷ "7#" ⇒ NoNumber
-    ∷ "  " ⇒ NoNumber
-    ∷ "" ⇒ NoNumber
+    "#0" ⇒ Some 0
+    ∷ "  #007 " ⇒ Some 7
+    ∷ "#" ⇒ None
+    ∷ "# 7" ⇒ None
+    ∷ "#7 8" ⇒ None
+    ∷ "#7a" ⇒ None
+    ∷ "##7" ⇒ None
+    ∷ "7#" ⇒ None
+    ∷ "  " ⇒ None
+    ∷ "" ⇒ None
     ∷ []
 
 -- six columns; past a text's end they are blank

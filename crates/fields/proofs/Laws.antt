@@ -11,8 +11,7 @@ use Rattle.base.proofs.Laws.{tests, clash}
 use Rattle.columns.specs.Columns.{pad_to, columns, is_blank, is_digit, digit_value, is_of, blank, digits, number}
 use Rattle.columns.specs.declared.ByteClass.TheVariants.{Digit, Byte}
 use Rattle.columns.proofs.Laws.{pad-take, pad-pad, get_d-pad, next-column, no-column, number-next, number_fits, tens-fit, power}
-use Rattle.fields.specs.declared.Hash.{Hash}
-use Rattle.fields.specs.declared.Hash.TheVariants.{Numbered, NoNumber}
+use Rattle.std.specs.Prelude.{Option, Some, None}
 use Rattle.fields.specs.declared.Time.{Time}
 use Rattle.fields.specs.declared.Time.TheVariants.{Absent, Stated, NoTime}
 use Rattle.fields.specs.declared.RangeEnd.{RangeEnd}
@@ -28,17 +27,17 @@ part-read f v q line a b r e d = rw (d, e, pad-pad v (b - (a - 1)) (drop (a - 1)
 
 -- ---- "#" and digits in the w columns of p, for `search hashes`: b was read at place i
 
-module _ (p : List ℕ) (w i b : ℕ) (r : Hash) (h : i < w) (e : b ≡ get_or p i 32) where
+module _ (p : List ℕ) (w i b : ℕ) (r : Option ℕ) (h : i < w) (e : b ≡ get_or p i 32) where
   module _ (v : hash (drop i (pad_to w p)) ≡ r) where
     pub hash-again : b ≡ 32 → hash (drop (i + 1) (pad_to w p)) ≡ r
     unfolding hash
     hash-again t = sym (rw (next-column p h e, eq-eqb b 32 t)) ∙ v
 
-    pub hash-found : (q : Hash) → (b ≡ 32 → ⊥) → b ≡ 35 → q ≡ after_hash (drop (i + 1) (pad_to w p)) → q ≡ r
+    pub hash-found : (q : Option ℕ) → (b ≡ 32 → ⊥) → b ≡ 35 → q ≡ after_hash (drop (i + 1) (pad_to w p)) → q ≡ r
     unfolding hash
     hash-found q t u d = d ∙ sym (rw (next-column p h e, ne_eqb b 32 t, eq-eqb b 35 u)) ∙ v
 
-    pub hash-other : (b ≡ 32 → ⊥) → (b ≡ 35 → ⊥) → NoNumber ≡ r
+    pub hash-other : (b ≡ 32 → ⊥) → (b ≡ 35 → ⊥) → None ≡ r
     unfolding hash
     hash-other t u = sym (rw (next-column p h e, ne_eqb b 32 t, ne_eqb b 35 u)) ∙ v
 
@@ -55,31 +54,31 @@ module _ (p : List ℕ) (w i b : ℕ) (r : Hash) (h : i < w) (e : b ≡ get_or p
       digits-again x y k = rw k (sym (rw (next-column p h e, sym d ∙ y)) ∙ v)
 
       module _ (u : Bool) (y : t ≡ false) (k : u ≡ every (is_of (Byte 32)) (drop i (pad_to w p))) where
-        behind : hash_digits n (drop i (pad_to w p)) ≡ cond u (Numbered n) NoNumber
+        behind : hash_digits n (drop i (pad_to w p)) ≡ cond u (Some n) None
         unfolding hash_digits
-        behind = step (drop i (pad_to w p)) (drop (i + 1) (pad_to w p)) (next-column p h e) ∙ ap (λ (z : Bool). cond z (Numbered n) NoNumber) (sym k)
+        behind = step (drop i (pad_to w p)) (drop (i + 1) (pad_to w p)) (next-column p h e) ∙ ap (λ (z : Bool). cond z (Some n) None) (sym k)
           where
             step : (l m : List ℕ) → l ≡ b ∷ m → hash_digits n l ≡ blank_end n l
             step l m q = rw (q, sym d ∙ y)
 
-        pub digits-end : u ≡ true → Numbered n ≡ r
+        pub digits-end : u ≡ true → Some n ≡ r
         digits-end z = sym (rw (behind, z)) ∙ v
 
-        pub digits-broken : u ≡ false → NoNumber ≡ r
+        pub digits-broken : u ≡ false → None ≡ r
         digits-broken z = sym (rw (behind, z)) ∙ v
 
-pub after-other : (p : List ℕ) (w i b : ℕ) (t : Bool) → i < w → b ≡ get_or p i 32 → t ≡ is_digit b → t ≡ false → NoNumber ≡ after_hash (drop i (pad_to w p))
+pub after-other : (p : List ℕ) (w i b : ℕ) (t : Bool) → i < w → b ≡ get_or p i 32 → t ≡ is_digit b → t ≡ false → None ≡ after_hash (drop i (pad_to w p))
 after-other p w i b t h e d y = rw (next-column p h e, sym d ∙ y)
 
 module _ (p : List ℕ) (w i : ℕ) (h : w ≤ i) where
-  pub hash-done : (r : Hash) → hash (drop i (pad_to w p)) ≡ r → NoNumber ≡ r
+  pub hash-done : (r : Option ℕ) → hash (drop i (pad_to w p)) ≡ r → None ≡ r
   unfolding hash
   hash-done r v = sym (rw (no-column p h)) ∙ v
 
-  pub after_none : NoNumber ≡ after_hash (drop i (pad_to w p))
+  pub after_none : None ≡ after_hash (drop i (pad_to w p))
   after_none = rw (no-column p h)
 
-  pub digits-done : (n : ℕ) (r : Hash) → hash_digits n (drop i (pad_to w p)) ≡ r → Numbered n ≡ r
+  pub digits-done : (n : ℕ) (r : Option ℕ) → hash_digits n (drop i (pad_to w p)) ≡ r → Some n ≡ r
   unfolding hash_digits
   digits-done n r v = sym (rw (no-column p h)) ∙ v
 
@@ -150,21 +149,21 @@ module _ (p : List ℕ) (t : Bool) (et : t ≡ every (is_of (Byte 32)) (pad_to 7
     unfolding range_end_in
     end-stop n z en = rw (no_end, y, stop, z, sym en)
 
-    pub end-index : (h : Hash) (r : RangeEnd) → u ≡ false → h ≡ hash (pad_to 7 p) → r ≡ index_by h → r ≡ range_end_in (pad_to 7 p)
+    pub end-index : (h : Option ℕ) (r : RangeEnd) → u ≡ false → h ≡ hash (pad_to 7 p) → r ≡ index_by h → r ≡ range_end_in (pad_to 7 p)
     unfolding range_end_in
     end-index h r z eh d = rw (no_end, y, stop, z, sym eh, d)
 
-pub detail-read : (p : List ℕ) (h : Hash) (t : Time) (d r : Detail) → h ≡ hash (pad_to 6 p) → t ≡ time_in (pad_to 6 p) → d ≡ timed_by t → r ≡ nth_by h d → r ≡ detail_in (pad_to 6 p)
+pub detail-read : (p : List ℕ) (h : Option ℕ) (t : Time) (d r : Detail) → h ≡ hash (pad_to 6 p) → t ≡ time_in (pad_to 6 p) → d ≡ timed_by t → r ≡ nth_by h d → r ≡ detail_in (pad_to 6 p)
 unfolding detail_in
 detail-read p h t d r eh et ed er = rw (er, ed, et, eh)
 
 -- blank columns have no "#"
-blank-hash : (p : List ℕ) → blank p ≡ true → hash p ≡ NoNumber
+blank-hash : (p : List ℕ) → blank p ≡ true → hash p ≡ None
 unfolding hash every
 blank-hash [] e = refl
 blank-hash (b ∷ p) e = go (is_blank b) e (blank-hash p)
   where
-    go : (t : Bool) → (t && blank p) ≡ true → (blank p ≡ true → hash p ≡ NoNumber) → cond t (hash p) (cond (eqb b 35) (after_hash p) NoNumber) ≡ NoNumber
+    go : (t : Bool) → (t && blank p) ≡ true → (blank p ≡ true → hash p ≡ None) → cond t (hash p) (cond (eqb b 35) (after_hash p) None) ≡ None
     go true y ih = ih y
     go false y ih = clash y
 

@@ -1,9 +1,7 @@
 -- The fields that are more than digits: "#" and digits, times, range ends and their details.
 -- Assumes nothing.
-use Rattle.std.specs.Prelude.{ℕ, ◌+◌, ◌*◌, ◌/◌, ◌%◌, List, [], ◌∷◌, Bool, true, false, cond, get_or, drop, eqb, leb}
+use Rattle.std.specs.Prelude.{ℕ, ◌+◌, ◌*◌, ◌/◌, ◌%◌, List, [], ◌∷◌, Bool, true, false, cond, get_or, drop, eqb, leb, Option, Some, None}
 use Rattle.columns.specs.Columns.{pad_to, is_blank, is_digit, blank, digits, digit_value, number}
-use Rattle.fields.specs.declared.Hash.{Hash}
-use Rattle.fields.specs.declared.Hash.TheVariants.{Numbered, NoNumber}
 use Rattle.fields.specs.declared.Time.{Time}
 use Rattle.fields.specs.declared.Time.TheVariants.{Absent, Stated, NoTime}
 use Rattle.fields.specs.declared.RangeEnd.{RangeEnd}
@@ -14,23 +12,23 @@ use Rattle.fields.specs.declared.Detail.TheVariants.{Plain, Nth, Timed, NoDetail
 -- ---- "#" and digits with blanks around ("#" always needs a digit)
 
 -- behind the digits of n: blanks to the end
-abbrev pub blank_end : ℕ → List ℕ → Hash
-blank_end n p = cond (blank p) (Numbered n) NoNumber
+abbrev pub blank_end : ℕ → List ℕ → Option ℕ
+blank_end n p = cond (blank p) (Some n) None
 
 -- behind n: more digits, and blanks to the end
-unfoldable pub hash_digits : ℕ → List ℕ → Hash
-hash_digits n [] = Numbered n
+unfoldable pub hash_digits : ℕ → List ℕ → Option ℕ
+hash_digits n [] = Some n
 hash_digits n (b ∷ p) = cond (is_digit b) (hash_digits (n * 10 + digit_value b) p) (blank_end n (b ∷ p))
 
 -- after "#": a digit
-abbrev pub after_hash : List ℕ → Hash
-after_hash [] = NoNumber
-after_hash (b ∷ p) = cond (is_digit b) (hash_digits 0 (b ∷ p)) NoNumber
+abbrev pub after_hash : List ℕ → Option ℕ
+after_hash [] = None
+after_hash (b ∷ p) = cond (is_digit b) (hash_digits 0 (b ∷ p)) None
 
 -- blanks, "#" (byte 35), digits, blanks
-unfoldable pub hash : List ℕ → Hash
-hash [] = NoNumber
-hash (b ∷ p) = cond (is_blank b) (hash p) (cond (eqb b 35) (after_hash p) NoNumber)
+unfoldable pub hash : List ℕ → Option ℕ
+hash [] = None
+hash (b ∷ p) = cond (is_blank b) (hash p) (cond (eqb b 35) (after_hash p) None)
 
 -- ---- times: "blank, or a blank or "-" and five digits HHHMM with MM at most 59; "-" forbids alighting (arrival) or boarding (departure).
 -- Its value is 60 times HHH plus MM." ("-" is byte 45)
@@ -56,9 +54,9 @@ time p = time_in (pad_to 6 p)
 
 -- ---- range ends (5.3.1): "A from or to is blank (first, last call), "#" and digits with blanks around (route index from 0), or seven digits (stop)."
 
-abbrev pub index_by : Hash → RangeEnd
-index_by (Numbered n) = Index (record { 0 = n })
-index_by NoNumber = NoEnd
+abbrev pub index_by : Option ℕ → RangeEnd
+index_by (Some n) = Index (record { 0 = n })
+index_by None = NoEnd
 
 -- seven columns
 unfoldable pub range_end_in : List ℕ → RangeEnd
@@ -76,9 +74,9 @@ timed_by Absent = Plain
 timed_by (Stated minutes barred) = Timed minutes
 timed_by NoTime = NoDetail
 
-abbrev pub nth_by : Hash → Detail → Detail
-nth_by (Numbered n) d = Nth (record { 0 = n })
-nth_by NoNumber d = d
+abbrev pub nth_by : Option ℕ → Detail → Detail
+nth_by (Some n) d = Nth (record { 0 = n })
+nth_by None d = d
 
 -- six columns
 unfoldable pub detail_in : List ℕ → Detail

@@ -19,14 +19,8 @@ pub struct Appearance(pub u32);
 #[derive(Clone, Copy)]
 pub struct StopNumber(pub u32);
 
-// What "#" and digits say.
-#[derive(Clone, Copy)]
-pub enum Hash {
-    Numbered(u32),
-    NoNumber,
-}
-
 // A time: nothing, or minutes and whether "-" forbids alighting or boarding.
+// Kept: NoTime, NoEnd and NoDetail are handed on beside the other variants (told, draft, route); with an Option around, each match has a layer more.
 #[derive(Clone, Copy)]
 pub enum Time {
     Absent,
@@ -120,12 +114,12 @@ fn range_end_of(p: &[u8]) -> RangeEnd
 }
 
 // The range end that "#" and digits say.
-fn index_of(h: Hash) -> RangeEnd
+fn index_of(h: Option<u32>) -> RangeEnd
     ensures { result ≡ index_by h }
 {
     match h {
-        Hash::Numbered(n) => RangeEnd::Index(RouteIndex(n)),
-        Hash::NoNumber => RangeEnd::NoEnd,
+        Some(n) => RangeEnd::Index(RouteIndex(n)),
+        None => RangeEnd::NoEnd,
     }
 }
 
@@ -140,12 +134,12 @@ fn detail_of(p: &[u8]) -> Detail
 }
 
 // The detail that "#" and digits say, or else d.
-fn nth_of(h: Hash, d: Detail) -> Detail
+fn nth_of(h: Option<u32>, d: Detail) -> Detail
     ensures { result ≡ nth_by h d }
 {
     match h {
-        Hash::Numbered(n) => Detail::Nth(Appearance(n)),
-        Hash::NoNumber => d,
+        Some(n) => Detail::Nth(Appearance(n)),
+        None => d,
     }
 }
 
@@ -161,26 +155,24 @@ fn timed_of(t: Time) -> Detail
 }
 
 // "#" and digits with blanks around, in w columns.
-fn hash_of(p: &[u8], w: usize) -> Hash
+fn hash_of(p: &[u8], w: usize) -> Option<u32>
     requires { w ≤ 9 }
     ensures { result ≡ hash (pad_to w p.now) }
 {
-    let mut i = 0;
-    while i < w {
+    for i in 0..w {
         let b = columns::byte_at(p, i);
         if b != b' ' {
             if b == b'#' {
                 return after_hash(p, i + 1, w);
             }
-            return Hash::NoNumber;
+            return None;
         }
-        i += 1;
     }
-    Hash::NoNumber
+    None
 }
 
 // After "#", from place `from`: at least one digit, then blanks.
-fn after_hash(p: &[u8], from: usize, w: usize) -> Hash
+fn after_hash(p: &[u8], from: usize, w: usize) -> Option<u32>
     requires { w ≤ 9 }
     ensures { result ≡ after_hash (drop from (pad_to w p.now)) }
 {
@@ -189,27 +181,24 @@ fn after_hash(p: &[u8], from: usize, w: usize) -> Hash
             return hash_digits(p, from, w);
         }
     }
-    Hash::NoNumber // "#" needs a digit
+    None // "#" needs a digit
 }
 
 // Digits from place `from` on, and blanks after them.
-fn hash_digits(p: &[u8], from: usize, w: usize) -> Hash
+fn hash_digits(p: &[u8], from: usize, w: usize) -> Option<u32>
     requires { w ≤ 9 }
     ensures { result ≡ hash_digits 0 (drop from (pad_to w p.now)) }
 {
     let mut n: u32 = 0;
-    let mut i = from;
-    while i < w {
+    for i in from..w {
         let b = columns::byte_at(p, i);
-        if columns::is_digit(b) {
-            n = n * 10 + columns::digit_value(b);
-            i += 1;
-        } else {
+        if !columns::is_digit(b) {
             if columns::every_from(p, i, w, ByteClass::Byte(b' ')) {
-                return Hash::Numbered(n);
+                return Some(n);
             }
-            return Hash::NoNumber;
+            return None;
         }
+        n = n * 10 + columns::digit_value(b);
     }
-    Hash::Numbered(n)
+    Some(n)
 }

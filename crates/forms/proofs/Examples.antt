@@ -9,12 +9,10 @@ use Rattle.base.specs.Text.{bytes}
 use Rattle.columns.specs.Columns as C
 use Rattle.fields.specs.Fields as F
 use Rattle.fields.proofs.Cases.{Case, ◌⇒◌, Says}
-use Rattle.forms.specs.declared.Form.{Form}
-use Rattle.forms.specs.declared.Form.TheVariants.{Fits, Broken}
+use Rattle.forms.specs.Form.{Form, Fits, Broken, stray_from, unnamed, row_form, form_from, form_of}
 use Rattle.forms.specs.declared.Kind.{Kind}
 use Rattle.forms.specs.declared.Kind.TheVariants.{Opening, Frequency, Category, Attribute, Schedule, Other}
 use Rattle.forms.specs.Kinds.{kind_of}
-use Rattle.forms.specs.Form.{stray_from, unnamed, row_form, form_from, form_of}
 use Rattle.forms.proofs.Laws.{row-holds}
 use Rattle.forms.specs.Columns.{date_columns, bit_field_columns, stop_columns, interchange_columns, class_columns, service_columns, frequency_columns, category_columns, attribute_columns, call_columns}
 

@@ -13,9 +13,7 @@ use Rattle.base.proofs.Loops.{and-true}
 use Rattle.columns.specs.Columns as C
 use Rattle.columns.specs.Columns.{is_digit, digit_value, digits, number_from, number}
 use Rattle.columns.proofs.Laws.{number-grows}
-use Rattle.forms.specs.declared.Form.{Form}
-use Rattle.forms.specs.declared.Form.TheVariants.{Fits, Broken}
-use Rattle.forms.specs.Form.{FieldRule, column_rule, free, offset_of, from_one, before, stray_from, unnamed, broken_unless, row_form, form_from, form_of, is_fit, has_form}
+use Rattle.forms.specs.Form.{Form, Fits, Broken, FieldRule, column_rule, free, offset_of, from_one, before, stray_from, unnamed, broken_unless, row_form, form_from, form_of, is_fit, has_form}
 use Rattle.forms.specs.Columns.{columns_of}
 use Rattle.forms.specs.declared.LineKind.{LineKind}
 use Rattle.forms.specs.Inner.Rows.{rule_of, from_of, to_of, row_of, rule_number, with_rule, rows_of}
@@ -55,7 +53,7 @@ module _ (line : List ℕ) (done from to a k m : ℕ) (u : Form) (ea : a ≡ fro
   abbrev row : FieldRule
   row = record { from = from; to = to; rule = rule_of k m }
 
-  pub row_out : (x : ℕ) → u ≡ Broken x → u ≡ row_form done row line
+  pub row_out : (x : ℕ) → u ≡ Broken x → Broken x ≡ row_form done row line
   unfolding row_form
   row_out x b = rw (sym ea, sym eu, b)
 
@@ -82,8 +80,8 @@ module _ (line t : List ℕ) (done i : ℕ) (r : Form) (v : form_from done (rows
     pub form-again : (b : ℕ) → b ≡ to_of x → f ≡ Fits → form_from b (rows_of (drop (i + 1) t)) line ≡ r
     form-again b eb g = rw eb (sym (step ∙ ap (λ (z : Form). before z (form_from (to_of x) (rows_of (drop (i + 1) t)) line)) g) ∙ v)
 
-    pub form-out : (c : ℕ) → f ≡ Broken c → f ≡ r
-    form-out c g = g ∙ sym (step ∙ ap (λ (z : Form). before z (form_from (to_of x) (rows_of (drop (i + 1) t)) line)) g) ∙ v
+    pub form-out : (c : ℕ) → f ≡ Broken c → Broken c ≡ r
+    form-out c g = sym (step ∙ ap (λ (z : Form). before z (form_from (to_of x) (rows_of (drop (i + 1) t)) line)) g) ∙ v
 
   pub form-done : (f : Form) → length t ≤ i → f ≡ unnamed done (length line) line → f ≡ r
   unfolding form_from rows_of

@@ -13,11 +13,9 @@ use Rattle.base.specs.Lists.{All, nil, cons}
 use Rattle.base.proofs.Laws.{clash, apart, by-ltb}
 use Rattle.base.proofs.Loops.{and-true}
 use Rattle.columns.specs.Columns as C
-use Rattle.forms.specs.declared.Form.{Form}
-use Rattle.forms.specs.declared.Form.TheVariants.{Fits, Broken}
+use Rattle.forms.specs.Form.{Form, Fits, Broken, FieldRule, before, stray_from, unnamed, broken_unless, row_form, form_from, form_of}
 use Rattle.forms.specs.declared.LineKind.{LineKind}
 use Rattle.forms.specs.declared.LineKind.TheVariants.{Date, BitField, Stop, Interchange, CategoryClass, Opening, Frequency, Category, Attribute, Schedule}
-use Rattle.forms.specs.Form.{FieldRule, before, stray_from, unnamed, broken_unless, row_form, form_from, form_of}
 use Rattle.forms.specs.Columns.{columns_of}
 use Rattle.forms.specs.Leftmost.{FieldBreaks, here, there, Stray, Breaks, field, stray, Leftmost}
 

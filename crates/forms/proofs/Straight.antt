@@ -11,12 +11,10 @@ use Rattle.base.proofs.Laws.{tests, clash}
 use Rattle.columns.proofs.Laws.{blank-past}
 use Rattle.base.specs.Lists.{every}
 use Rattle.columns.specs.Columns.{pad_to, columns, is_blank, blank}
-use Rattle.forms.specs.Form.{most_file_bytes, FieldRule, has_form, form_of, is_fit, before, broken_unless, stray_from, unnamed, row_form, form_from}
+use Rattle.forms.specs.Form.{most_file_bytes, FieldRule, has_form, form_of, is_fit, before, broken_unless, stray_from, unnamed, row_form, form_from, Form, Fits, Broken as BrokenForm}
 use Rattle.forms.specs.Columns.{bit_field_columns, stop_columns, interchange_columns, class_columns, columns_of}
 use Rattle.forms.specs.Inner.Usual.{bit_field_fits, stop_fits, interchange_fits, class_fits, tariff_fits, supplement_fits}
 use Rattle.forms.specs.declared.LineKind.{LineKind}
-use Rattle.forms.specs.declared.Form.{Form}
-use Rattle.forms.specs.declared.Form.TheVariants.{Fits, Broken as BrokenForm}
 
 -- ---- a chain of tests, for `search chained`: t is what a test said
 

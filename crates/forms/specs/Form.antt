@@ -1,6 +1,6 @@
 -- The form of a line as data: a list of column rules, as in the paper's table. "Columns named by no field are blank."
 -- Assumes nothing.
-use Rattle.std.specs.Prelude.{ℕ, zero, suc, ◌+◌, ◌-◌, List, [], ◌∷◌, Bool, true, false, cond, not, ◌&&◌, ◌||◌, length, get_or, drop, leb, eqb}
+use Rattle.std.specs.Prelude.{ℕ, zero, suc, ◌+◌, ◌-◌, List, [], ◌∷◌, Bool, true, false, cond, not, ◌&&◌, ◌||◌, length, get_or, drop, leb, eqb, Result, Ok, Err}
 use Rattle.base.specs.Lists.{every}
 use Rattle.columns.specs.Columns as C
 use Rattle.columns.specs.LineFields.{LineField, date_day, date_month, date_year, field_in}
@@ -11,8 +11,6 @@ use Rattle.fields.specs.declared.RangeEnd.{RangeEnd}
 use Rattle.fields.specs.declared.RangeEnd.TheVariants.{Outer, Index, Stop, NoEnd}
 use Rattle.fields.specs.declared.Detail.{Detail}
 use Rattle.fields.specs.declared.Detail.TheVariants.{Plain, Nth, Timed, NoDetail}
-use Rattle.forms.specs.declared.Form.{Form}
-use Rattle.forms.specs.declared.Form.TheVariants.{Fits, Broken}
 
 -- ---- what may be asked of the columns p of a line
 
@@ -132,6 +130,16 @@ most_file_bytes = 16777216
 -- "from 63 free": to the line's end, since no file is longer
 abbrev pub rest_rule : ℕ → Rule → FieldRule
 rest_rule a r = field_rule a most_file_bytes r
+
+-- what is said of a line: it fits, or is broken at this column, where the leftmost field or unnamed column that breaks the form starts
+abbrev pub Form : Type 0
+Form = Result (Unit {0}) ℕ
+
+pattern abbrev pub Fits : Form
+Fits = Ok tt
+
+pattern abbrev pub Broken : ℕ → Form
+Broken c = Err c
 
 -- the first of two that is broken
 abbrev pub before : Form → Form → Form

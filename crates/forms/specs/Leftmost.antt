@@ -3,9 +3,7 @@
 use Rattle.std.specs.Prelude.{ℕ, ◌<◌, ◌≤◌, ◌≡◌, List, ◌∷◌, false, ◌⊎◌}
 use Rattle.base.specs.Lists.{All}
 use Rattle.columns.specs.Columns as C
-use Rattle.forms.specs.declared.Form.{Form}
-use Rattle.forms.specs.declared.Form.TheVariants.{Fits, Broken}
-use Rattle.forms.specs.Form.{FieldRule}
+use Rattle.forms.specs.Form.{Form, Fits, Broken, FieldRule}
 
 -- a field that starts at a column breaks what its row asks
 pub data FieldBreaks (line : List ℕ) : List FieldRule → ℕ → Type 0 where

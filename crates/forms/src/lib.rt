@@ -7,10 +7,9 @@ ghost use Rattle.base.specs.Lists.{every};
 ghost use Rattle.columns.specs.Columns as C;
 ghost use Rattle.columns.specs.Columns.{is_of, is_blank, blank};
 ghost use Rattle.forms.specs.Form.{a_date, is_time, is_end, is_stop, is_detail, detail_of, offset_of, from_one, or_blank};
-ghost use Rattle.forms.specs.Form.{letter_to, transport_flag, unnamed, row_form, form_of};
+ghost use Rattle.forms.specs.Form.{letter_to, transport_flag, Fits, unnamed, row_form, form_of};
 ghost use Rattle.forms.specs.Inner.Rows.{rule_of, to_of, row_of, rows_of};
 ghost use Rattle.forms.specs.Columns.{bit_field_columns, stop_columns, interchange_columns, class_columns, columns_of};
-ghost use Rattle.forms.specs.declared.Form.TheVariants.{Fits};
 ghost use Rattle.forms.specs.Inner.Usual.{bit_field_fits, stop_fits, interchange_fits, class_fits, tariff_fits};
 ghost use Rattle.forms.specs.Inner.Usual.{supplement_fits};
 ghost use Rattle.forms.specs.Kinds.{starred, kind_of};
@@ -46,13 +45,6 @@ pub enum LineKind {
     Category,
     Attribute,
     Schedule,
-}
-
-// A line has the form, or breaks it: the column, from 1, where the leftmost field or unnamed column that does so starts.
-#[derive(Clone, Copy)]
-pub enum Form {
-    Fits,
-    Broken(usize),
 }
 
 // ---- the tables. A row is one number: from * FROM + to * TO + the rule + what goes with it * WITH.
@@ -261,18 +253,18 @@ fn starred_kind(b: u8, c: u8) -> Kind
 
 // ---- the form of each kind of line
 
-// Whether a line has the form of a kind.
-pub fn line_form(kind: LineKind, line: &[u8]) -> Form
+// Whether a line has the form of a kind; the error is the column, from 1, where the leftmost field or unnamed column that breaks it starts.
+pub fn line_form(kind: LineKind, line: &[u8]) -> Result<(), usize>
     ensures { result ≡ form_of (columns_of kind) line.now }
 {
     if usual_form(kind, line) {
-        return Form::Fits;
+        return Ok(());
     }
     tabled_form(kind, line)
 }
 
 // By the kind's table.
-fn tabled_form(kind: LineKind, line: &[u8]) -> Form
+fn tabled_form(kind: LineKind, line: &[u8]) -> Result<(), usize>
     ensures { result ≡ form_of (columns_of kind) line.now }
 {
     match kind {
@@ -469,25 +461,19 @@ fn is_filled(line: &[u8], a: usize, b: usize) -> bool
 
 // ---- the form that a table says, row by row
 
-fn form_of(line: &[u8], table: &[u64]) -> Form
+fn form_of(line: &[u8], table: &[u64]) -> Result<(), usize>
     ensures { result ≡ form_of (rows_of table.now) line.now }
 {
     let mut done: usize = 0;
-    let mut i = 0;
-    while i < table.len() {
-        let x = table[i];
-        let r = packed_row(line, done, x);
-        let Form::Fits = r else {
-            return r;
-        };
+    for &x in table {
+        packed_row(line, done, x)?;
         done = row_end(x);
-        i += 1;
     }
     unnamed_form(line, done, line.len())
 }
 
 // One row of a table, where the columns up to `done` are done.
-fn packed_row(line: &[u8], done: usize, x: u64) -> Form
+fn packed_row(line: &[u8], done: usize, x: u64) -> Result<(), usize>
     ensures { result ≡ row_form done (row_of x) line.now }
 {
     row_form(
@@ -508,35 +494,30 @@ fn row_end(x: u64) -> usize
 }
 
 // The same with the row taken apart: columns `from` to `to`, rule k with m.
-fn row_form(line: &[u8], done: usize, from: usize, to: usize, k: u64, m: u32) -> Form
+fn row_form(line: &[u8], done: usize, from: usize, to: usize, k: u64, m: u32) -> Result<(), usize>
     requires { m < 256 }
     ensures { result ≡ row_form done (record { from = from; to = to; rule = rule_of k m }) line.now }
 {
-    let u = unnamed_form(line, done, less_one(from));
-    let Form::Fits = u else {
-        return u;
-    };
+    unnamed_form(line, done, less_one(from))?;
     if fits_rule(line, from, to, k, m) {
-        return Form::Fits;
+        return Ok(());
     }
-    Form::Broken(from)
+    Err(from)
 }
 
 // The columns past column `done` up to column `to` are blank.
-fn unnamed_form(line: &[u8], done: usize, to: usize) -> Form
+fn unnamed_form(line: &[u8], done: usize, to: usize) -> Result<(), usize>
     ensures { result ≡ unnamed done to line.now }
 {
-    let mut i = done;
-    while i < to {
+    for i in done..to {
         if line.len() <= i {
-            return Form::Fits;
+            return Ok(());
         }
         if line[i] != b' ' {
-            return Form::Broken(i + 1);
+            return Err(i + 1);
         }
-        i += 1;
     }
-    Form::Fits
+    Ok(())
 }
 
 fn less_one(c: usize) -> usize

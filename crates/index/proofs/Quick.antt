@@ -9,13 +9,16 @@ use native.Mathlib.Omega.{arith}
 use lib.ListN.{length, get_or, take, length-append}
 use lib.Seq.{get_or-take, length-take-le, take_at}
 use lib.Dec.{leb, eqb}
+use Rattle.std.specs.Prelude.{Result, Ok, Err, ⊤}
 use borrow.Author.Tests.{le-leb, lt-leb, leb-true, not-true, not-false}
-use Rattle.base.proofs.Laws.{tests}
+use Rattle.base.proofs.Laws.{tests, apart}
 use Rattle.base.proofs.Loops.{and-true}
 use Rattle.timetable.specs.Layout.{header_size}
 use Rattle.timetable.specs.Table.{used_words, first_day, period_days, bit_fields#, stops#, interchanges#, services#, services_place, classes#, used, table_of, is_table}
 use Rattle.timetable.specs.View.{View, view_of}
 use Rattle.timetable.specs.Questions.{asked}
+use Rattle.timetable.specs.declared.refusal.Refusal.{Refusal}
+use Rattle.timetable.specs.declared.refusal.Refusal.TheVariants.{NoTable, NotItsIndex}
 use Rattle.table.specs.JustTable.{JustTable, header_sound}
 use Rattle.table.proofs.Says.{header-says, header-word, table-parts, table-says}
 use Rattle.table.proofs.JustTable.{head-alone, used-just, used-same, just-header}
@@ -86,7 +89,7 @@ module _ (w : List ℕ) (e : headed w ≡ true) where
 
 module _ (w : List ℕ) (n : ℕ) where
   module _ (t : Bool) (e : t ≡ headed w) where
-    pub refusal-head : not t ≡ true → 21 ≡ quick_refusal w n
+    pub refusal-head : not t ≡ true → Err NoTable ≡ quick_refusal w n
     refusal-head o = rw (sym e ∙ not-true t o)
 
     module _ (o : not t ≡ false) where
@@ -98,47 +101,47 @@ module _ (w : List ℕ) (n : ℕ) where
         refusal-sound = headed-head w refusal-headed u p
 
         module _ (l : Bool) (f : l ≡ index_long u n) where
-          pub refusal-short : not l ≡ true → 43 ≡ quick_refusal w n
+          pub refusal-short : not l ≡ true → Err NotItsIndex ≡ quick_refusal w n
           refusal-short k = rw (refusal-headed, sym p, sym f ∙ not-true l k)
 
-          pub refusal-none : not l ≡ false → 0 ≡ quick_refusal w n
+          pub refusal-none : not l ≡ false → Ok tt ≡ quick_refusal w n
           refusal-none k = rw (refusal-headed, sym p, sym f ∙ not-false l k)
 
 pub ruleset refusals = (tests, refusal-head, refusal-headed, refusal-sound, refusal-short, refusal-none)
 
-module _ (w x : List ℕ) (m : ℕ) (e : m ≡ quick_refusal w (length x)) where
-  abbrev number : Bool → Bool → ℕ
-  number a b = cond a (cond b 0 43) 21
+module _ (w x : List ℕ) (m : Result ⊤ Refusal) (e : m ≡ quick_refusal w (length x)) where
+  abbrev refused_by : Bool → Bool → Result ⊤ Refusal
+  refused_by a b = cond a (cond b (Ok tt) (Err NotItsIndex)) (Err NoTable)
 
-  both : (a b : Bool) → number a b ≡ 0 → (a ≡ true) × (b ≡ true)
-  both false b z = absurd (omega arith)
-  both true false z = absurd (omega arith)
-  both true true z = (refl, refl)
+  both : (a b : Bool) (v : ⊤) → refused_by a b ≡ Ok v → (a ≡ true) × (b ≡ true)
+  both false b v z = apart (cc)
+  both true false v z = apart (cc)
+  both true true v z = (refl, refl)
 
-  quickly-by : {X : Type 0} (refusal : ℕ → X) (question : View → X) (a b : Bool) → (number a b ≡ 0 → ⊥) → refusal (number a b) ≡ cond a (cond b (question (view_in (used w) (lookups_of (used w) x))) (refusal 43)) (refusal 21)
-  quickly-by refusal question false b o = refl
-  quickly-by refusal question true false o = refl
-  quickly-by refusal question true true o = absurd (o refl)
+  quickly-by : {X : Type 0} (refusal : Refusal → X) (question : View → X) (a b : Bool) (r : Refusal) → refused_by a b ≡ Err r → refusal r ≡ cond a (cond b (question (view_in (used w) (lookups_of (used w) x))) (refusal NotItsIndex)) (refusal NoTable)
+  quickly-by refusal question false b r o = let y : r ≡ NoTable = cc in ap refusal y
+  quickly-by refusal question true false r o = let y : r ≡ NotItsIndex = cc in ap refusal y
+  quickly-by refusal question true true r o = apart (cc)
 
-  pub quickly-refused : {X : Type 0} (refusal : ℕ → X) (question : View → X) → (m ≡ 0 → ⊥) → refusal m ≡ quickly refusal question w x
-  quickly-refused refusal question o = ap refusal e ∙ quickly-by refusal question (headed w) (index_long (used w) (length x)) (λ z. o (e ∙ z))
+  pub quickly-refused : {X : Type 0} (refusal : Refusal → X) (question : View → X) (r : Refusal) → m ≡ Err r → refusal r ≡ quickly refusal question w x
+  quickly-refused refusal question r o = quickly-by refusal question (headed w) (index_long (used w) (length x)) r (sym e ∙ o)
 
-  module _ (z : m ≡ 0) where
+  module _ (v : ⊤) (z : m ≡ Ok v) where
     pub quick-headed : headed w ≡ true
-    quick-headed = (both (headed w) (index_long (used w) (length x)) (sym e ∙ z)).0
+    quick-headed = (both (headed w) (index_long (used w) (length x)) v (sym e ∙ z)).0
 
     module _ (u : List ℕ) (p : u ≡ used w) where
       pub quick-head : header_sound u ≡ true
       quick-head = headed-head w quick-headed u p
 
       pub quick-long : index_long u (length x) ≡ true
-      quick-long = rw p (both (headed w) (index_long (used w) (length x)) (sym e ∙ z)).1
+      quick-long = rw p (both (headed w) (index_long (used w) (length x)) v (sym e ∙ z)).1
 
       module _ (y : List ℕ) (q : y ≡ lookups_of u x) where
         pub quick-ready : Ready u y
         quick-ready = headed-ready w quick-headed u p x y quick-long q
 
-        pub quickly-on : {X : Type 0} (refusal : ℕ → X) (question : View → X) → question (view_in u y) ≡ quickly refusal question w x
+        pub quickly-on : {X : Type 0} (refusal : Refusal → X) (question : View → X) → question (view_in u y) ≡ quickly refusal question w x
         quickly-on refusal question = rw (quick-headed, rw p at quick-long, q, p)
 
 -- for the `search` of a quick question
@@ -147,7 +150,7 @@ pub ruleset quick-words = (quick-headed, quick-head, quick-long, quick-ready)
 -- ---- the plain question: with no index
 
 module _ (w : List ℕ) (t : Bool) (e : t ≡ is_table w) where
-  pub asked-refused : {X : Type 0} (refusal : ℕ → X) (question : View → X) → not t ≡ true → refusal 21 ≡ asked refusal question w
+  pub asked-refused : {X : Type 0} (refusal : Refusal → X) (question : View → X) → not t ≡ true → refusal NoTable ≡ asked refusal question w
   asked-refused refusal question o = rw (sym e ∙ not-true t o)
 
   module _ (o : not t ≡ false) where
@@ -161,7 +164,7 @@ module _ (w : List ℕ) (t : Bool) (e : t ≡ is_table w) where
       pub plain_ready : Ready u x
       plain_ready = record { head = just-header u plain-just; ends = plain-just.ends; sized = λ k. absurd (k z) }
 
-      pub asked-on : {X : Type 0} (refusal : ℕ → X) (question : View → X) → question (view_in u x) ≡ asked refusal question w
+      pub asked-on : {X : Type 0} (refusal : Refusal → X) (question : View → X) → question (view_in u x) ≡ asked refusal question w
       asked-on refusal question = rw plain-table (ap question (view-plain u x plain-just z ∙ ap view_of (ap table_of p ∙ used-same w plain-table)))
 
 -- for the `search` of a plain question
@@ -196,7 +199,7 @@ module _ (w x c : List ℕ) (m : ℕ) (t : is_table w ≡ true) (e : x ≡ index
   front : lookups_of (used w) x ≡ index_of (used w)
   front = ap (take (index_size (used w))) e ∙ take_at (index_of (used w)) c (index_size (used w)) (length-index (used w))
 
-  pub quickly-agrees : {X : Type 0} (refusal : ℕ → X) (question : View → X) → quickly refusal question w x ≡ asked refusal question w
+  pub quickly-agrees : {X : Type 0} (refusal : Refusal → X) (question : View → X) → quickly refusal question w x ≡ asked refusal question w
   quickly-agrees refusal question =
       rw (table-headed, index-long, t)
       (ap question (view-agrees (used w) (lookups_of (used w) x) (used-just w t) front ∙ ap view_of (used-same w t)))

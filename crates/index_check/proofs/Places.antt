@@ -3,15 +3,22 @@ use mathlib.Core.Path.{◌≡◌, refl, ap, ◌∙◌, sym}
 use mathlib.Core.List.{List, [], ◌∷◌}
 use mathlib.Core.Bool.{Bool, true, false}
 use Prim.Native.Nat.{ℕ, zero, suc, ◌+◌, ◌-◌, ◌≤◌, ◌<◌}
+use native.Mathlib.Nat.{sub-zero}
 use native.Mathlib.Omega.{arith}
 use lib.ListN.{length, get_or, drop, drop_of_length-le}
 use borrow.Author.Tests.{eq-eqb, ne_eqb}
 use Rattle.base.proofs.Laws.{tests, drop-next}
 use Rattle.timetable.specs.Table.{services#, services_place}
+use Rattle.table.specs.JustTable.{JustTable}
 use Rattle.table.proofs.JustTable.{just-word}
 use Rattle.chain_check.specs.Tally.{same}
 use Rattle.index.specs.Index.{places_from, places_of}
+use Rattle.indexing.specs.Inner.Onward.{Onward}
 use Rattle.indexing.proofs.Places.{place_rest, places-start, one_place}
+
+-- before the first, none is passed
+pub places-here : (w : List ℕ) → JustTable w → Onward w (services_place w) (services# w)
+places-here w h = rw sub-zero at (places-start w h)
 
 module _ (w x : List ℕ) (p at k : ℕ) (r : Bool) (h : 0 < k) (l : at + k ≡ length x) (e : same (drop at x) (places_from w p k) ≡ r) where
   inside : at < length x
@@ -30,4 +37,4 @@ unfolding same places_from
 places-end w x p at zero r h l e = rw (drop_of_length-le x {i = at} (omega arith)) at e
 places-end w x p at (suc k) r h l e = absurd (omega arith)
 
-pub ruleset places = (tests, just-word, place_rest, places-start, place-wrong, place-right, places-end)
+pub ruleset places = (tests, just-word, place_rest, places-here, place-wrong, place-right, places-end)

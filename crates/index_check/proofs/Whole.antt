@@ -9,10 +9,11 @@ use lib.ListN.{length, get_or, take, drop, length-drop, length-append}
 use lib.Seq.{drop-drop, length-take-le, take_all, take_at}
 use lib.Dec.{eqb}
 use borrow.Author.Tests.{not-true, not-false}
+use Rattle.std.specs.Prelude.{Option, Some, None}
 use Rattle.base.proofs.Laws.{tests, clash}
 use Rattle.timetable.specs.Table.{bit_fields#, stops#, interchanges#, services#, classes#, used, is_table}
 use Rattle.table.specs.Steady.{steady, look_by}
-use Rattle.table.specs.declared.Look.{Look}
+use Rattle.table.proofs.Records.{look-no-table}
 use Rattle.table.proofs.JustTable.{just-header}
 use Rattle.chain_check.specs.Tally.{same}
 use Rattle.chain_check.proofs.Needs.{differs, same_refl, same-is}
@@ -168,18 +169,18 @@ pub ruleset wholes = (tests, just-header, whole-short, front_long, front-wrong, 
 
 -- ---- any words; l is what a look at them tells, b whether x is the index of the words u that a table uses
 
-module _ (w x : List ℕ) (l : Look) (e : l ≡ look_by (is_table w) (steady w)) where
-  pub no_table : not l.table ≡ true → Refused 21 ≡ checked_of w x
+module _ (w x : List ℕ) (l : Option Bool) (e : l ≡ look_by (is_table w) (steady w)) where
+  pub no_table : l ≡ None → Refused 21 ≡ checked_of w x
   unfolding checked_of
-  no_table n = sym (rw (sym (ap (λ (y : Look). y.table) e) ∙ not-true l.table n))
+  no_table n = sym (rw (look-no-table w l e n))
 
-  module _ (n : not l.table ≡ false) (u : List ℕ) (p : u ≡ used w) (b : Bool) (f : b ≡ same x (whole_index_of u)) where
+  module _ (s : Bool) (n : l ≡ Some s) (u : List ℕ) (p : u ≡ used w) (b : Bool) (f : b ≡ same x (whole_index_of u)) where
     pub no_index : not b ≡ true → Refused 43 ≡ checked_of w x
     unfolding checked_of
-    no_index m = sym (rw (is-table w l e n, sym p, sym f ∙ not-true b m))
+    no_index m = sym (rw (is-table w l e s n, sym p, sym f ∙ not-true b m))
 
     pub its-index : not b ≡ false → Right ≡ checked_of w x
     unfolding checked_of
-    its-index m = sym (rw (is-table w l e n, sym p, sym f ∙ not-false b m))
+    its-index m = sym (rw (is-table w l e s n, sym p, sym f ∙ not-false b m))
 
 pub ruleset any = (tests, no_table, is-table, is-just, is-steady, no_index, its-index)

@@ -27,11 +27,10 @@ pub enum IndexCheck {
 pub fn check_index(w: &[u32], x: &[u32]) -> IndexCheck
     ensures { result ≡ checked_of w.now x.now }
 {
-    let seen = table::look_at(w);
-    if !seen.table {
+    let Some(is_steady) = table::look_at(w) else {
         return IndexCheck::Refused(21);
-    }
-    if !is_index(table::used_words(w), seen.steady, x) {
+    };
+    if !is_index(table::used_words(w), is_steady, x) {
         return IndexCheck::Refused(43);
     }
     IndexCheck::Right

@@ -5,6 +5,7 @@ use mathlib.Core.Bool.{Bool, cond}
 use mathlib.Core.Option.{some}
 use Prim.Native.Nat.{ℕ, ◌+◌, ◌≤◌, ◌<◌}
 use lib.ListN.{length, drop, get_elem?, length-map}
+use Rattle.std.specs.Prelude.{Result, Ok, Err}
 use Rattle.base.specs.Lists.{gathered, below}
 use Rattle.base.proofs.Laws.{apart}
 use Rattle.calendar.specs.Calendar.{day_of}
@@ -12,12 +13,12 @@ use Rattle.timetable.specs.Delivery.{Files, Period, Service, Delivery}
 use Rattle.timetable.specs.Files.{has_stop}
 use Rattle.timetable.specs.Load.{delivered, loaded, written}
 use Rattle.timetable.specs.Table.{table_words, services#}
-use Rattle.timetable.specs.View.{View, view_of, ServiceFound, no_service, a_service}
-use Rattle.timetable.specs.Run.{Run, RunFound, no_run, at_rest, a_run, run_of, course_on}
-use Rattle.timetable.specs.Questions.{Dated, undated, dated, dated_by, date_of}
+use Rattle.timetable.specs.View.{View, view_of}
+use Rattle.timetable.specs.Run.{Course, Run, RunFound, no_run, at_rest, a_run, run_of, course_on}
+use Rattle.timetable.specs.Questions.{dated_by, date_of}
 use Rattle.timetable.specs.declared.Call.{Call}
-use Rattle.timetable.specs.declared.Course.{Course}
 use Rattle.timetable.specs.declared.Loaded.TheVariants.{Accepted}
+use Rattle.timetable.specs.declared.refusal.Refusal.{Refusal}
 use Rattle.whole_runs.proofs.Accepted.{written_is, asked-accepted}
 use Rattle.sort.specs.Rows.{sorted_rows}
 use Rattle.board.specs.Board.{Departure, IsDeparture, Among, IsBoard, call_departures, leaves, place_departures, found_departures, service_departures, board_of}
@@ -48,7 +49,7 @@ module _ (σ : ℕ → ℕ) (v u : View) (h : ViewsAlike σ v u) where
   departs n k from to x q d = go (run_of u x.service x.repeat k) refl (ap (run_for bare) (sym d.runs) ∙ run-alike σ v u h x.service q x.repeat k)
     where
       go : (a : RunFound) → run_of u x.service x.repeat k ≡ a → run_for bare (a_run d.run) ≡ run_for (service_for σ 0) a → IsDeparture u n k from to x
-      go (no_run number) e p = apart (cc)
+      go (no_run refusal) e p = apart (cc)
       go at_rest e p = apart (cc)
       go (a_run y) e p =
           let r : ◌≡◌ {A = Run} (with-service bare d.run) (with-service (service_for σ 0) y) = cc in
@@ -79,11 +80,11 @@ module _ (σ : ℕ → ℕ) (v u : View) (h : ViewsAlike σ v u) where
       → place_departures w n k from to i s p ≡ cond (leaves c p) (call_departures n from to i s.opening p (get_elem? s.calls p)) []
   place-by w n k from to i s c e p = ap (λ (c : Course). cond (leaves c p) (call_departures n from to i s.opening p (get_elem? s.calls p)) []) e
 
-  found-departs : (n k from to i : ℕ) (a b : ServiceFound) → found_by bare a ≡ found_by (service_for σ 0) b → found_departures v n k from to i a ≡ found_departures u n k from to i b
-  found-departs n k from to i (no_service x) (no_service y) q = refl
-  found-departs n k from to i (no_service x) (a_service z) q = apart (cc)
-  found-departs n k from to i (a_service s) (no_service y) q = apart (cc)
-  found-departs n k from to i (a_service s) (a_service z) q =
+  found-departs : (n k from to i : ℕ) (a b : Result Service Refusal) → found_by bare a ≡ found_by (service_for σ 0) b → found_departures v n k from to i a ≡ found_departures u n k from to i b
+  found-departs n k from to i (Err x) (Err y) q = refl
+  found-departs n k from to i (Err x) (Ok z) q = apart (cc)
+  found-departs n k from to i (Ok s) (Err y) q = apart (cc)
+  found-departs n k from to i (Ok s) (Ok z) q =
       let x : bare s ≡ service_for σ 0 z = cc in
       gathered-by (place_departures v n k from to i s) (place_departures v n k from to i (bare s)) (λ p. place-by v n k from to i s (course_on v (bare s) k) (sym (course-bare σ v u h s k)) p) (below (length s.calls))
       ∙ (ap (λ (y : Service). gathered (place_departures v n k from to i y) (below (length y.calls))) x
@@ -97,9 +98,9 @@ module _ (σ : ℕ → ℕ) (v u : View) (h : ViewsAlike σ v u) where
   unfolding board_of
   board-alike q services n k from to = ap sorted_rows (gathered-by (service_departures v n k from to) (service_departures u n k from to) (λ i. service-departs n k from to i (q i)) (below services))
 
-  on_alike : ((i : ℕ) → SameService i) → ((n : ℕ) → v.stop n ≡ u.stop n) → (services : ℕ) (own : Bool) (n from to : ℕ) (on : Dated) → board_on v services own n from to on ≡ board_on u services own n from to on
-  on_alike q stop services own n from to (undated number) = refl
-  on_alike q stop services own n from to (dated k) = rw (stop n, board-alike q services n k from to)
+  on_alike : ((i : ℕ) → SameService i) → ((n : ℕ) → v.stop n ≡ u.stop n) → (services : ℕ) (own : Bool) (n from to : ℕ) (on : Result ℕ Refusal) → board_on v services own n from to on ≡ board_on u services own n from to on
+  on_alike q stop services own n from to (Err refusal) = refl
+  on_alike q stop services own n from to (Ok k) = rw (stop n, board-alike q services n k from to)
 
   in-alike : ((i : ℕ) → SameService i) → ((n : ℕ) → v.stop n ≡ u.stop n) → (services : ℕ) (own : Bool) (n day month year from to : ℕ)
       → board_in v services own n day month year from to ≡ board_in u services own n day month year from to

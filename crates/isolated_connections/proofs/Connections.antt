@@ -6,23 +6,22 @@ use mathlib.Core.Option.{Option, none, some}
 use Prim.Native.Nat.{ℕ, ◌+◌}
 use lib.ListN.{length}
 use lib.Dec.{eqb, leb}
+use Rattle.std.specs.Prelude.{Result, Ok, Err}
 use Rattle.base.specs.Lists.{All, nil, cons}
 use Rattle.calendar.specs.Calendar.{day_of}
 use Rattle.timetable.specs.Delivery.{Files, Period, Service, Delivery}
 use Rattle.timetable.specs.Load.{delivered, loaded, written}
 use Rattle.timetable.specs.View.{View, view_of, class_for}
 use Rattle.timetable.specs.Run.{RunFound, no_run, at_rest, a_run, run_of}
-use Rattle.timetable.specs.Questions.{Dated, undated, dated, dated_by, date_of}
+use Rattle.timetable.specs.Questions.{dated_by, date_of}
 use Rattle.timetable.specs.declared.Call.{Call}
 use Rattle.timetable.specs.declared.Loaded.TheVariants.{Accepted}
+use Rattle.timetable.specs.declared.refusal.Refusal.{Refusal}
 use Rattle.whole_runs.proofs.Accepted.{asked-accepted}
-use Rattle.connections.specs.Connection.{parts_of, whole_parts, row_call, stage_between, stage_by, stage_dated, stage_of, change_to, changed_to, onward, parts_after, parts_hold, connection_in, no_connection, connection_asked}
+use Rattle.timetable.specs.declared.refusal.Refusal.TheVariants.{PartsNotWhole}
+use Rattle.connections.specs.Connection.{Staged, ConnectionAnswer, bad_part, parts_of, whole_parts, row_call, stage_between, stage_by, stage_dated, stage_of, change_to, changed_to, onward, parts_after, parts_hold, connection_in, no_connection, connection_asked}
 use Rattle.connections.specs.declared.Part.{Part}
 use Rattle.connections.specs.declared.Stage.{Stage}
-use Rattle.connections.specs.declared.Staged.{Staged}
-use Rattle.connections.specs.declared.Staged.TheVariants.{Is, Refused}
-use Rattle.connections.specs.declared.ConnectionAnswer.{ConnectionAnswer}
-use Rattle.connections.specs.declared.ConnectionAnswer.TheVariants.{Holds, Refused as BadPart}
 use Rattle.isolation.specs.Edit.{Edited, place}
 use Rattle.isolation.specs.Rename.{OneToOne, renamed}
 use Rattle.isolation.proofs.Lines.{bare}
@@ -37,7 +36,7 @@ use Rattle.isolated_connections.specs.Connections.{Without, IsolatedConnections,
 -- ---- a stage shows neither the number of the service's opening line nor that of a bit field
 
 stage-bare : (k : ℕ) (p : Part) (x : RunFound) → stage_by k p (run_for bare x) ≡ stage_by k p x
-stage-bare k p (no_run number) = refl
+stage-bare k p (no_run refusal) = refl
 stage-bare k p at_rest = refl
 stage-bare k p (a_run x) = between (row_call x p.board) (row_call x p.alight)
   where
@@ -47,7 +46,7 @@ stage-bare k p (a_run x) = between (row_call x p.board) (row_call x p.alight)
     between (some b) (some a) = refl
 
 stage-for : (σ : ℕ → ℕ) (k : ℕ) (p : Part) (x : RunFound) → stage_by k p (run_for (service_for σ 0) x) ≡ stage_by k p x
-stage-for σ k p (no_run number) = refl
+stage-for σ k p (no_run refusal) = refl
 stage-for σ k p at_rest = refl
 stage-for σ k p (a_run x) = between (row_call x p.board) (row_call x p.alight)
   where
@@ -62,9 +61,9 @@ module _ (σ : ℕ → ℕ) (v u : View) (h : ViewsAlike σ v u) (listed : (c : 
   abbrev SameService : ℕ → Type 0
   SameService i = found_by bare (v.service i) ≡ found_by (service_for σ 0) (u.service i)
 
-  stage-dated : (p : Part) → SameService p.service → (on : Dated) → stage_dated v p on ≡ stage_dated u p on
-  stage-dated p q (undated number) = refl
-  stage-dated p q (dated k) =
+  stage-dated : (p : Part) → SameService p.service → (on : Result ℕ Refusal) → stage_dated v p on ≡ stage_dated u p on
+  stage-dated p q (Err refusal) = refl
+  stage-dated p q (Ok k) =
       sym (stage-bare k p (run_of v p.service p.repeat k))
       ∙ (ap (stage_by k p) (run-alike σ v u h p.service q p.repeat k) ∙ stage-for σ k p (run_of u p.service p.repeat k))
 
@@ -77,12 +76,12 @@ module _ (σ : ℕ → ℕ) (v u : View) (h : ViewsAlike σ v u) (listed : (c : 
   change-alike s t = rw (h.times t.from, listed s.arriving, listed t.departing, class s.arriving, class t.departing)
 
   changed-alike : (s : Stage) (x : Staged) → changed_to v s x ≡ changed_to u s x
-  changed-alike s (Refused number) = refl
-  changed-alike s (Is t) = change-alike s t
+  changed-alike s (Err refusal) = refl
+  changed-alike s (Ok t) = change-alike s t
 
   onward-alike : (n : ℕ) (x : Staged) (a b : Stage → ConnectionAnswer) → ((s : Stage) → a s ≡ b s) → onward n x a ≡ onward n x b
-  onward-alike n (Refused number) a b e = refl
-  onward-alike n (Is s) a b e = e s
+  onward-alike n (Err refusal) a b e = refl
+  onward-alike n (Ok s) a b e = e s
 
   parts-alike : (s : Stage) (n : ℕ) (ps : List Part) → All (λ (p : Part). SameService p.service) ps → parts_after v s n ps ≡ parts_after u s n ps
   unfolding parts_after
@@ -99,7 +98,7 @@ module _ (σ : ℕ → ℕ) (v u : View) (h : ViewsAlike σ v u) (listed : (c : 
 
   connection-alike : (ws : List ℕ) → All (λ (p : Part). SameService p.service) (parts_of ws) → connection_in v ws ≡ connection_in u ws
   unfolding connection_in
-  connection-alike ws q = ap (λ (a : ConnectionAnswer). cond (whole_parts (length ws)) a (BadPart 46 0)) (hold-alike (parts_of ws) q)
+  connection-alike ws q = ap (λ (a : ConnectionAnswer). cond (whole_parts (length ws)) a (bad_part PartsNotWhole 0)) (hold-alike (parts_of ws) q)
 
 -- ---- of deliveries, and of their tables
 

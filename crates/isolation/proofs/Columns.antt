@@ -8,9 +8,7 @@ use lib.ListN.{length, get_or, take, drop, length-append}
 use lib.Seq.{drop_at}
 use Rattle.columns.specs.Columns.{pad_to, columns, column, is_blank}
 use Rattle.columns.proofs.Laws.{pad-take}
-use Rattle.forms.specs.Form.{stray_from, unnamed}
-use Rattle.forms.specs.declared.Form.{Form}
-use Rattle.forms.specs.declared.Form.TheVariants.{Broken}
+use Rattle.forms.specs.Form.{stray_from, unnamed, Form, Broken}
 
 -- ---- lists with the same front, or the same end
 

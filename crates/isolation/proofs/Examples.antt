@@ -3,21 +3,19 @@
 use mathlib.Core.Path.{◌≡◌, refl, sym, ap, ◌∙◌, subst}
 use mathlib.Core.Logic.{inr}
 use mathlib.Core.List.{List, [], ◌∷◌, ◌++◌}
-use mathlib.Core.Bool.{cond}
+use mathlib.Core.Bool.{cond, true, false}
 use Prim.Native.Nat.{ℕ, ◌≤◌, ◌<◌}
 use native.Mathlib.Omega.{arith}
 use lib.ListN.{length}
 use lib.Dec.{ltb, eqb}
 use borrow.Author.Tests.{le-ltb}
+use Rattle.std.specs.Prelude.{Ok, Some, None}
 use Rattle.base.specs.Text.{bytes}
 use Rattle.base.proofs.Laws.{apart, by_eqb}
 use Rattle.timetable.specs.Delivery.{Files}
 use Rattle.timetable.specs.Load.{delivered, loaded, written}
 use Rattle.timetable.specs.View.{view_of}
-use Rattle.timetable.specs.Questions.{day_in, Journey, rows, idle, journey, walked_by}
-use Rattle.timetable.specs.declared.DayAnswer.TheVariants.{Runs, Idle}
-use Rattle.timetable.specs.declared.Walked.{Walked}
-use Rattle.timetable.specs.declared.Walked.TheVariants.{Listed, NotRunning}
+use Rattle.timetable.specs.Questions.{day_in, Journey, rows, idle, journey, walked_by, Walked}
 use Rattle.timetable.specs.declared.Loaded.TheVariants.{Accepted, Refused as LoadRefused}
 use Rattle.whole_runs.proofs.Accepted.{walk-accepted}
 use Rattle.examples.specs.Trial.{line, friday_rows}
@@ -171,7 +169,7 @@ own-walk : (t t' : List ℕ) → length t ≡ 4096 → length t' ≡ 4096 → Wa
 own-walk t t' lent lent' h =
     let a = walk-accepted before t 88 127 (coast-before t t' lent lent' 88 (omega arith)) 0 0 5 12 2025 ∙ coast-friday in
     let b = walk-accepted edited t' 88 134 (coast-after t t' lent lent' 88 (omega arith)) 0 0 5 12 2025 ∙ coast-edited-friday in
-    let z : ◌≡◌ {A = Walked} NotRunning (Listed 3) = ap (λ (j : Journey). walked_by j 30) (sym a) ∙ (h.answers 0 5 12 2025 30 ∙ ap (λ (j : Journey). walked_by j 30) b) in
+    let z : ◌≡◌ {A = Walked} (Ok None) (Ok (Some 3)) = ap (λ (j : Journey). walked_by j 30) (sym a) ∙ (h.answers 0 5 12 2025 30 ∙ ap (λ (j : Journey). walked_by j 30) b) in
     apart (cc)
 
 -- with 000000 exchanged for 000001: 7
@@ -185,6 +183,6 @@ unfolding boating
 not-one-to-one = refl
 
 -- the day question by number is another bit field's, after the exchange
-old-number : (day_in (view_of (delivered before)) 5 12 2025 1 ≡ Runs) × (day_in (view_of (delivered exchanged_files)) 5 12 2025 1 ≡ Idle) × (day_in (view_of (delivered exchanged_files)) 5 12 2025 2 ≡ Runs)
+old-number : (day_in (view_of (delivered before)) 5 12 2025 1 ≡ Ok true) × (day_in (view_of (delivered exchanged_files)) 5 12 2025 1 ≡ Ok false) × (day_in (view_of (delivered exchanged_files)) 5 12 2025 2 ≡ Ok true)
 unfolding boating
 old-number = (refl, refl, refl)

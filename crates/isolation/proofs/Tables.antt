@@ -3,15 +3,15 @@ use mathlib.Core.Path.{◌≡◌, refl, sym, ap, ◌∙◌}
 use mathlib.Core.List.{List, [], ◌∷◌, map}
 use Prim.Native.Nat.{ℕ, zero, suc}
 use lib.ListN.{length, get_elem?}
+use Rattle.std.specs.Prelude.{Result, Ok, Err}
 use Rattle.calendar.specs.Calendar.{day_of}
 use Rattle.timetable.specs.Delivery.{Files, Period, Service, Delivery}
 use Rattle.timetable.specs.Load.{delivered, loaded, written}
 use Rattle.timetable.specs.StopNames.{stop_name_in, stop_name_asked}
 use Rattle.timetable.specs.View.{View, view_of, service_by, interchange_at_stop, class_for}
-use Rattle.timetable.specs.Questions.{Dated, undated, dated, dated_by, date_of, day_by, day_in, day_asked, interchange_in, interchange_asked, between_in, between_asked, Journey, journey, walk_of, walked_by, rows_by}
-use Rattle.timetable.specs.declared.InterchangeAnswer.TheVariants.{Refused as InterchangeRefused}
-use Rattle.timetable.specs.declared.NameAnswer.TheVariants.{Refused as NameRefused}
+use Rattle.timetable.specs.Questions.{dated_by, date_of, day_by, day_in, day_asked, interchange_in, interchange_asked, between_in, between_asked, Journey, journey, walk_of, walked_by, rows_by}
 use Rattle.timetable.specs.declared.Loaded.TheVariants.{Accepted}
+use Rattle.timetable.specs.declared.refusal.Refusal.{Refusal}
 use Rattle.whole_runs.proofs.Accepted.{asked-accepted, walk-accepted, day-accepted}
 use Rattle.isolation.specs.Alike.{WalksAlike, StopsAlike}
 use Rattle.isolation.proofs.Lines.{bare}
@@ -52,9 +52,9 @@ module _ (σ : ℕ → ℕ) (d e : Delivery) (h : Alike σ d e) where
   unfolding day_in
   day-same day month year b = ap (λ (p : Period). day_by (view_of d) (σ b) (dated_by p (day_of day month year))) h.period ∙ go (date_of (view_of e) day month year)
     where
-      go : (on : Dated) → day_by (view_of d) (σ b) on ≡ day_by (view_of e) b on
-      go (undated number) = refl
-      go (dated k) = rw (h.fields.known b, h.fields.runs b k)
+      go : (on : Result ℕ Refusal) → day_by (view_of d) (σ b) on ≡ day_by (view_of e) b on
+      go (Err refusal) = refl
+      go (Ok k) = rw (h.fields.known b, h.fields.runs b k)
 
   interchange-same : (n a b : ℕ) → interchange_in (view_of d) n a b ≡ interchange_in (view_of e) n a b
   unfolding interchange_in interchange_at_stop
@@ -88,12 +88,12 @@ module _ (σ : ℕ → ℕ) (f g : Files) (t t' : List ℕ) (helper helper' u u'
   unfolding interchange_asked between_asked stop_name_asked
   stops-alike = record {
     interchange = λ n a₁ b.
-        asked-accepted InterchangeRefused (λ (v : View). interchange_in v n a₁ b) f t helper u a
-        ∙ (interchange-same σ (delivered f) (delivered g) h n a₁ b ∙ sym (asked-accepted InterchangeRefused (λ (v : View). interchange_in v n a₁ b) g t' helper' u' a'));
+        asked-accepted Err (λ (v : View). interchange_in v n a₁ b) f t helper u a
+        ∙ (interchange-same σ (delivered f) (delivered g) h n a₁ b ∙ sym (asked-accepted Err (λ (v : View). interchange_in v n a₁ b) g t' helper' u' a'));
     between = λ n a₁ b.
-        asked-accepted InterchangeRefused (λ (v : View). between_in v n a₁ b) f t helper u a
-        ∙ (between-same σ (delivered f) (delivered g) h n a₁ b ∙ sym (asked-accepted InterchangeRefused (λ (v : View). between_in v n a₁ b) g t' helper' u' a'));
+        asked-accepted Err (λ (v : View). between_in v n a₁ b) f t helper u a
+        ∙ (between-same σ (delivered f) (delivered g) h n a₁ b ∙ sym (asked-accepted Err (λ (v : View). between_in v n a₁ b) g t' helper' u' a'));
     stop_name = λ bahnhof stop language type.
-        asked-accepted NameRefused (λ (v : View). stop_name_in v bahnhof stop language type) f t helper u a
-        ∙ (name-same σ (delivered f) (delivered g) h bahnhof stop language type ∙ sym (asked-accepted NameRefused (λ (v : View). stop_name_in v bahnhof stop language type) g t' helper' u' a'));
+        asked-accepted Err (λ (v : View). stop_name_in v bahnhof stop language type) f t helper u a
+        ∙ (name-same σ (delivered f) (delivered g) h bahnhof stop language type ∙ sym (asked-accepted Err (λ (v : View). stop_name_in v bahnhof stop language type) g t' helper' u' a'));
   }

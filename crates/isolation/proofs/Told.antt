@@ -12,11 +12,9 @@ use Rattle.base.proofs.Laws.{apart, clash}
 use Rattle.base.proofs.Loops.{and-true}
 use Rattle.columns.specs.Columns.{pad_to, columns, column, is_digit, digit_value, is_blank, blank, digits, number, number_from}
 use Rattle.lines.specs.Lines.{Line, skipped}
-use Rattle.forms.specs.Form.{FieldRule, field_rule as row, digits_only as digits_rule, or_blank, unnamed, row_form, form_from, form_of, before, broken_unless}
+use Rattle.forms.specs.Form.{FieldRule, field_rule as row, digits_only as digits_rule, or_blank, unnamed, row_form, form_from, form_of, before, broken_unless, Form, Fits, Broken as BrokenForm}
 use Rattle.forms.specs.Columns.{bit_field_columns, service_columns, frequency_columns, category_columns, attribute_columns, call_columns}
 use Rattle.forms.specs.Kinds.{starred, kind_of}
-use Rattle.forms.specs.declared.Form.{Form}
-use Rattle.forms.specs.declared.Form.TheVariants.{Fits, Broken as BrokenForm}
 use Rattle.forms.specs.declared.Kind.{Kind}
 use Rattle.forms.specs.declared.Kind.TheVariants.{Opening as OpeningKind, Frequency, Category as CategoryKind, Attribute, Schedule, Other as OtherKind}
 use Rattle.bitfield.specs.BitField.{bits_in}

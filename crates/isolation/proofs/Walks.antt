@@ -5,19 +5,19 @@ use mathlib.Core.List.{List, [], ◌∷◌, map}
 use mathlib.Core.Bool.{Bool}
 use mathlib.Core.Option.{Option}
 use Prim.Native.Nat.{ℕ, ◌+◌}
+use Rattle.std.specs.Prelude.{Result, Ok, Err, Some, None}
 use Rattle.base.specs.Lists.{below}
 use Rattle.base.proofs.Laws.{apart}
 use Rattle.calendar.specs.Calendar.{day_of}
 use Rattle.timetable.specs.Delivery.{Period, DayRange, ExtraRange, Service}
 use Rattle.timetable.specs.Legs.{leg_count, operated_legs_by}
 use Rattle.timetable.specs.Offences.{◌<|>◌}
-use Rattle.timetable.specs.View.{ServiceFound, no_service, a_service, View}
-use Rattle.timetable.specs.Run.{leg_refusal, first_refusal, stretch_of, stretch_from, stretch_calls, needed_last, call_refusal, calls_refusal, stretch_course, legs_course, day_course, course_on, service_course, RunFound, no_run, at_rest, a_run, run_along, run_by, run_of}
-use Rattle.timetable.specs.Questions.{Dated, undated, dated, dated_by, date_of, rows_of, rows, rows_along, dated_run, journey}
+use Rattle.timetable.specs.View.{View}
+use Rattle.timetable.specs.Run.{Course, leg_refusal, first_refusal, stretch_of, stretch_from, stretch_calls, needed_last, call_refusal, calls_refusal, stretch_course, legs_course, day_course, course_on, service_course, RunFound, no_run, at_rest, a_run, run_along, run_by, run_of}
+use Rattle.timetable.specs.Questions.{dated_by, date_of, rows_of, rows, rows_along, dated_run, journey}
 use Rattle.timetable.specs.Runs.{lateness}
 use Rattle.timetable.specs.declared.Call.{Call}
-use Rattle.timetable.specs.declared.Course.{Course}
-use Rattle.timetable.specs.declared.Course.TheVariants.{Along, NotRunning, Refused}
+use Rattle.timetable.specs.declared.refusal.Refusal.{Refusal}
 use Rattle.isolation.proofs.Lines.{bare}
 use Rattle.isolation.proofs.Days.{besides, day_for, extra_for, service_for, covering-for, known-for, legs-for}
 
@@ -27,7 +27,7 @@ module _ (n : ℕ) (ds : List DayRange) (es : List ExtraRange) (s : Service) whe
   calls-besides : (a m i before : ℕ) (cs : List Call) → calls_refusal (besides n ds es s) a m i before cs ≡ calls_refusal s a m i before cs
   unfolding calls_refusal call_refusal
   calls-besides a m i before [] = refl
-  calls-besides a m i before (c ∷ cs) = ap (λ (o : Option ℕ). call_refusal s a m i before c <|> o) (calls-besides a m (i + 1) (needed_last m i c) cs)
+  calls-besides a m i before (c ∷ cs) = ap (λ (o : Option Refusal). call_refusal s a m i before c <|> o) (calls-besides a m (i + 1) (needed_last m i c) cs)
 
   stretch-besides : (a m : ℕ) → stretch_course (besides n ds es s) a m ≡ stretch_course s a m
   unfolding stretch_course
@@ -44,19 +44,19 @@ module _ (n : ℕ) (ds : List DayRange) (es : List ExtraRange) (s : Service) whe
 
 -- ---- found services and runs, each with its service changed
 
-abbrev pub found_by : (Service → Service) → ServiceFound → ServiceFound
-found_by f (no_service number) = no_service number
-found_by f (a_service s) = a_service (f s)
+abbrev pub found_by : (Service → Service) → Result Service Refusal → Result Service Refusal
+found_by f (Err refusal) = Err refusal
+found_by f (Ok s) = Ok (f s)
 
 abbrev pub run_for : (Service → Service) → RunFound → RunFound
-run_for f (no_run number) = no_run number
+run_for f (no_run refusal) = no_run refusal
 run_for f at_rest = at_rest
 run_for f (a_run x) = a_run (record { service = f x.service; late = x.late; start = x.start; legs = x.legs })
 
 run-along : (f : Service → Service) (s : Service) (late : ℕ) (c : Course) → run_for f (run_along s late c) ≡ run_along (f s) late c
-run-along f s late (Refused number) = refl
-run-along f s late NotRunning = refl
-run-along f s late (Along a n) = refl
+run-along f s late (Err refusal) = refl
+run-along f s late (Ok None) = refl
+run-along f s late (Ok (Some x)) = refl
 
 -- ---- two views: of a bit field σ b the first says what the second says of b; period and interchange times are the same
 
@@ -96,11 +96,11 @@ module _ (σ : ℕ → ℕ) (v u : View) (h : ViewsAlike σ v u) where
   unfolding service_course
   bare-course s r k = rw (course-bare s k)
 
-  run-by : (a b : ServiceFound) → found_by bare a ≡ found_by (service_for σ 0) b → (r k : ℕ) → run_for bare (run_by v a r k) ≡ run_for (service_for σ 0) (run_by u b r k)
-  run-by (no_service x) (no_service y) q r k = let z : ◌≡◌ {A = ℕ} x y = cc in ap no_run z
-  run-by (no_service x) (a_service z) q r k = apart (cc)
-  run-by (a_service s) (no_service y) q r k = apart (cc)
-  run-by (a_service s) (a_service z) q r k =
+  run-by : (a b : Result Service Refusal) → found_by bare a ≡ found_by (service_for σ 0) b → (r k : ℕ) → run_for bare (run_by v a r k) ≡ run_for (service_for σ 0) (run_by u b r k)
+  run-by (Err x) (Err y) q r k = let z : ◌≡◌ {A = Refusal} x y = cc in ap no_run z
+  run-by (Err x) (Ok z) q r k = apart (cc)
+  run-by (Ok s) (Err y) q r k = apart (cc)
+  run-by (Ok s) (Ok z) q r k =
       let x : bare s ≡ service_for σ 0 z = cc in
       run-along bare s (lateness s.opening r) (service_course v s r k)
       ∙ (ap (run_along (bare s) (lateness s.opening r)) (sym (bare-course s r k))
@@ -114,14 +114,14 @@ module _ (σ : ℕ → ℕ) (v u : View) (h : ViewsAlike σ v u) where
   run-alike i q r k = run-by (v.service i) (u.service i) q r k
 
   rows-bare : (x : RunFound) → rows_along v (run_for bare x) ≡ rows_along v x
-  rows-bare (no_run number) = refl
+  rows-bare (no_run refusal) = refl
   rows-bare at_rest = refl
   rows-bare (a_run x) =
       let s = x.service in
       ap rows (rows-besides 0 s.days s.extras s v v (λ stop. refl) x.start x.legs x.late 0 (stretch_calls s (stretch_from x.start x.legs)))
 
   rows-for : (x : RunFound) → rows_along v (run_for (service_for σ 0) x) ≡ rows_along u x
-  rows-for (no_run number) = refl
+  rows-for (no_run refusal) = refl
   rows-for at_rest = refl
   rows-for (a_run x) =
       let s = x.service in
@@ -130,9 +130,9 @@ module _ (σ : ℕ → ℕ) (v u : View) (h : ViewsAlike σ v u) where
   rows_alike : (x y : RunFound) → run_for bare x ≡ run_for (service_for σ 0) y → rows_along v x ≡ rows_along u y
   rows_alike x y q = sym (rows-bare x) ∙ (ap (rows_along v) q ∙ rows-for y)
 
-  dated-alike : (i r : ℕ) (on : Dated) → found_by bare (v.service i) ≡ found_by (service_for σ 0) (u.service i) → rows_along v (dated_run v i r on) ≡ rows_along u (dated_run u i r on)
-  dated-alike i r (undated number) q = refl
-  dated-alike i r (dated k) q = rows_alike (run_of v i r k) (run_of u i r k) (run-alike i q r k)
+  dated-alike : (i r : ℕ) (on : Result ℕ Refusal) → found_by bare (v.service i) ≡ found_by (service_for σ 0) (u.service i) → rows_along v (dated_run v i r on) ≡ rows_along u (dated_run u i r on)
+  dated-alike i r (Err refusal) q = refl
+  dated-alike i r (Ok k) q = rows_alike (run_of v i r k) (run_of u i r k) (run-alike i q r k)
 
   -- and its walk
   pub journey-alike : (i : ℕ) → found_by bare (v.service i) ≡ found_by (service_for σ 0) (u.service i)

@@ -123,21 +123,31 @@ module _ (f : List ℕ) (at : ℕ) where
   pub none_first : true ≡ leb 0 (to_lf (drop at f))
   none_first = sym (le-leb 0 (to_lf (drop at f)) (omega arith))
 
-  -- b was read at i, after i bytes
-  pub none-again : (i n b : ℕ) (none r : Bool) → at + n ≤ length f → i < n → b ≡ get_or f (at + i) 0 → r ≡ (not (eqb b 10) && none)
-      → none ≡ leb i (to_lf (drop at f)) → r ≡ leb (i + 1) (to_lf (drop at f))
-  none-again i n b none r h l e s v =
-      s ∙ by_eqb (λ t. (not t && none) ≡ leb (i + 1) (to_lf (drop at f))) b 10
-      (λ t. sym (lt-leb (i + 1) (to_lf (drop at f)) (omega (arith, to_lf-before (drop at f) i inside (here ∙ t)))))
-      (λ t. v ∙ by-leb (λ x. x ≡ leb (i + 1) (to_lf (drop at f))) i (to_lf (drop at f))
+  -- the byte after i bytes is read
+  pub none-again : (i n : ℕ) (none : Bool) → at + n ≤ length f → i < n → none ≡ leb i (to_lf (drop at f)) → (none && not (eqb (get_or f (at + i) 0) 10)) ≡ leb (i + 1) (to_lf (drop at f))
+  none-again i n none h l v =
+      by_eqb (λ t. (none && not t) ≡ leb (i + 1) (to_lf (drop at f))) b 10
+      (λ t. and-none none ∙ sym (lt-leb (i + 1) (to_lf (drop at f)) (omega (arith, to_lf-before (drop at f) i inside (here ∙ t)))))
+      (λ t. and-all none ∙ v ∙ by-leb (λ x. x ≡ leb (i + 1) (to_lf (drop at f))) i (to_lf (drop at f))
       (λ k. sym (le-leb (i + 1) (to_lf (drop at f)) (further t k)))
       (λ k. sym (lt-leb (i + 1) (to_lf (drop at f)) (omega arith))))
     where
+      b : ℕ
+      b = get_or f (at + i) 0
+
+      and-none : (x : Bool) → (x && false) ≡ false
+      and-none true = refl
+      and-none false = refl
+
+      and-all : (x : Bool) → (x && true) ≡ x
+      and-all true = refl
+      and-all false = refl
+
       inside : i < length (drop at f)
       inside = simp length-drop (omega arith)
 
       here : get_or (drop at f) i 0 ≡ b
-      here = get_or-drop at f i 0 ∙ sym e
+      here = get_or-drop at f i 0
 
       further : (b ≡ 10 → ⊥) → i ≤ to_lf (drop at f) → i + 1 ≤ to_lf (drop at f)
       further t k = elim (dec_lt i (to_lf (drop at f))) [

@@ -95,6 +95,7 @@ fn past_blocks(file: &[u8], at: usize) -> usize
     ensures { (result ≤ length file.now)
         × (result + to_lf (drop result file.now) ≡ at + to_lf (drop at file.now)) }
 {
+    // Kept: each block is looked at from where the last one ended; `chunks_exact` would give parts without their places.
     let mut i = at;
     while BLOCK <= file.len() - i {
         if no_lf(file, i, BLOCK) {
@@ -126,20 +127,8 @@ fn no_lf(file: &[u8], at: usize, n: usize) -> bool
     ensures { result ≡ leb n (to_lf (drop at file.now)) }
 {
     let mut none = true;
-    let mut i = 0;
-    while i < n {
-        none = none_with(none, file[at + i]);
-        i += 1;
-    }
-    none
-}
-
-// Whether there is still none with one byte more.
-fn none_with(none: bool, b: u8) -> bool
-    ensures { result ≡ (not (eqb b 10) && none) }
-{
-    if b == b'\n' {
-        return false;
+    for i in 0..n {
+        none &= file[at + i] != b'\n';
     }
     none
 }
@@ -149,14 +138,12 @@ fn first_lf(file: &[u8], at: usize) -> usize
     requires { at ≤ length file.now }
     ensures { result ≡ at + to_lf (drop at file.now) }
 {
-    let mut i = at;
-    while i < file.len() {
+    for i in at..file.len() {
         if file[i] == b'\n' {
             return i;
         }
-        i += 1;
     }
-    i
+    file.len()
 }
 
 // ---- how many LF: a file's lines are counted without being cut
@@ -172,10 +159,8 @@ pub fn lines_ended(file: &[u8], at: usize) -> u32
     ensures upper_bound { result ≤ 128 }
 {
     let mut ended: u8 = 0;
-    let mut i = 0;
-    while i < COUNTED {
+    for i in 0..COUNTED {
         ended += one_lf(file[at + i]);
-        i += 1;
     }
     ended as u32
 }

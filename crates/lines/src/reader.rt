@@ -77,6 +77,7 @@ pub fn lines_in(f: &[u8]) -> u32
 {
     let mut at: usize = 0;
     let mut ended: u32 = 0;
+    // Kept: the last bytes are never counted at once, and where they begin is handed on; a `for` over steps of 128 is no plainer.
     while crate::COUNTED < f.len() - at {
         ended += crate::lines_ended(f, at);
         at += crate::COUNTED;
@@ -94,6 +95,7 @@ fn lines_passed(text: &[u8]) -> u32
         at: 0,
         no: 1,
     };
+    // Kept: a walk over the text, line by line; no index is counted.
     while reader.at < text.len() {
         reader.next_line();
     }

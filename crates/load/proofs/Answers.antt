@@ -1,5 +1,6 @@
 -- What `load` and `load_drafting` answer and leave, for `search refusing` and `search loading`: n is the file that is too long, r the helper words needed, d
 -- what the checks say of the files, t the table and h the helper words lent. Assumes nothing.
+use Rattle.std.specs.Prelude.{Result, Ok, Err}
 use mathlib.Core.Path.{◌≡◌, refl, sym, ap, ◌∙◌}
 use mathlib.Core.List.{List, ◌++◌}
 use mathlib.Core.Bool.{true}
@@ -29,9 +30,8 @@ use Rattle.table_words.specs.declared.Header.{Header}
 use Rattle.load.specs.Inner.Delivered.{long_in, header_of, delivered_by, answered, left}
 use Rattle.load.specs.Inner.Helper.{needed_of}
 use Rattle.load.specs.declared.Needed.{Needed}
-use Rattle.load.specs.declared.Delivered.{Delivered}
+use Rattle.load.specs.declared.FileOffence.{FileOffence}
 use Rattle.sections.proofs.Sound.{fields-sound, stops-sound, interchanges-sound, classes-sound}
-use Rattle.load.specs.declared.Delivered.TheVariants.{Holds, Refused}
 use Rattle.load.proofs.Table.{words-needed, words-used, table_is}
 use Rattle.load.proofs.Files.{too_long, none-too-long, all_short, sections-none, plan-none}
 use Rattle.load.proofs.Helper.{needed-small}
@@ -104,7 +104,7 @@ pub ruleset refusing = (tests, long-refused, long-table, long-helper, words-fit,
 
 -- ---- past both, for `search loading`
 
-module _ (e b s u p z : List ℕ) (d : Delivered)
+module _ (e b s u p z : List ℕ) (d : Result Header FileOffence)
     (v : d ≡ delivered_by (content_offence (files_of e b s u p z)) (header_of (delivered (files_of e b s u p z)))) where
   abbrev these : Files
   these = files_of e b s u p z
@@ -114,15 +114,17 @@ module _ (e b s u p z : List ℕ) (d : Delivered)
 
   -- ---- an offence
 
-  module _ (file : ℕ) (o : Offence) (y : d ≡ Refused file o) where
-    offence-is : content_offence these ≡ some (record { file = file; offence = o })
+  module _ (o : FileOffence) (y : d ≡ Err o) where
+    offence-is : content_offence these ≡ some (record { file = o.file; offence = o.offence })
     offence-is = go (content_offence these) (sym v ∙ y)
       where
-        go : (w : Option Where) → delivered_by w (header_of held) ≡ Refused file o → w ≡ some (record { file = file; offence = o })
+        go : (w : Option Where) → delivered_by w (header_of held) ≡ Err o → w ≡ some (record { file = o.file; offence = o.offence })
         go none v = apart (cc)
-        go (some w) v = let a : w.file ≡ file = cc in let c : w.offence ≡ o = cc in rw (← a, ← c) refl
+        go (some w) v =
+            let p : ◌≡◌ {A = FileOffence} (record { file = w.file; offence = w.offence }) o = cc in
+            rw (← ap (λ (q : FileOffence). q.file) p, ← ap (λ (q : FileOffence). q.offence) p) refl
 
-    pub refused : (t : List ℕ) → LoadRefused o.number file o.line o.column 0 ≡ answered these (length t)
+    pub refused : (t : List ℕ) → LoadRefused o.offence.number o.file o.offence.line o.offence.column 0 ≡ answered these (length t)
     unfolding answered
     refused t = rw offence-is refl
 
@@ -132,11 +134,11 @@ module _ (e b s u p z : List ℕ) (d : Delivered)
 
   -- ---- none: g is the header
 
-  module _ (g : Header) (y : d ≡ Holds g) where
+  module _ (g : Header) (y : d ≡ Ok g) where
     clean : (content_offence these ≡ none) × (header_of held ≡ g)
     clean = go (content_offence these) (sym v ∙ y)
       where
-        go : (w : Option Where) → delivered_by w (header_of held) ≡ Holds g → (w ≡ none) × (header_of held ≡ g)
+        go : (w : Option Where) → delivered_by w (header_of held) ≡ Ok g → (w ≡ none) × (header_of held ≡ g)
         go none v = (refl, cc)
         go (some w) v = apart (cc)
 

@@ -1,4 +1,5 @@
 -- The first offence of a delivery, file after file. Assumes nothing.
+use Rattle.std.specs.Prelude.{Result, Ok, Err}
 use mathlib.Core.Path.{◌≡◌, refl, sym, ap, ◌∙◌}
 use mathlib.Core.List.{List}
 use mathlib.Core.Bool.{Bool, true, false, cond}
@@ -18,8 +19,6 @@ use Rattle.timetable.specs.Service.{blocks}
 use Rattle.timetable.specs.Checks.{plan_first}
 use Rattle.timetable.specs.Load.{Where, in_file, delivered, length_offence, content_offence}
 use Rattle.timetable.specs.declared.Offence.{Offence}
-use Rattle.timetable.specs.declared.Checked.{Checked}
-use Rattle.timetable.specs.declared.Checked.TheVariants.{Holds as Both, Refused as Wrong}
 use Rattle.timetable.proofs.Offences.{then-none, in-none, checked-holds, checked_refused}
 use Rattle.period.proofs.Laws.{period-short}
 use Rattle.sections.proofs.Held.{held-file}
@@ -28,8 +27,7 @@ use Rattle.reading.proofs.Sizes.{words-fit}
 use Rattle.table_words.specs.declared.Header.{Header}
 use Rattle.load.specs.Inner.Helper.{Short}
 use Rattle.load.specs.Inner.Delivered.{long_in, header_by, header_of, refused_in, delivered_by}
-use Rattle.load.specs.declared.Delivered.{Delivered}
-use Rattle.load.specs.declared.Delivered.TheVariants.{Holds, Refused}
+use Rattle.load.specs.declared.FileOffence.{FileOffence}
 use Rattle.load.proofs.Table.{header_is}
 
 -- ---- lengths
@@ -81,7 +79,7 @@ module _ (e b s u p z : List ℕ) where
   content-is = refl
 
   -- what is answered
-  abbrev answer : Delivered
+  abbrev answer : Result Header FileOffence
   answer = delivered_by (content_offence (files_of e b s u p z)) (header_of (delivered (files_of e b s u p z)))
 
   module _ (n : ℕ) (k : n ≡ long_in (length e) (length b) (length s) (length u) (length z) (length p)) where
@@ -142,91 +140,101 @@ module _ (e b s u p z : List ℕ) where
 
 -- the six files in order, by their offences
 module _ (P B S U C F : Option Offence) (h : Header) where
-  abbrev six : Delivered
+  abbrev six : Result Header FileOffence
   six = delivered_by (in_file 1 P <|> in_file 2 B <|> in_file 3 S <|> in_file 4 U <|> in_file 6 C <|> in_file 5 F) h
 
   module _ (o : Offence) where
-    in-1 : P ≡ some o → six ≡ Refused 1 o
+    in-1 : P ≡ some o → six ≡ Err (record { file = 1; offence = o })
     unfolding ◌<|>◌
     in-1 a = rw a refl
 
-    in-2 : P ≡ none → B ≡ some o → six ≡ Refused 2 o
+    in-2 : P ≡ none → B ≡ some o → six ≡ Err (record { file = 2; offence = o })
     unfolding ◌<|>◌
     in-2 a b = rw (a, b) refl
 
-    in-3 : P ≡ none → B ≡ none → S ≡ some o → six ≡ Refused 3 o
+    in-3 : P ≡ none → B ≡ none → S ≡ some o → six ≡ Err (record { file = 3; offence = o })
     unfolding ◌<|>◌
     in-3 a b c = rw (a, b, c) refl
 
-    in-4 : P ≡ none → B ≡ none → S ≡ none → U ≡ some o → six ≡ Refused 4 o
+    in-4 : P ≡ none → B ≡ none → S ≡ none → U ≡ some o → six ≡ Err (record { file = 4; offence = o })
     unfolding ◌<|>◌
     in-4 a b c d = rw (a, b, c, d) refl
 
-    in-6 : P ≡ none → B ≡ none → S ≡ none → U ≡ none → C ≡ some o → six ≡ Refused 6 o
+    in-6 : P ≡ none → B ≡ none → S ≡ none → U ≡ none → C ≡ some o → six ≡ Err (record { file = 6; offence = o })
     unfolding ◌<|>◌
     in-6 a b c d g = rw (a, b, c, d, g) refl
 
-    in-5 : P ≡ none → B ≡ none → S ≡ none → U ≡ none → C ≡ none → F ≡ some o → six ≡ Refused 5 o
+    in-5 : P ≡ none → B ≡ none → S ≡ none → U ≡ none → C ≡ none → F ≡ some o → six ≡ Err (record { file = 5; offence = o })
     unfolding ◌<|>◌
     in-5 a b c d g f = rw (a, b, c, d, g, f) refl
 
-  all_hold : P ≡ none → B ≡ none → S ≡ none → U ≡ none → C ≡ none → F ≡ none → six ≡ Holds h
+  all_hold : P ≡ none → B ≡ none → S ≡ none → U ≡ none → C ≡ none → F ≡ none → six ≡ Ok h
   unfolding ◌<|>◌
   all_hold a b c d g f = rw (a, b, c, d, g, f) refl
 
 -- what is said of a file
-record Says (own : Option Offence) (a b : ℕ) (x : Checked) : Type 0 where
+record Says (own : Option Offence) (a b : ℕ) (x : Result (ℕ × ℕ) Offence) : Type 0 where
   is : x ≡ checked_by own a b
 
-past : {own : Option Offence} {a b : ℕ} {x : Checked} → Says own a b x → {c d : ℕ} → x ≡ Both c d → own ≡ none
+past : {own : Option Offence} {a b : ℕ} {x : Result (ℕ × ℕ) Offence} → Says own a b x → {c d : ℕ} → x ≡ Ok (c, d) → own ≡ none
 past {own} {a} {b} {x} k {c} {d} y = (checked-holds own a b x k.is c d y).0
 
-counted : {own : Option Offence} {a b : ℕ} {x : Checked} → Says own a b x → {c d : ℕ} → x ≡ Both c d → a ≡ c
+counted : {own : Option Offence} {a b : ℕ} {x : Result (ℕ × ℕ) Offence} → Says own a b x → {c d : ℕ} → x ≡ Ok (c, d) → a ≡ c
 counted {own} {a} {b} {x} k {c} {d} y = (checked-holds own a b x k.is c d y).1
 
-counted-too : {own : Option Offence} {a b : ℕ} {x : Checked} → Says own a b x → {c d : ℕ} → x ≡ Both c d → b ≡ d
+counted-too : {own : Option Offence} {a b : ℕ} {x : Result (ℕ × ℕ) Offence} → Says own a b x → {c d : ℕ} → x ≡ Ok (c, d) → b ≡ d
 counted-too {own} {a} {b} {x} k {c} {d} y = (checked-holds own a b x k.is c d y).2
 
-wrong : {own : Option Offence} {a b : ℕ} {x : Checked} → Says own a b x → {o : Offence} → x ≡ Wrong o → own ≡ some o
+wrong : {own : Option Offence} {a b : ℕ} {x : Result (ℕ × ℕ) Offence} → Says own a b x → {o : Offence} → x ≡ Err o → own ≡ some o
 wrong {own} {a} {b} {x} k {o} y = checked_refused own a b x k.is o y
 
--- what is answered where it does not hold
-refusal : (file : ℕ) {x : Checked} {o : Offence} {r : Delivered} → x ≡ Wrong o → r ≡ refused_in file x → r ≡ Refused file o
-refusal file y v = v ∙ ap (refused_in file) y
+-- what is said of the file with it: where it holds, and where it does not
+pub held : (file : ℕ) {x : Result (ℕ × ℕ) Offence} {r : Result (ℕ × ℕ) FileOffence} {a b : ℕ} → r ≡ refused_in file x → r ≡ Ok (a, b) → x ≡ Ok (a, b)
+held file {x} {r} {a} {b} v y = go x (sym v ∙ y)
+  where
+    go : (x : Result (ℕ × ℕ) Offence) → refused_in file x ≡ Ok (a, b) → x ≡ Ok (a, b)
+    go (Ok h) k = let p : ◌≡◌ {A = ℕ × ℕ} h (a, b) = cc in ap Ok p
+    go (Err o) k = apart (cc)
+
+record Out (file : ℕ) (x : Result (ℕ × ℕ) Offence) (e : FileOffence) : Type 0 where
+  is : x ≡ Err e.offence
+  at : e.file ≡ file
+
+out : (file : ℕ) {x : Result (ℕ × ℕ) Offence} {r : Result (ℕ × ℕ) FileOffence} {e : FileOffence} → r ≡ refused_in file x → r ≡ Err e → Out file x e
+out file {x} {r} {e} v y = go x (sym v ∙ y)
+  where
+    go : (x : Result (ℕ × ℕ) Offence) → refused_in file x ≡ Err e → Out file x e
+    go (Ok h) k = apart (cc)
+    go (Err o) k =
+        let p : ◌≡◌ {A = FileOffence} (record { file = file; offence = o }) e = cc in
+        record { is = ap (λ (q : FileOffence). Err q.offence) p; at = sym (ap (λ (q : FileOffence). q.file) p) }
+
+-- so the answer of all is that of the file
+refusal : {file : ℕ} {e : FileOffence} {all : Result Header FileOffence} → all ≡ Err (record { file = file; offence = e.offence }) → e.file ≡ file → Err e ≡ all
+refusal {file} {e} k y = sym (k ∙ rw (← y) refl)
 
 -- ECKDATEN, BITFELD, BAHNHOF, UMSTEIGB, ZUGART, FPLAN
-abbrev Period : List ℕ → Checked → Type 0
+abbrev Period : List ℕ → Result (ℕ × ℕ) Offence → Type 0
 Period e x = Says (period_first (lines_of e)) (period_in (lines_of e)).start (period_in (lines_of e)).n x
 
-abbrev Fields : List ℕ → ℕ → ℕ → Checked → Type 0
+abbrev Fields : List ℕ → ℕ → ℕ → Result (ℕ × ℕ) Offence → Type 0
 Fields b days m x = Says (bit_fields_first days (lines_of b)) (length (bit_fields_in b)) m x
 
-abbrev Stops : List ℕ → ℕ → Checked → Type 0
+abbrev Stops : List ℕ → ℕ → Result (ℕ × ℕ) Offence → Type 0
 Stops s m x = Says (stops_first (lines_of s)) (length (stops_in s)) m x
 
-abbrev Interchanges : List ℕ → List ℕ → ℕ → Checked → Type 0
+abbrev Interchanges : List ℕ → List ℕ → ℕ → Result (ℕ × ℕ) Offence → Type 0
 Interchanges s u m x = Says (interchanges_first (stops_in s) (lines_of u)) (length (interchanges_in u)) m x
 
-abbrev Classes : List ℕ → ℕ → Checked → Type 0
+abbrev Classes : List ℕ → ℕ → Result (ℕ × ℕ) Offence → Type 0
 Classes z m x = Says (classes_first (lines_of z)) (length (classes_in z)) m x
 
-abbrev Plan : List ℕ → List ℕ → List ℕ → ℕ → List ℕ → Checked → Type 0
+abbrev Plan : List ℕ → List ℕ → List ℕ → ℕ → List ℕ → Result (ℕ × ℕ) Offence → Type 0
 Plan b s z days p x = Says (plan_first (bit_fields_in b) (stops_in s) (classes_in z) days (lines_of p)) (length (blocks (lines_of p))) (length (block_words (blocks (lines_of p)))) x
-
--- ---- the needs of `refused`, for `search refusals`
-
-module _ (file : ℕ) (x : Checked) where
-  pub refused-is : (o : Offence) → x ≡ Wrong o → Refused file o ≡ refused_in file x
-  refused-is o y = rw y refl
-
-  pub refused-never : (a b : ℕ) (o : Offence) → x ≡ Both a b → o ≡ offence_at 0 0 → Refused file o ≡ refused_in file x
-  refused-never a b o y q = rw y (ap (Refused file) q)
-
-pub ruleset refusals = (tests, refused-is, refused-never)
 
 -- ---- bounds of what was counted, for the calls
 
-module _ (x : Checked) (c k : ℕ) (y : x ≡ Both c k) where
+module _ (x : Result (ℕ × ℕ) Offence) (c k : ℕ) (y : x ≡ Ok (c, k)) where
   pub days-few : (e : List ℕ) → x ≡ checked_by (period_first (lines_of e)) (period_in (lines_of e)).start (period_in (lines_of e)).n → k ≤ most_period_days
   days-few e d = let q : Period e x = record { is = d } in omega (arith, period-short (lines_of e), counted-too q y)
 
@@ -248,7 +256,7 @@ module _ (x : Checked) (c k : ℕ) (y : x ≡ Both c k) where
 -- ---- the files, one after the other
 
 module _ (e b s u p z : List ℕ)
-    (x₁ : Checked) (e₁ : x₁ ≡ checked_by (period_first (lines_of e)) (period_in (lines_of e)).start (period_in (lines_of e)).n) where
+    (x₁ : Result (ℕ × ℕ) Offence) (e₁ : x₁ ≡ checked_by (period_first (lines_of e)) (period_in (lines_of e)).start (period_in (lines_of e)).n) where
   abbrev header : Header
   header = header_of (delivered (files_of e b s u p z))
 
@@ -281,50 +289,50 @@ module _ (e b s u p z : List ℕ)
   c₁ : Period e x₁
   c₁ = record { is = e₁ }
 
-  pub period-out : (o : Offence) (r : Delivered) → x₁ ≡ Wrong o → r ≡ refused_in 1 x₁ → r ≡ answer e b s u p z
-  period-out o r y v = refusal 1 y v ∙ sym (same ∙ in-1 o₁ o₂ o₃ o₄ o₆ o₅ header o (wrong c₁ y))
+  pub period-out : (r : Result (ℕ × ℕ) FileOffence) (o : FileOffence) → r ≡ refused_in 1 x₁ → r ≡ Err o → Err o ≡ answer e b s u p z
+  period-out r o v y = let k : Out 1 x₁ o = out 1 v y in refusal (same ∙ in-1 o₁ o₂ o₃ o₄ o₆ o₅ header o.offence (wrong c₁ k.is)) k.at
 
-  module _ (start days : ℕ) (y₁ : x₁ ≡ Both start days) (x₂ : Checked) (m₂ : ℕ) (e₂ : x₂ ≡ checked_by (bit_fields_first days (lines_of b)) (length (bit_fields_in b)) m₂) where
+  module _ (start days : ℕ) (y₁ : x₁ ≡ Ok (start, days)) (x₂ : Result (ℕ × ℕ) Offence) (m₂ : ℕ) (e₂ : x₂ ≡ checked_by (bit_fields_first days (lines_of b)) (length (bit_fields_in b)) m₂) where
     days-are : own ≡ days
     days-are = counted-too c₁ y₁
 
     c₂ : Fields b own m₂ x₂
     c₂ = record { is = rw days-are e₂ }
 
-    pub fields_out : (o : Offence) (r : Delivered) → x₂ ≡ Wrong o → r ≡ refused_in 2 x₂ → r ≡ answer e b s u p z
-    fields_out o r y v = refusal 2 y v ∙ sym (same ∙ in-2 o₁ o₂ o₃ o₄ o₆ o₅ header o (past c₁ y₁) (wrong c₂ y))
+    pub fields_out : (r : Result (ℕ × ℕ) FileOffence) (o : FileOffence) → r ≡ refused_in 2 x₂ → r ≡ Err o → Err o ≡ answer e b s u p z
+    fields_out r o v y = let k : Out 2 x₂ o = out 2 v y in refusal (same ∙ in-2 o₁ o₂ o₃ o₄ o₆ o₅ header o.offence (past c₁ y₁) (wrong c₂ k.is)) k.at
 
-    module _ (nb k₂ : ℕ) (y₂ : x₂ ≡ Both nb k₂) (x₃ : Checked) (m₃ : ℕ) (e₃ : x₃ ≡ checked_by (stops_first (lines_of s)) (length (stops_in s)) m₃) where
+    module _ (nb k₂ : ℕ) (y₂ : x₂ ≡ Ok (nb, k₂)) (x₃ : Result (ℕ × ℕ) Offence) (m₃ : ℕ) (e₃ : x₃ ≡ checked_by (stops_first (lines_of s)) (length (stops_in s)) m₃) where
       c₃ : Stops s m₃ x₃
       c₃ = record { is = e₃ }
 
-      pub stops-out : (o : Offence) (r : Delivered) → x₃ ≡ Wrong o → r ≡ refused_in 3 x₃ → r ≡ answer e b s u p z
-      stops-out o r y v = refusal 3 y v ∙ sym (same ∙ in-3 o₁ o₂ o₃ o₄ o₆ o₅ header o (past c₁ y₁) (past c₂ y₂) (wrong c₃ y))
+      pub stops-out : (r : Result (ℕ × ℕ) FileOffence) (o : FileOffence) → r ≡ refused_in 3 x₃ → r ≡ Err o → Err o ≡ answer e b s u p z
+      stops-out r o v y = let k : Out 3 x₃ o = out 3 v y in refusal (same ∙ in-3 o₁ o₂ o₃ o₄ o₆ o₅ header o.offence (past c₁ y₁) (past c₂ y₂) (wrong c₃ k.is)) k.at
 
-      module _ (ns k₃ : ℕ) (y₃ : x₃ ≡ Both ns k₃) (x₄ : Checked) (m₄ : ℕ) (e₄ : x₄ ≡ checked_by (interchanges_first (stops_in s) (lines_of u)) (length (interchanges_in u)) m₄) where
+      module _ (ns k₃ : ℕ) (y₃ : x₃ ≡ Ok (ns, k₃)) (x₄ : Result (ℕ × ℕ) Offence) (m₄ : ℕ) (e₄ : x₄ ≡ checked_by (interchanges_first (stops_in s) (lines_of u)) (length (interchanges_in u)) m₄) where
         c₄ : Interchanges s u m₄ x₄
         c₄ = record { is = e₄ }
 
-        pub interchanges-out : (o : Offence) (r : Delivered) → x₄ ≡ Wrong o → r ≡ refused_in 4 x₄ → r ≡ answer e b s u p z
-        interchanges-out o r y v = refusal 4 y v ∙ sym (same ∙ in-4 o₁ o₂ o₃ o₄ o₆ o₅ header o (past c₁ y₁) (past c₂ y₂) (past c₃ y₃) (wrong c₄ y))
+        pub interchanges-out : (r : Result (ℕ × ℕ) FileOffence) (o : FileOffence) → r ≡ refused_in 4 x₄ → r ≡ Err o → Err o ≡ answer e b s u p z
+        interchanges-out r o v y = let k : Out 4 x₄ o = out 4 v y in refusal (same ∙ in-4 o₁ o₂ o₃ o₄ o₆ o₅ header o.offence (past c₁ y₁) (past c₂ y₂) (past c₃ y₃) (wrong c₄ k.is)) k.at
 
-        module _ (nu k₄ : ℕ) (y₄ : x₄ ≡ Both nu k₄) (x₆ : Checked) (m₆ : ℕ) (e₆ : x₆ ≡ checked_by (classes_first (lines_of z)) (length (classes_in z)) m₆) where
+        module _ (nu k₄ : ℕ) (y₄ : x₄ ≡ Ok (nu, k₄)) (x₆ : Result (ℕ × ℕ) Offence) (m₆ : ℕ) (e₆ : x₆ ≡ checked_by (classes_first (lines_of z)) (length (classes_in z)) m₆) where
           c₆ : Classes z m₆ x₆
           c₆ = record { is = e₆ }
 
-          pub classes-out : (o : Offence) (r : Delivered) → x₆ ≡ Wrong o → r ≡ refused_in 6 x₆ → r ≡ answer e b s u p z
-          classes-out o r y v = refusal 6 y v ∙ sym (same ∙ in-6 o₁ o₂ o₃ o₄ o₆ o₅ header o (past c₁ y₁) (past c₂ y₂) (past c₃ y₃) (past c₄ y₄) (wrong c₆ y))
+          pub classes-out : (r : Result (ℕ × ℕ) FileOffence) (o : FileOffence) → r ≡ refused_in 6 x₆ → r ≡ Err o → Err o ≡ answer e b s u p z
+          classes-out r o v y = let k : Out 6 x₆ o = out 6 v y in refusal (same ∙ in-6 o₁ o₂ o₃ o₄ o₆ o₅ header o.offence (past c₁ y₁) (past c₂ y₂) (past c₃ y₃) (past c₄ y₄) (wrong c₆ k.is)) k.at
 
-          module _ (nk k₆ : ℕ) (y₆ : x₆ ≡ Both nk k₆) (x₅ : Checked) (e₅ : x₅ ≡ checked_by (plan_first (bit_fields_in b) (stops_in s) (classes_in z) days (lines_of p)) (length (blocks (lines_of p))) (length (block_words (blocks (lines_of p))))) where
+          module _ (nk k₆ : ℕ) (y₆ : x₆ ≡ Ok (nk, k₆)) (x₅ : Result (ℕ × ℕ) Offence) (e₅ : x₅ ≡ checked_by (plan_first (bit_fields_in b) (stops_in s) (classes_in z) days (lines_of p)) (length (blocks (lines_of p))) (length (block_words (blocks (lines_of p))))) where
             c₅ : Plan b s z own p x₅
             c₅ = record { is = rw days-are e₅ }
 
-            pub plan-out : (o : Offence) (r : Delivered) → x₅ ≡ Wrong o → r ≡ refused_in 5 x₅ → r ≡ answer e b s u p z
-            plan-out o r y v = refusal 5 y v ∙ sym (same ∙ in-5 o₁ o₂ o₃ o₄ o₆ o₅ header o (past c₁ y₁) (past c₂ y₂) (past c₃ y₃) (past c₄ y₄) (past c₆ y₆) (wrong c₅ y))
+            pub plan-out : (r : Result (ℕ × ℕ) FileOffence) (o : FileOffence) → r ≡ refused_in 5 x₅ → r ≡ Err o → Err o ≡ answer e b s u p z
+            plan-out r o v y = let k : Out 5 x₅ o = out 5 v y in refusal (same ∙ in-5 o₁ o₂ o₃ o₄ o₆ o₅ header o.offence (past c₁ y₁) (past c₂ y₂) (past c₃ y₃) (past c₄ y₄) (past c₆ y₆) (wrong c₅ k.is)) k.at
 
-            pub all_right : (v w : ℕ) (g : Header) → x₅ ≡ Both v w → g ≡ header_by start days nb ns nu nk v w → Holds g ≡ answer e b s u p z
+            pub all_right : (v w : ℕ) (g : Header) → x₅ ≡ Ok (v, w) → g ≡ header_by start days nb ns nu nk v w → Ok g ≡ answer e b s u p z
             all_right v w g y q =
-                ap Holds (q ∙ sym (header_is e b s u p z ∙ rw (counted c₁ y₁, days-are, counted c₂ y₂, counted c₃ y₃, counted c₄ y₄, counted c₆ y₆, counted c₅ y, counted-too c₅ y) refl))
+                ap Ok (q ∙ sym (header_is e b s u p z ∙ rw (counted c₁ y₁, days-are, counted c₂ y₂, counted c₃ y₃, counted c₄ y₄, counted c₆ y₆, counted c₅ y, counted-too c₅ y) refl))
                 ∙ sym (same ∙ all_hold o₁ o₂ o₃ o₄ o₆ o₅ header (past c₁ y₁) (past c₂ y₂) (past c₃ y₃) (past c₄ y₄) (past c₆ y₆) (past c₅ y))
 
 pub ruleset orders = (tests, period-out, fields_out, stops-out, interchanges-out, plan-out)

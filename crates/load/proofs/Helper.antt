@@ -1,4 +1,5 @@
 -- The helper words: how many are needed, and the parts of them that the maps and the index take. Assumes nothing.
+use Rattle.std.specs.Prelude.{Result, Ok, Err}
 use mathlib.Core.Path.{◌≡◌, refl, sym, ap, subst, ◌∙◌}
 use mathlib.Core.List.{List, ◌++◌, append-nil}
 use Prim.Native.Nat.{ℕ, ◌+◌, ◌*◌, ◌-◌, ◌^◌, ◌≤◌, ◌<◌}
@@ -11,18 +12,15 @@ use Rattle.base.proofs.Laws.{apart, tests}
 use Rattle.lines.specs.Lines.{lines_of}
 use Rattle.lines.proofs.Laws.{lines-le}
 use Rattle.timetable.specs.Layout.{helper_head, helper_line, most_file_bytes}
-use Rattle.timetable.specs.declared.Checked.{Checked}
-use Rattle.timetable.specs.declared.Checked.TheVariants.{Holds, Refused}
 use Rattle.sections.specs.Inner.SectionMap.{MapOf, Lent, MapAfter}
 use Rattle.classes.specs.Inner.Index.{IndexOf, IndexRoom, ClassesAfter}
 use Rattle.sections.specs.declared.Section.TheVariants.{BitFields, Stops}
 use Rattle.reading.specs.Inner.Maps.{FieldMap, StopMap, ClassIndex}
 use Rattle.table_words.specs.declared.Header.{Header}
-use Rattle.load.specs.Inner.Delivered.{refused_in}
 use Rattle.load.specs.Inner.Helper.{Short, needed_of, Emptied, LentAt, IndexLent, FieldsAfter, StopsAfter, IndexAfter, StopsStand}
-use Rattle.load.specs.declared.Delivered.{Delivered}
-use Rattle.load.specs.declared.Delivered.TheVariants.{Holds as AllHold}
+use Rattle.load.specs.declared.FileOffence.{FileOffence}
 use Rattle.load.specs.declared.Needed.{Needed}
+use Rattle.timetable.specs.declared.Offence.{Offence}
 
 -- ---- how many are needed
 
@@ -71,7 +69,7 @@ pub lent-part : (f : List ℕ) (at words : ℕ) (m : List ℕ) → LentAt f at w
 lent-part f at words m h = let e : at + words - at ≡ words = omega arith in rw e (lent f at words m h)
 
 -- m' is what is left in the first words
-pub fields-after : (b : List ℕ) (r : Checked) (words : ℕ) (m m' : List ℕ) → LentAt b 0 words m → length m' ≡ length (take (words - 0) m) → MapAfter BitFields b r m'
+pub fields-after : (b : List ℕ) (r : Result (ℕ × ℕ) Offence) (words : ℕ) (m m' : List ℕ) → LentAt b 0 words m → length m' ≡ length (take (words - 0) m) → MapAfter BitFields b r m'
     → FieldsAfter b r words m (m' ++ drop (words - 0) m)
 unfolding FieldMap
 fields-after b r words m m' h l a =
@@ -83,7 +81,7 @@ fields-after b r words m m' h l a =
     }
 
 -- m' is what is left in so many words from a place on
-pub stops-after : (s : List ℕ) (r : Checked) (at words : ℕ) (m m' : List ℕ) → LentAt s at words m → length m' ≡ length (take (at + words - at) (drop at m)) → MapAfter Stops s r m'
+pub stops-after : (s : List ℕ) (r : Result (ℕ × ℕ) Offence) (at words : ℕ) (m m' : List ℕ) → LentAt s at words m → length m' ≡ length (take (at + words - at) (drop at m)) → MapAfter Stops s r m'
     → StopsAfter s r at words m (take at m ++ (m' ++ drop (at + words - at) (drop at m)))
 unfolding StopMap
 stops-after s r at words m m' h l a =
@@ -175,7 +173,7 @@ module _ (at words : ℕ) (m : List ℕ) (h : IndexLent at words m) where
 pub ruleset index-fits = (tests, index-start, index-place, index-bytes)
 
 -- m' is what is left in them
-pub index-after : (z : List ℕ) (r : Checked) (at words : ℕ) (m m' : List ℕ) → IndexLent at words m → length m' ≡ length (take (length m - (at + words)) (drop (at + words) m)) → ClassesAfter z r m'
+pub index-after : (z : List ℕ) (r : Result (ℕ × ℕ) Offence) (at words : ℕ) (m m' : List ℕ) → IndexLent at words m → length m' ≡ length (take (length m - (at + words)) (drop (at + words) m)) → ClassesAfter z r m'
     → IndexAfter z r at words m (take (at + words) m ++ (m' ++ drop (length m - (at + words)) (drop (at + words) m)))
 unfolding ClassIndex
 index-after z r at words m m' h l a =
@@ -209,7 +207,7 @@ module _ (e b s u p z : List ℕ) (r : Needed) (m : List ℕ) (h : Short e b s u
         zeros = ap (take r.fields) q.words ∙ take-zeros r.words r.fields (omega (arith, x, w));
       }
 
-  module _ (x : Checked) (m₁ : List ℕ) (a : FieldsAfter b x r.fields m m₁) where
+  module _ (x : Result (ℕ × ℕ) Offence) (m₁ : List ℕ) (a : FieldsAfter b x r.fields m m₁) where
     pub lent-stops : LentAt s r.fields r.stops m₁
     lent-stops =
         let f = fields-are b s u r q.is in let g = stops-are b s u r q.is in let w = words_are b s u r q.is in let l = a.same in
@@ -221,7 +219,7 @@ module _ (e b s u p z : List ℕ) (r : Needed) (m : List ℕ) (h : Short e b s u
               ∙ take-zeros (r.words - r.fields) r.stops (omega (arith, f, g, w));
         }
 
-    module _ (y : Checked) (m₂ : List ℕ) (c : StopsAfter s y r.fields r.stops m₁ m₂) where
+    module _ (y : Result (ℕ × ℕ) Offence) (m₂ : List ℕ) (c : StopsAfter s y r.fields r.stops m₁ m₂) where
       behind : drop (r.fields + r.stops) m₂ ≡ replicate (r.words - (r.fields + r.stops)) 0
       behind =
           let f = fields-are b s u r q.is in let g = stops-are b s u r q.is in let w = words_are b s u r q.is in
@@ -251,26 +249,26 @@ module _ (e b s u p z : List ℕ) (r : Needed) (m : List ℕ) (h : Short e b s u
         pub lent-index : IndexLent r.fields r.stops m₃
         lent-index = let i = stops-inside in let n = size₂ in record { inside = omega (arith, i, l); small = omega (arith, small, n, l) }
 
-        module _ (v : Checked) (m₄ : List ℕ) (t : IndexAfter z v r.fields r.stops m₃ m₄) where
+        module _ (v : Result (ℕ × ℕ) Offence) (m₄ : List ℕ) (t : IndexAfter z v r.fields r.stops m₃ m₄) where
           pub maps-inside : r.fields + r.stops + helper_head ≤ length m₄
           maps-inside = let i = stops-inside in omega (arith, l, t.same)
 
           maps-same : take (r.fields + r.stops) m₄ ≡ take (r.fields + r.stops) m₂
           maps-same = t.front ∙ d
 
-          pub fields-held : (k j : ℕ) → x ≡ Holds k j → FieldMap b (take r.fields m₄)
+          pub fields-held : (k j : ℕ) → x ≡ Ok (k, j) → FieldMap b (take r.fields m₄)
           fields-held k j g =
               let same : take r.fields m₄ ≡ take r.fields m₁ =
               sym (take-take r.fields (r.fields + r.stops) m₄ (omega arith)) ∙ ap (take r.fields) maps-same ∙ take-take r.fields (r.fields + r.stops) m₂ (omega arith) ∙ c.front in
               subst (FieldMap b) (sym same) (a.held k j g)
 
-          pub stops-still : (k j : ℕ) → y ≡ Holds k j → StopMap s (take r.stops (drop r.fields m₄))
+          pub stops-still : (k j : ℕ) → y ≡ Ok (k, j) → StopMap s (take r.stops (drop r.fields m₄))
           stops-still k j g =
               let i = maps-inside in let i₂ = stops-inside in
               subst (StopMap s) (sym (sym (middle m₄ r.fields r.stops (omega arith)) ∙ ap (drop r.fields) maps-same ∙ middle m₂ r.fields r.stops (omega arith))) (c.held k j g)
 
           -- so the map of BAHNHOF is there when all is checked, whatever is answered
-          pub stops-stand : (k j : ℕ) → y ≡ Holds k j → (o : Delivered) → StopsStand s r.fields r.stops o m₄
+          pub stops-stand : (k j : ℕ) → y ≡ Ok (k, j) → (o : Result Header FileOffence) → StopsStand s r.fields r.stops o m₄
           stops-stand k j g o = record {
             inside = λ _ _. omega (arith, maps-inside);
             small = λ _ _. omega (arith, stops-inside, size₂, small);
@@ -278,15 +276,14 @@ module _ (e b s u p z : List ℕ) (r : Needed) (m : List ℕ) (h : Short e b s u
           }
 
 -- a delivery that is refused asks for no map
-pub refused-stand : (s : List ℕ) (at words file : ℕ) (x : Checked) (d : Delivered) (m : List ℕ) → d ≡ refused_in file x → StopsStand s at words d m
-refused-stand s at words file x d m e = record { inside = λ h w. never x h (sym e ∙ w); small = λ h w. never x h (sym e ∙ w); held = λ h w. never x h (sym e ∙ w) }
+pub refused-stand : (s : List ℕ) (at words : ℕ) (d : Result Header FileOffence) (m : List ℕ) (x : FileOffence) → d ≡ Err x → StopsStand s at words d m
+refused-stand s at words d m x e = record { inside = λ h w. never h (sym e ∙ w); small = λ h w. never h (sym e ∙ w); held = λ h w. never h (sym e ∙ w) }
   where
-    never : {X : Type 0} (x : Checked) (h : Header) → refused_in file x ≡ AllHold h → X
-    never (Refused o) h w = apart (cc)
-    never (Holds a b) h w = apart (cc)
+    never : {X : Type 0} (h : Header) → ◌≡◌ {A = Result Header FileOffence} (Err x) (Ok h) → X
+    never h w = apart (cc)
 
 -- what stands, for `search standing`: the part of m that the table is written by
-module _ (s : List ℕ) (at words : ℕ) (d : Delivered) (m : List ℕ) (k : StopsStand s at words d m) (g : Header) (y : d ≡ AllHold g) where
+module _ (s : List ℕ) (at words : ℕ) (d : Result Header FileOffence) (m : List ℕ) (k : StopsStand s at words d m) (g : Header) (y : d ≡ Ok g) where
   pub stand-inside : at + words ≤ length m
   stand-inside = k.inside g y
 

@@ -22,15 +22,15 @@ ghost use Rattle.load.specs.Inner.Helper.{IndexAfter, StopsStand};
 use lines::reader;
 use table_words::Header;
 use timetable::{
-    BIT_FIELD_WORDS, CLASS_WORDS, Checked, HEADER_WORDS, HELPER_HEAD_WORDS, HELPER_LINE_WORDS,
+    BIT_FIELD_WORDS, CLASS_WORDS, HEADER_WORDS, HELPER_HEAD_WORDS, HELPER_LINE_WORDS,
     INTERCHANGE_WORDS, Loaded, MOST_FILE_BYTES, Offence, STOP_WORDS,
 };
 
-// What the checks of the files say: the header of the table, or the first offence and its file.
+// The first offence of the files, with its file.
 #[derive(Clone, Copy)]
-pub enum Delivered {
-    Holds(Header),
-    Refused { file: u32, offence: Offence },
+pub struct FileOffence {
+    pub file: u32,
+    pub offence: Offence,
 }
 
 pub fn load(
@@ -216,14 +216,14 @@ fn load_drafting(
         eckdaten, bitfeld, bahnhof, umsteigb, fplan, zugart, needed, m, calls, ranges,
     );
     match delivered {
-        Delivered::Refused { file, offence } => Loaded::Refused {
-            number: offence.number,
-            file,
-            line: offence.line,
-            column: offence.column,
+        Err(first) => Loaded::Refused {
+            number: first.offence.number,
+            file: first.file,
+            line: first.offence.line,
+            column: first.offence.column,
             needed: 0,
         },
-        Delivered::Holds(header) => {
+        Ok(header) => {
             let used = header.words;
             if table.len() < used as usize {
                 return Loaded::Refused {
@@ -267,7 +267,7 @@ fn check_delivery(
     m: &mut [u32],
     calls: &mut [u32],
     ranges: &mut [u32],
-) -> Delivered
+) -> Result<Header, FileOffence>
     requires short { Short eckdaten.now bitfeld.now bahnhof.now umsteigb.now fplan.now zugart.now }
     requires emptied { Emptied bitfeld.now bahnhof.now umsteigb.now needed m.old }
     requires calls_lent_in_bounds { (calls_lent ≤ length calls.old) × (ranges_lent ≤ length ranges.old) }
@@ -281,33 +281,21 @@ fn check_delivery(
         zugart.now))) }
     ensures stops_stand { StopsStand bahnhof.now needed.fields needed.stops result m.new }
 {
-    let period = period::check_period(eckdaten);
-    let Checked::Holds(start, days) = period else {
-        return refused(1, period);
-    };
-    let field_section = fields_in(bitfeld, days, m, needed.fields);
-    let Checked::Holds(fields, _) = field_section else {
-        return refused(2, field_section);
-    };
-    let stop_section = stops_in(bahnhof, m, needed.fields, needed.stops);
-    let Checked::Holds(stops, _) = stop_section else {
-        return refused(3, stop_section);
-    };
-    let interchange_section = interchanges_in(umsteigb, bahnhof, m, needed.fields, needed.stops);
-    let Checked::Holds(interchanges, _) = interchange_section else {
-        return refused(4, interchange_section);
-    };
-    let class_section = classes_in(zugart, m, needed.fields, needed.stops);
-    let Checked::Holds(classes, _) = class_section else {
-        return refused(6, class_section);
-    };
-    let plan = plan_by(
-        fplan, bitfeld, bahnhof, zugart, days, m, needed, calls, ranges,
-    );
-    let Checked::Holds(services, words) = plan else {
-        return refused(5, plan);
-    };
-    Delivered::Holds(header_of(
+    let (start, days) = in_file(1, period::check_period(eckdaten))?;
+    let (fields, _) = in_file(2, fields_in(bitfeld, days, m, needed.fields))?;
+    let (stops, _) = in_file(3, stops_in(bahnhof, m, needed.fields, needed.stops))?;
+    let (interchanges, _) = in_file(
+        4,
+        interchanges_in(umsteigb, bahnhof, m, needed.fields, needed.stops),
+    )?;
+    let (classes, _) = in_file(6, classes_in(zugart, m, needed.fields, needed.stops))?;
+    let (services, words) = in_file(
+        5,
+        plan_by(
+            fplan, bitfeld, bahnhof, zugart, days, m, needed, calls, ranges,
+        ),
+    )?;
+    Ok(header_of(
         start,
         days,
         fields,
@@ -320,7 +308,7 @@ fn check_delivery(
 }
 
 // BITFELD, its map in the first words, so many.
-fn fields_in(bitfeld: &[u8], days: u32, m: &mut [u32], words: usize) -> Checked
+fn fields_in(bitfeld: &[u8], days: u32, m: &mut [u32], words: usize) -> Result<(u32, u32), Offence>
     requires bitfeld_len_bound { (length bitfeld.now ≤ most_file_bytes) × (days ≤ most_period_days) }
     requires lent_at { LentAt bitfeld.now 0 words m.old }
     ensures value { result ≡ checked_by (bit_fields_first days (lines_of bitfeld.now)) (length (bit_fields_in bitfeld.now))
@@ -331,7 +319,7 @@ fn fields_in(bitfeld: &[u8], days: u32, m: &mut [u32], words: usize) -> Checked
 }
 
 // BAHNHOF, its map in so many words from place `at` on.
-fn stops_in(bahnhof: &[u8], m: &mut [u32], at: usize, words: usize) -> Checked
+fn stops_in(bahnhof: &[u8], m: &mut [u32], at: usize, words: usize) -> Result<(u32, u32), Offence>
     requires bahnhof_len_bound { length bahnhof.now ≤ most_file_bytes }
     requires lent_at { LentAt bahnhof.now at words m.old }
     ensures value { result ≡ checked_by (stops_first (lines_of bahnhof.now)) (length (stops_in bahnhof.now))
@@ -348,7 +336,7 @@ fn interchanges_in(
     m: &mut [u32],
     at: usize,
     words: usize,
-) -> Checked
+) -> Result<(u32, u32), Offence>
     requires umsteigb_len_bound { (length umsteigb.now ≤ most_file_bytes) × (at + words + helper_head ≤ length m.old) }
     requires stop_map { StopMap bahnhof.now (take words (drop at m.old)) }
     requires lent_at { LentAt umsteigb.now (at + words) (length m.old - helper_head - (at + words)) m.old }
@@ -361,7 +349,7 @@ fn interchanges_in(
 }
 
 // ZUGART, its index behind the map of BAHNHOF, which takes so many words from place `at` on, where the map of UMSTEIGB was.
-fn classes_in(zugart: &[u8], m: &mut [u32], at: usize, words: usize) -> Checked
+fn classes_in(zugart: &[u8], m: &mut [u32], at: usize, words: usize) -> Result<(u32, u32), Offence>
     requires zugart_len_bound { length zugart.now ≤ most_file_bytes }
     requires index_lent { IndexLent at words m.old }
     ensures value { result ≡ checked_by (classes_first (lines_of zugart.now)) (length (classes_in zugart.now))
@@ -383,7 +371,7 @@ fn plan_by(
     needed: Needed,
     calls: &mut [u32],
     ranges: &mut [u32],
-) -> Checked
+) -> Result<(u32, u32), Offence>
     requires fplan_len_bound { (length fplan.now ≤ most_file_bytes) × (days ≤ most_period_days)
         × (needed.fields + needed.stops + helper_head ≤ length m.now) }
     requires field_map { FieldMap bitfeld.now (take needed.fields m.now) ×
@@ -438,17 +426,13 @@ fn too_long(
     0
 }
 
-// The offence of a file that does not hold.
-fn refused(file: u32, checked: Checked) -> Delivered
+// What the check of a file says, its offence with the file.
+fn in_file(file: u32, checked: Result<(u32, u32), Offence>) -> Result<(u32, u32), FileOffence>
     ensures { result ≡ refused_in file checked }
 {
     match checked {
-        Checked::Refused(offence) => Delivered::Refused { file, offence },
-        // not asked for
-        Checked::Holds(a, b) => Delivered::Refused {
-            file,
-            offence: timetable::offence_at(0, 0),
-        },
+        Err(offence) => Err(FileOffence { file, offence }),
+        Ok(held) => Ok(held),
     }
 }
 

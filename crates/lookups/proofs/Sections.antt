@@ -1,4 +1,4 @@
--- What stands at a place, for `search held`, and the i-th of some rows. Assumes nothing.
+-- The i-th of some rows. Assumes nothing.
 use mathlib.Core.Path.{◌≡◌, ◌∙◌}
 use mathlib.Core.List.{List}
 use mathlib.Core.Option.{some}
@@ -10,15 +10,6 @@ use lib.Seq.{drop-drop, get_or-drop}
 use Rattle.base.proofs.Laws.{tests}
 use Rattle.timetable.specs.Table.{rows_in, stop_at, interchange_at}
 use Rattle.lookups.specs.Lookups.{name_place, times_of}
-use Rattle.lookups.specs.declared.StopName.TheVariants.{Place}
-
-pub name-is : (w : List ℕ) (p : ℕ) → Place (get_or w (p + 1) 0) (get_or w (p + 2) 0) ≡ name_place (stop_at (drop p w))
-name-is w p = rw (get_or-drop p w 1 0, get_or-drop p w 2 0)
-
-pub times-are : (w : List ℕ) (p : ℕ) → record { first = get_or w (p + 1) 0; second = get_or w (p + 2) 0 } ≡ times_of (interchange_at (drop p w))
-times-are w p = rw (get_or-drop p w 1 0, get_or-drop p w 2 0)
-
-pub ruleset held = (tests, name-is, times-are)
 
 -- the i-th of n rows
 pub row-there : {X : Type 0} (f : List ℕ → X) (s n i : ℕ) (w : List ℕ) → i < n → get_elem? (rows_in f s n w) i ≡ some (f (drop (s * i) w))

@@ -7,19 +7,12 @@ ghost use Rattle.bitfield.specs.BitField.{runs_on};
 ghost use Rattle.timetable.specs.Layout.{stop_size, interchange_size, most_period_days};
 ghost use Rattle.timetable.specs.Table.{stop_at, interchange_at};
 ghost use Rattle.timetable.specs.Questions.{dated_by};
-ghost use Rattle.lookups.specs.Lookups.{place_of, name_place, times_of, period_day};
+ghost use Rattle.lookups.specs.Lookups.{place_of, name_place, times_of};
 
-use calendar::Date;
-use timetable::BIT_WORDS;
+use timetable::{BIT_WORDS, Refusal};
 
-// A day of the period, counted from 0, or the number of a refusal.
-#[derive(Clone, Copy)]
-pub enum PeriodDay {
-    On(u32),
-    Refused(u32),
-}
-
-// A bit field: whether there is one of that number, and its days.
+// A bit field: whether there is one of that number, and its days; an unknown one has none.
+// Kept: (d) its two parts are read apart (crate course): an Option would be taken apart at each place.
 #[derive(Clone, Copy)]
 pub struct Field {
     pub known: bool,
@@ -33,47 +26,39 @@ pub struct Times {
     pub second: u32,
 }
 
-// What the record of a stop says of its name: where it begins in BAHNHOF and how long it is. Or no stop has the number.
+// What the record of a stop says of its name: where it begins in BAHNHOF and how long it is.
 #[derive(Clone, Copy)]
-pub enum StopName {
-    Place { offset: u32, size: u32 },
-    Unknown,
-}
-
-// The place of a record.
-#[derive(Clone, Copy)]
-pub enum RecordFound {
-    At(usize),
-    Nothing,
+pub struct NamePlace {
+    pub offset: u32,
+    pub size: u32,
 }
 
 // ---- the search
 
-// The first of n records of a size from place `at` on that begins with the key.
-pub fn find(w: &[u32], at: usize, n: u32, size: usize, key: u32) -> RecordFound
+// The place of the first of n records of a size from place `at` on that begins with the key.
+#[tactic(auto, using(crate::proofs::Search::turns))]
+pub fn find(w: &[u32], at: usize, n: u32, size: usize, key: u32) -> Option<usize>
     requires { (1 ≤ size) × (at + size * n ≤ length w.now) }
     ensures { result ≡ place_of w.now key size at n }
 {
     let mut p = at;
-    let mut k = n;
-    while 0 < k {
+    for _ in 0..n {
         if w[p] == key {
-            return RecordFound::At(p);
+            return Some(p);
         }
         p += size;
-        k -= 1;
     }
-    RecordFound::Nothing
+    None
 }
 
 // ---- what stands at a place
 
 // What the stop record at a place says of its name.
-pub fn name_at(w: &[u32], p: usize) -> StopName
+pub fn name_at(w: &[u32], p: usize) -> NamePlace
     requires { p + stop_size ≤ length w.now }
     ensures { result ≡ name_place (stop_at (drop p w.now)) }
 {
-    StopName::Place {
+    NamePlace {
         offset: w[p + 1],
         size: w[p + 2],
     }
@@ -101,18 +86,18 @@ pub fn field_runs(field: Field, d: u32) -> bool
     bitfield::runs_on(words, d)
 }
 
-// The day of a period of n days from start on that a date is.
-pub fn in_period(start: u32, n: u32, date: Date) -> PeriodDay
-    ensures { result ≡ period_day (dated_by (record { start = start; n = n }) date) }
+// The day of a period of n days from start on, counted from 0, that a date is.
+pub fn in_period(start: u32, n: u32, date: Option<u32>) -> Result<u32, Refusal>
+    ensures { result ≡ dated_by (record { start = start; n = n }) date }
 {
-    let Date::Day(k) = date else {
-        return PeriodDay::Refused(22);
+    let Some(k) = date else {
+        return Err(Refusal::NoSuchDate);
     };
     if k < start {
-        return PeriodDay::Refused(23);
+        return Err(Refusal::OutsidePeriod);
     }
     if n <= k - start {
-        return PeriodDay::Refused(23);
+        return Err(Refusal::OutsidePeriod);
     }
-    PeriodDay::On(k - start)
+    Ok(k - start)
 }

@@ -12,8 +12,7 @@ use Rattle.base.proofs.Laws.{tests}
 use Rattle.chains.specs.Chains.{bucket_of}
 use Rattle.chains.proofs.Follow.{bucket-lt}
 use Rattle.map.specs.Inner.Map.{last_of, found_by, found_in, column, numbers_in, in_bucket, Chained, Mapped, Finds}
-use Rattle.map.specs.declared.Found.{Found}
-use Rattle.map.specs.declared.Found.TheVariants.{At, Nowhere}
+use Rattle.std.specs.Prelude.{Option, Some, None}
 use Rattle.map.proofs.Columns.{last_step, last-le, last-here, last-narrow}
 
 -- ---- the words tell how many records there are
@@ -55,15 +54,15 @@ pub record Walking (m : List ℕ) (number next : ℕ) : Type 0 where
 
 module _ (m : List ℕ) (number : ℕ) where
   -- what is found among all records
-  abbrev found_all : ℕ → Found
+  abbrev found_all : ℕ → Option ℕ
   found_all count = found_in number (numbers_in count m)
 
-  none-there : (n : ℕ) → n ≡ 0 → Nowhere ≡ found_all n
+  none-there : (n : ℕ) → n ≡ 0 → None ≡ found_all n
   unfolding found_in column last_of
   none-there n e = rw e refl
 
   -- from the first n records, where as much is found in them
-  finds-by : (count n : ℕ) (r : Found) → Chained count m → last_of (λ (x : ℕ). eqb x number) (numbers_in n m) ≡ last_of (λ (x : ℕ). eqb x number) (numbers_in count m) → r ≡ found_all n → Finds number m r
+  finds-by : (count n : ℕ) (r : Option ℕ) → Chained count m → last_of (λ (x : ℕ). eqb x number) (numbers_in n m) ≡ last_of (λ (x : ℕ). eqb x number) (numbers_in count m) → r ≡ found_all n → Finds number m r
   unfolding found_in
   finds-by count n r k s e = record { among = λ i l. e ∙ ap found_by s ∙ ap found_all (one-count m count i k l) }
 
@@ -85,27 +84,27 @@ module _ (m : List ℕ) (number : ℕ) where
 
   module _ (w : Mapped m) where
     -- words for no record
-    pub walk_none : length m < 4 → Finds number m Nowhere
-    walk_none h = finds-by w.count w.count Nowhere w.chained refl (none-there w.count (omega (arith, w.chained.room)))
+    pub walk_none : length m < 4 → Finds number m None
+    walk_none h = finds-by w.count w.count None w.chained refl (none-there w.count (omega (arith, w.chained.room)))
 
     pub walk_start : (b next : ℕ) → b ≡ bucket_of (length m / 4) number → b < length m / 4 → next ≡ get_or m (4 * b) 0 → Walking m number next
     walk_start b next e l d = walk_from w.count w.count next w.chained (omega arith) refl (d ∙ w.chained.heads b l ∙ rw e refl)
 
   module _ (next : ℕ) (w : Walking m number next) where
-    pub walk-done : next ≡ 0 → Finds number m Nowhere
-    walk-done e = finds-by w.count next Nowhere w.chained w.walk.same (none-there next e)
+    pub walk-done : next ≡ 0 → Finds number m None
+    walk-done e = finds-by w.count next None w.chained w.walk.same (none-there next e)
 
     module _ (z : next ≡ 0 → ⊥) where
-      pub walk-out : get_or m (4 * next - 3) 0 ≡ number → Finds number m (At (next - 1))
+      pub walk-out : get_or m (4 * next - 3) 0 ≡ number → Finds number m (Some (next - 1))
       unfolding found_in
-      walk-out e = finds-by w.count next (At (next - 1)) w.chained w.walk.same (go next z e)
+      walk-out e = finds-by w.count next (Some (next - 1)) w.chained w.walk.same (go next z e)
         where
-          go : (n : ℕ) → (n ≡ 0 → ⊥) → get_or m (4 * n - 3) 0 ≡ number → At (n - 1) ≡ found_by (last_of (λ (x : ℕ). eqb x number) (numbers_in n m))
+          go : (n : ℕ) → (n ≡ 0 → ⊥) → get_or m (4 * n - 3) 0 ≡ number → Some (n - 1) ≡ found_by (last_of (λ (x : ℕ). eqb x number) (numbers_in n m))
           go zero y d = absurd (y refl)
           go (suc i) y d =
               let p : 4 * suc i - 3 ≡ 4 * i + 1 = omega arith in
               let q : suc i - 1 ≡ i = omega arith in
-              rw (last_step (λ (x : ℕ). eqb x number) m i, eq-eqb (get_or m (4 * i + 1) 0) number (sym (ap (λ (k : ℕ). get_or m k 0) p) ∙ d)) (ap At q)
+              rw (last_step (λ (x : ℕ). eqb x number) m i, eq-eqb (get_or m (4 * i + 1) 0) number (sym (ap (λ (k : ℕ). get_or m k 0) p) ∙ d)) (ap Some q)
 
       -- the record before it in its bucket
       walk-link : (i : ℕ) → next ≡ suc i → get_or m (4 * next - 1) 0 ≡ last_of (in_bucket (length m / 4) (bucket_of (length m / 4) number)) (numbers_in i m)

@@ -14,40 +14,31 @@ use borrow.Author.Tests.{eq-eqb, eqb-true}
 use Rattle.base.specs.Lists.{some_of, find}
 use Rattle.base.proofs.Laws.{clash, apart}
 use Rattle.map.specs.Inner.Map.{onward, last_of, found_by, found_in, column, numbers_in, Chained, Distinct}
-use Rattle.map.specs.declared.Found.{Found}
-use Rattle.map.specs.declared.Found.TheVariants.{At, Nowhere}
+use Rattle.std.specs.Prelude.{Option, Some, None, is_some}
 use Rattle.map.proofs.Columns.{length-column}
-
--- whether there is one
-abbrev pub known : Found → Bool
-known (At i) = true
-known Nowhere = false
 
 or-true : (b : Bool) → (b || true) ≡ true
 or-true true = refl
 or-true false = refl
 
-known-last : (t : ℕ → Bool) (ns : List ℕ) → known (found_by (last_of t ns)) ≡ some_of t ns
+known-last : (t : ℕ → Bool) (ns : List ℕ) → is_some (found_by (last_of t ns)) ≡ some_of t ns
 unfolding last_of some_of
 known-last t [] = refl
 known-last t (n ∷ ns) = go (t n) (last_of t ns) (known-last t ns)
   where
-    go : (u : Bool) (l : ℕ) → known (found_by l) ≡ some_of t ns → known (found_by (onward u l)) ≡ (u || some_of t ns)
+    go : (u : Bool) (l : ℕ) → is_some (found_by l) ≡ some_of t ns → is_some (found_by (onward u l)) ≡ (u || some_of t ns)
     go true zero e = refl
     go true (suc l) e = refl
     go false zero e = e
     go false (suc l) e = e
 
 module _ (number : ℕ) (ns : List ℕ) where
-  pub known-found : known (found_in number ns) ≡ some_of (λ (x : ℕ). eqb x number) ns
+  pub known-found : is_some (found_in number ns) ≡ some_of (λ (x : ℕ). eqb x number) ns
   unfolding found_in
   known-found = known-last (λ (x : ℕ). eqb x number) ns
 
-  pub found_none : (r : Found) → r ≡ found_in number ns → r ≡ Nowhere → some_of (λ (x : ℕ). eqb x number) ns ≡ false
-  found_none r e d = sym known-found ∙ ap known (sym e ∙ d)
-
-  pub found_some : (r : Found) (i : ℕ) → r ≡ found_in number ns → r ≡ At i → some_of (λ (x : ℕ). eqb x number) ns ≡ true
-  found_some r i e d = sym known-found ∙ ap known (sym e ∙ d)
+  pub found_none : (r : Option ℕ) → r ≡ found_in number ns → r ≡ None → some_of (λ (x : ℕ). eqb x number) ns ≡ false
+  found_none r e d = sym known-found ∙ ap is_some (sym e ∙ d)
 
 -- the record that is found is one of those there, and has the number
 pub record Here (t : ℕ → Bool) (ns : List ℕ) (i : ℕ) : Type 0 where
@@ -66,11 +57,11 @@ last-at t (n ∷ ns) i e = go (t n) refl (last_of t ns) refl i e (last-at t ns)
     go true y zero d (suc i) e h = absurd (omega (arith, e))
     go false y zero d i e h = absurd (omega (arith, e))
 
-found-last : (l i : ℕ) → At i ≡ found_by l → l ≡ suc i
+found-last : (l i : ℕ) → Some i ≡ found_by l → l ≡ suc i
 found-last zero i e = let z : ◌≡◌ {A = ℕ} 0 1 = cc in apart z
 found-last (suc l) i e = let z : l ≡ i = cc in ap suc z
 
-module _ (number i : ℕ) (ns : List ℕ) (r : Found) (e : r ≡ found_in number ns) (d : r ≡ At i) where
+module _ (number i : ℕ) (ns : List ℕ) (r : Option ℕ) (e : r ≡ found_in number ns) (d : r ≡ Some i) where
   here : Here (λ (x : ℕ). eqb x number) ns i
   unfolding found_in
   here = last-at (λ (x : ℕ). eqb x number) ns i (found-last (last_of (λ (x : ℕ). eqb x number) ns) i (sym d ∙ e))
@@ -137,5 +128,5 @@ get_d-column k (suc n) i m h = ⊎_elim (λ e. outer e) (λ l. inner l (get_d-co
     outer e = rw e (get_or_at (column k n m) (get_or m (4 * n + k) 0) [] 0 n (length-column k n m))
 
 -- a record that is found has its words in the map
-pub found-room : (m : List ℕ) (count number i : ℕ) (r : Found) → Chained count m → r ≡ found_in number (numbers_in count m) → r ≡ At i → 4 * i + 4 ≤ length m
+pub found-room : (m : List ℕ) (count number i : ℕ) (r : Option ℕ) → Chained count m → r ≡ found_in number (numbers_in count m) → r ≡ Some i → 4 * i + 4 ≤ length m
 found-room m count number i r k e d = omega (arith, found_inside number i (numbers_in count m) r e d, length-column 1 count m, k.room)

@@ -10,35 +10,31 @@ ghost use Rattle.map.specs.Inner.Map.{Added};
 // The words of a record.
 const RECORD_WORDS: usize = 4;
 
-// Which record, counted from 0.
-#[derive(Clone, Copy)]
-pub enum Found {
-    At(usize),
-    Nowhere,
-}
-
 // ---- the map
 
-// The last record that has this number. Words for no record have no bucket.
-pub fn find(m: &[u32], number: u32) -> Found
+// The last record that has this number, counted from 0. Words for no record have no bucket.
+#[tactic(auto, using(crate::proofs::Finds::walks))]
+pub fn find(m: &[u32], number: u32) -> Option<usize>
     requires { Mapped m.now }
     ensures { Finds number m.now result }
 {
     if m.len() < RECORD_WORDS {
-        return Found::Nowhere;
+        return None;
     }
     let b = chains::bucket(m.len() / RECORD_WORDS, number);
-    let mut next = wide(m[RECORD_WORDS * b]);
+    let mut next = m[RECORD_WORDS * b] as usize;
+    // Kept: (d) a chain ends at 0, no index counts it.
     while next != 0 {
         if m[RECORD_WORDS * next - 3] == number {
-            return Found::At(next - 1);
+            return Some(next - 1);
         }
-        next = wide(m[RECORD_WORDS * next - 1]);
+        next = m[RECORD_WORDS * next - 1] as usize;
     }
-    Found::Nowhere
+    None
 }
 
 // Adds record `count`, with its number and its place.
+#[tactic(auto, using(crate::proofs::Puts::puts))]
 pub fn put(m: &mut [u32], count: usize, number: u32, place: u32)
     requires chained { Chained count m.old }
     requires map_record_size_in_bounds { map_record_size * count + map_record_size ≤ length m.old }
@@ -50,7 +46,7 @@ pub fn put(m: &mut [u32], count: usize, number: u32, place: u32)
     m[at + 1] = number;
     m[at + 2] = place;
     m[at + 3] = before;
-    m[RECORD_WORDS * b] = narrow(count + 1);
+    m[RECORD_WORDS * b] = (count + 1) as u32;
 }
 
 // The place of record i.
@@ -58,7 +54,7 @@ pub fn place_of(m: &[u32], i: usize) -> usize
     requires { map_record_size * i + map_record_size ≤ length m.now }
     ensures { result ≡ get_or m.now (map_record_size * i + 2) 0 }
 {
-    wide(m[RECORD_WORDS * i + 2])
+    m[RECORD_WORDS * i + 2] as usize
 }
 
 // Zeros the first words; the words after them stay.
@@ -66,22 +62,5 @@ pub fn clear(t: &mut [u32], words: usize)
     requires { words ≤ length t.old }
     ensures { t.new ≡ replicate words 0 ++ drop words t.old }
 {
-    let mut k: usize = 0;
-    while k < words {
-        t[k] = 0;
-        k += 1;
-    }
-}
-
-fn wide(x: u32) -> usize
-    ensures { result ≡ x }
-{
-    x as usize
-}
-
-fn narrow(x: usize) -> u32
-    requires { x < word_values }
-    ensures { result ≡ x }
-{
-    x as u32
+    t[..words].fill(0);
 }

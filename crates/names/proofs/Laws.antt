@@ -1,5 +1,5 @@
 -- The needs of the code, a ruleset for each family: `loops`, `patterns`, `names`, `asking`. Assumes nothing.
-use mathlib.Core.Path.{◌≡◌, refl, sym, ◌∙◌}
+use mathlib.Core.Path.{◌≡◌, refl, sym, ap, ◌∙◌}
 use mathlib.Core.List.{List, [], ◌∷◌}
 use mathlib.Core.Bool.{Bool, true, false, cond, not, ◌&&◌, ◌||◌}
 use Prim.Native.Nat.{ℕ, suc, ◌+◌, ◌≤◌, ◌<◌}
@@ -15,9 +15,8 @@ use Rattle.names.specs.Names.{span, language_known, type_digit, wanted_by, allow
 use Rattle.names.specs.Inner.Answers.{is_of, asked_by, first_of}
 use Rattle.names.specs.declared.Name.{Name}
 use Rattle.names.specs.declared.Wanted.{Wanted}
-use Rattle.names.specs.declared.Asked.TheVariants.{For, Outside}
-use Rattle.names.specs.declared.NameFound.{NameFound}
-use Rattle.names.specs.declared.NameFound.TheVariants.{Broken, Unfit, Fits}
+use Rattle.std.specs.Prelude.{Option, Some, None}
+use Rattle.std.specs.List.{list_any}
 use Rattle.names.specs.declared.NameByte.{NameByte}
 use Rattle.names.specs.declared.NameByte.TheVariants.{Plain, Letter, Digit}
 
@@ -36,14 +35,6 @@ module _ (k : NameByte) (b : ℕ) (r : Bool) where
 -- ---- loops over bytes, at place i; the right side is what all answer
 
 module _ (p : List ℕ) (i : ℕ) (h : i < length p) where
-  pub among-again : (b : ℕ) (r : Bool) → (get_or p i 0 ≡ b → ⊥) → among b (drop i p) ≡ r → among b (drop (i + 1) p) ≡ r
-  unfolding among
-  among-again b r n v = sym (rw (drop-next p i (get_or p i 0) h refl, ne_eqb (get_or p i 0) b n)) ∙ v
-
-  pub among-out : (b : ℕ) (r : Bool) → get_or p i 0 ≡ b → among b (drop i p) ≡ r → true ≡ r
-  unfolding among
-  among-out b r n v = sym (rw (drop-next p i (get_or p i 0) h refl, eq-eqb (get_or p i 0) b n)) ∙ v
-
   module _ (k : NameByte) (t : Bool) (d : t ≡ is_of k (get_or p i 0)) (r : ℕ) where
     pub span-again : t ≡ true → i + span (is_of k) (drop i p) ≡ r → i + 1 + span (is_of k) (drop (i + 1) p) ≡ r
     unfolding span
@@ -57,9 +48,14 @@ module _ (p : List ℕ) (i : ℕ) (h : i < length p) where
         let s : span (is_of k) (drop i p) ≡ 0 = rw (drop-next p i (get_or p i 0) h refl, sym d ∙ y) in
         omega arith
 
-pub among-done : (p : List ℕ) (i b : ℕ) (r : Bool) → length p ≤ i → among b (drop i p) ≡ r → false ≡ r
+-- what the library's `contains` answers
+pub has-is : (p : List ℕ) (b : ℕ) (r : Bool) → r ≡ list_any (λ (y : ℕ). eqb y b) p → r ≡ among b p
 unfolding among
-among-done p i b r h v = sym (rw (drop_of_length-le p h)) ∙ v
+has-is p b r e = e ∙ go p
+  where
+    go : (q : List ℕ) → list_any (λ (y : ℕ). eqb y b) q ≡ among b q
+    go [] = refl
+    go (x ∷ q) = ap (λ (t : Bool). eqb x b || t) (go q)
 
 pub span-done : (p : List ℕ) (i : ℕ) (k : NameByte) (r : ℕ) → length p ≤ i → i + span (is_of k) (drop i p) ≡ r → i ≡ r
 unfolding span
@@ -71,25 +67,26 @@ span-done p i k r h v =
 pub name-first : (f : List ℕ) (end : ℕ) → end ≡ 0 + span (is_of Plain) (drop 0 f) → ◌≡◌ {A = Name} (record { place = 0; size = end }) (record { place = 0; size = span is_plain f })
 name-first f end e = rw (e, zero-add)
 
-pub ruleset loops = (tests, of_plain, of-letter, of-digit, name-first, among-again, among-out, among-done, span-again, span-out, span-done)
+pub ruleset loops = (tests, of_plain, of-letter, of-digit, name-first, span-again, span-out, span-done)
 
 -- ---- a name before what reading on tells
 
-module _ (t : Bool) (name : Name) (onward : NameFound) where
-  pub first-unfit : not t ≡ true → onward ≡ first_of t name onward
-  first-unfit n = rw (not-true t n)
+first-none : (t : Bool) (name : Name) → None ≡ first_of t name None
+first-none true name = refl
+first-none false name = refl
 
-  module _ (n : not t ≡ false) where
-    pub first-broken : onward ≡ Broken → Broken ≡ first_of t name onward
-    first-broken e = rw (not-false t n, e)
+module _ (t : Bool) (name : Name) (onward : Option (Option Name)) where
+  pub first-broken : onward ≡ None → None ≡ first_of t name onward
+  first-broken e = rw e (first-none t name)
 
-    pub first_alone : onward ≡ Unfit → Fits name ≡ first_of t name onward
-    first_alone e = rw (not-false t n, e)
+  module _ (later : Option Name) (e : onward ≡ Some later) where
+    pub first_fits : t ≡ true → Some (Some name) ≡ first_of t name onward
+    first_fits y = rw (y, e)
 
-    pub first-before : (later : Name) → onward ≡ Fits later → Fits name ≡ first_of t name onward
-    first-before later e = rw (not-false t n, e)
+    pub first-unfit : t ≡ false → Some later ≡ first_of t name onward
+    first-unfit n = rw (n, e)
 
-pub ruleset firsts = (tests, first-unfit, first-broken, first_alone, first-before)
+pub ruleset firsts = (tests, first-broken, first_fits, first-unfit)
 
 -- ---- what a part of a pattern allows, and what a pattern fits
 
@@ -140,22 +137,22 @@ high-among m b (x ∷ ls) h k = go (high-among m b ls h) (leb x m) refl k
     go ih false e k = clash k
 
 module _ (language type : ℕ) where
-  pub asked-type : 9 < type → Outside ≡ asked_by language type
+  pub asked-type : 9 < type → None ≡ asked_by language type
   asked-type h = go (language_known language)
     where
-      go : (t : Bool) → Outside ≡ cond (t && leb type 9) (For (wanted_by language type)) Outside
+      go : (t : Bool) → None ≡ cond (t && leb type 9) (Some (wanted_by language type)) None
       go true = rw (lt-leb type 9 h)
       go false = refl
 
-  pub asked-high : 255 < language → Outside ≡ asked_by language type
+  pub asked-high : 255 < language → None ≡ asked_by language type
   unfolding every
   asked-high h = rw (ne_eqb language 0 (λ e. omega arith), high-among 255 language languages h refl)
 
   module _ (t : Bool) (e : t ≡ language_known language) where
-    pub asked-language : not t ≡ true → Outside ≡ asked_by language type
+    pub asked-language : not t ≡ true → None ≡ asked_by language type
     asked-language n = rw (sym e ∙ not-true t n)
 
-    pub asked-both : not t ≡ false → type ≤ 9 → (d : ℕ) → d ≡ type_digit type → For (record { letter = language; digit = d }) ≡ asked_by language type
+    pub asked-both : not t ≡ false → type ≤ 9 → (d : ℕ) → d ≡ type_digit type → Some (record { letter = language; digit = d }) ≡ asked_by language type
     asked-both n h d g = rw (sym e ∙ not-false t n, le-leb type 9 h, g)
 
 pub known-any : (language : ℕ) → language ≡ 0 → true ≡ language_known language

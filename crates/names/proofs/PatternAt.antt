@@ -15,7 +15,7 @@ use Rattle.names.specs.Names.{span, closed, body_of, body_size, has_pattern, pat
 use Rattle.names.specs.Inner.Answers.{is_of, pattern_answer, behind_answer}
 use Rattle.names.specs.declared.Wanted.{Wanted}
 use Rattle.names.specs.declared.PatternRead.{PatternRead}
-use Rattle.names.specs.declared.PatternRead.TheVariants.{To, Nothing}
+use Rattle.std.specs.Prelude.{Option, Some, None}
 use Rattle.names.specs.declared.NameByte.TheVariants.{Letter, Digit}
 use Rattle.names.proofs.Spans.{span-le}
 
@@ -82,20 +82,20 @@ pub end_fits : (f : List ℕ) (close y : ℕ) → y ≡ get_or f close 32 → y 
 end_fits f close y e o h = omega (arith, read-inside f close y e (λ k. omega arith))
 
 module _ (f : List ℕ) (w : Wanted) (letters digits close : ℕ) (p : digits ≡ letters + span (is_of Letter) (drop letters f)) (q : close ≡ digits + span (is_of Digit) (drop digits f)) where
-  nothing-by : closed (drop letters f) ≡ false → Nothing ≡ behind_answer w letters (drop letters f)
+  nothing-by : closed (drop letters f) ≡ false → None ≡ behind_answer w letters (drop letters f)
   unfolding behind_answer
   nothing-by h = rw h
 
-  pub no-letters : close ≡ letters → Nothing ≡ behind_answer w letters (drop letters f)
+  pub no-letters : close ≡ letters → None ≡ behind_answer w letters (drop letters f)
   no-letters k =
       let z : close - letters ≡ 0 = omega arith in
       nothing-by (closed_at f letters digits p close q ∙ rw z)
 
   module _ (y : ℕ) (g : y ≡ get_or f close 32) where
-    pub no-closes : (y ≡ 62 → ⊥) → Nothing ≡ behind_answer w letters (drop letters f)
+    pub no-closes : (y ≡ 62 → ⊥) → None ≡ behind_answer w letters (drop letters f)
     no-closes n = nothing-by (closed_at f letters digits p close q ∙ rw (ne_eqb (get_or f close 0) closes (same_byte f close y 62 g n (λ z. omega arith))) (and-false (ltb 0 (close - letters))))
 
-    pub pattern-to : (close ≡ letters → ⊥) → y ≡ 62 → (t : Bool) → t ≡ fits w (record { letters = take (digits - letters) (drop letters f); digits = take (close - digits) (drop digits f) }) → To (close + 1) t ≡ behind_answer w letters (drop letters f)
+    pub pattern-to : (close ≡ letters → ⊥) → y ≡ 62 → (t : Bool) → t ≡ fits w (record { letters = take (digits - letters) (drop letters f); digits = take (close - digits) (drop digits f) }) → Some (record { end = close + 1; is_fit = t }) ≡ behind_answer w letters (drop letters f)
     unfolding behind_answer
     pattern-to n c t k =
         let b : get_or f close 0 ≡ closes = get_d_any f close 0 32 (read-inside f close y g (λ z. omega arith)) ∙ sym g ∙ c in
@@ -117,11 +117,11 @@ module _ (f : List ℕ) (at x : ℕ) (e : x ≡ get_or f at 32) (o : x ≡ 60) w
   letters-inside = omega (arith, opens-inside)
 
 module _ (f : List ℕ) (w : Wanted) (at x : ℕ) (e : x ≡ get_or f at 32) where
-  pub no-opens : (x ≡ 60 → ⊥) → Nothing ≡ pattern_answer w at (drop at f)
+  pub no-opens : (x ≡ 60 → ⊥) → None ≡ pattern_answer w at (drop at f)
   unfolding pattern_answer has_pattern
   no-opens n = rw (front, ne_eqb (get_or f at 0) opens (same_byte f at x 60 e n (λ z. omega arith)))
 
-  pub pattern-behind : x ≡ 60 → (r : PatternRead) → r ≡ behind_answer w (at + 1) (drop (at + 1) f) → r ≡ pattern_answer w at (drop at f)
+  pub pattern-behind : x ≡ 60 → (r : Option PatternRead) → r ≡ behind_answer w (at + 1) (drop (at + 1) f) → r ≡ pattern_answer w at (drop at f)
   unfolding pattern_answer has_pattern pattern_of pattern_size behind_answer
   pattern-behind o r k =
       let a : get_or f at 0 ≡ opens = get_d_any f at 0 32 (opens-inside f at x e o) ∙ sym e ∙ o in

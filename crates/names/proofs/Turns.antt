@@ -1,5 +1,5 @@
 -- The needs of `name_list` and `patterns`, which call each other: `search turning-names`, `search turning-patterns`. Assumes nothing.
-use mathlib.Core.Path.{◌≡◌, refl, sym, ◌∙◌}
+use mathlib.Core.Path.{◌≡◌, refl, sym, ap, ◌∙◌}
 use mathlib.Core.List.{List, [], ◌∷◌}
 use mathlib.Core.Bool.{Bool, true, false, cond, ◌||◌}
 use mathlib.Core.Option.{Option, none, some}
@@ -16,10 +16,8 @@ use Rattle.names.specs.Names.{span, has_pattern, pattern_of, pattern_size, Tail,
 use Rattle.names.specs.Inner.Answers.{is_of, fit_by, found_in, found_behind, first_of, pattern_answer, next_name}
 use Rattle.names.specs.declared.Name.{Name}
 use Rattle.names.specs.declared.Wanted.{Wanted}
-use Rattle.names.specs.declared.NameFound.{NameFound}
-use Rattle.names.specs.declared.NameFound.TheVariants.{Broken, Unfit, Fits}
+use Rattle.std.specs.Prelude.{Option as StdOption, Some, None}
 use Rattle.names.specs.declared.PatternRead.{PatternRead}
-use Rattle.names.specs.declared.PatternRead.TheVariants.{To, Nothing}
 use Rattle.names.specs.declared.NameByte.TheVariants.{Plain}
 use Rattle.names.proofs.Spans.{span-le, pattern-inside}
 use Rattle.names.proofs.PatternAt.{read-inside, same_byte}
@@ -128,7 +126,7 @@ pub name-begins : (f : List ℕ) (at end : ℕ) → end ≡ at + span (is_of Pla
 name-begins f at end e = omega arith
 
 module _ (f : List ℕ) (w : Wanted) (at end : ℕ) (e : end ≡ at + span (is_of Plain) (drop at f)) where
-  pub list-empty : end ≡ at → Broken ≡ found_in w (names_of at (drop at f))
+  pub list-empty : end ≡ at → None ≡ found_in w (names_of at (drop at f))
   unfolding found_in
   list-empty k =
       let z : end - at ≡ 0 = omega arith in
@@ -138,7 +136,7 @@ module _ (f : List ℕ) (w : Wanted) (at end : ℕ) (e : end ≡ at + span (is_o
     filled : eqb (end - at) 0 ≡ false
     filled = ne_eqb (end - at) 0 (λ k. n (omega arith))
 
-    pub list-last : end ≡ length f → Unfit ≡ found_in w (names_of at (drop at f))
+    pub list-last : end ≡ length f → Some None ≡ found_in w (names_of at (drop at f))
     unfolding found_in find some_of
     list-last k =
         let l : end - at ≡ length (drop at f) = rw length-drop (omega arith) in
@@ -148,11 +146,11 @@ module _ (f : List ℕ) (w : Wanted) (at end : ℕ) (e : end ≡ at + span (is_o
       more : eqb (end - at) (length (drop at f)) ≡ false
       more = ne_eqb (end - at) (length (drop at f)) (λ k. omega (arith, name-index f at end e n m, length-drop at f))
 
-      pub list-parted-badly : (get_or f end 0 ≡ 36 → ⊥) → Broken ≡ found_in w (names_of at (drop at f))
+      pub list-parted-badly : (get_or f end 0 ≡ 36 → ⊥) → None ≡ found_in w (names_of at (drop at f))
       unfolding found_in
       list-parted-badly d = sym (rw (names_at f at end e, filled, more, ne_eqb (get_or f end 0) dollar d))
 
-      module _ (d : get_or f end 0 ≡ 36) (x : ℕ) (g : x ≡ get_or f (end + 1) 32) (r : NameFound) where
+      module _ (d : get_or f end 0 ≡ 36) (x : ℕ) (g : x ≡ get_or f (end + 1) 32) (r : StdOption (StdOption Name)) where
         pub list-patterns : x ≡ 60 → r ≡ found_behind w (record { place = at; size = end - at }) (patterns_of (end + 1) (drop (end + 1) f)) → r ≡ found_in w (names_of at (drop at f))
         list-patterns o h =
             let b : get_or f (end + 1) 0 ≡ opens = get_d_any f (end + 1) 0 32 (read-inside f (end + 1) x g (λ k. omega arith)) ∙ sym g ∙ o in
@@ -166,7 +164,7 @@ pub ruleset turning-names = (tests, name-index, name-next, name-falls, name-begi
 
 -- ---- patterns from place `at` on, those of `name`
 
-before-fit : (name : Name) (o : Option Named) → Fits name ≡ first_of true name (fit_by o)
+before-fit : (name : Name) (o : Option Named) → Some (Some name) ≡ first_of true name (fit_by o)
 before-fit name none = refl
 before-fit name (some n) = refl
 
@@ -180,7 +178,7 @@ module _ (w : Wanted) (name : Name) (p : Pattern) where
       go true = refl
       go false = refl
 
-  first-of-broken : (t : Bool) → Broken ≡ first_of t name Broken
+  first-of-broken : (t : Bool) → None ≡ first_of t name None
   first-of-broken true = refl
   first-of-broken false = refl
 
@@ -194,7 +192,7 @@ module _ (w : Wanted) (name : Name) (p : Pattern) where
   found-next none = first-of-broken (fits w p)
   found-next (some ns) = fits-first [] ns (fits w p)
 
-  found-last : found_behind w name (some (record { patterns = p ∷ []; names = [] })) ≡ first_of (fits w p) name Unfit
+  found-last : found_behind w name (some (record { patterns = p ∷ []; names = [] })) ≡ first_of (fits w p) name (Some None)
   unfolding found_behind find some_of
   found-last = fits-first [] [] (fits w p)
 
@@ -204,31 +202,42 @@ record Told (w : Wanted) (at : ℕ) (text : List ℕ) (end : ℕ) (t : Bool) : T
   ends : end ≡ at + pattern_size text
   fit : t ≡ fits w (pattern_of text)
 
-told : (w : Wanted) (at : ℕ) (text : List ℕ) (end : ℕ) (t : Bool) → pattern_answer w at text ≡ To end t → Told w at text end t
+abbrev answered : Wanted → ℕ → List ℕ → PatternRead
+answered w at text = record { end = at + pattern_size text; is_fit = fits w (pattern_of text) }
+
+told : (w : Wanted) (at : ℕ) (text : List ℕ) (found : PatternRead) → pattern_answer w at text ≡ Some found → Told w at text found.end found.is_fit
 unfolding pattern_answer
-told w at text end t e = go (has_pattern text) refl e
+told w at text found e = go (has_pattern text) refl e
   where
-    go : (x : Bool) → has_pattern text ≡ x → cond x (To (at + pattern_size text) (fits w (pattern_of text))) Nothing ≡ To end t → Told w at text end t
-    go true h k = record { there = h; ends = cc; fit = cc }
+    go : (x : Bool) → has_pattern text ≡ x → cond x (Some (answered w at text)) None ≡ Some found → Told w at text found.end found.is_fit
+    go true h k =
+        let y : answered w at text ≡ found = cc in
+        record { there = h; ends = sym (ap (λ (r : PatternRead). r.end) y); fit = sym (ap (λ (r : PatternRead). r.is_fit) y) }
     go false h k = apart (cc)
 
-told-not : (w : Wanted) (at : ℕ) (text : List ℕ) → pattern_answer w at text ≡ Nothing → has_pattern text ≡ false
+told-not : (w : Wanted) (at : ℕ) (text : List ℕ) → pattern_answer w at text ≡ None → has_pattern text ≡ false
 unfolding pattern_answer
 told-not w at text e = go (has_pattern text) e
   where
-    go : (x : Bool) → cond x (To (at + pattern_size text) (fits w (pattern_of text))) Nothing ≡ Nothing → x ≡ false
+    go : (x : Bool) → cond x (Some (answered w at text)) None ≡ None → x ≡ false
     go true k = apart (cc)
     go false k = refl
 
--- the pattern at place `at` ends at `end`, and t says whether it fits
-module _ (f : List ℕ) (w : Wanted) (at : ℕ) (read : PatternRead) (e : read ≡ pattern_answer w at (drop at f)) where
-  pub patterns-none : (name : Name) → read ≡ Nothing → Broken ≡ found_behind w name (patterns_of at (drop at f))
+-- the pattern at place `at` ends at `end`, and t says whether it fits; read is the answer
+module _ (f : List ℕ) (w : Wanted) (at : ℕ) (read : StdOption PatternRead) (e : read ≡ pattern_answer w at (drop at f)) where
+  pub patterns-none : (name : Name) → read ≡ None → None ≡ found_behind w name (patterns_of at (drop at f))
   unfolding found_behind
   patterns-none name k = sym (rw (patterns-step at (drop at f), told-not w at (drop at f) (sym e ∙ k)))
 
-  module _ (end : ℕ) (t : Bool) (k : read ≡ To end t) where
+  module _ (found : PatternRead) (k : read ≡ Some found) where
+    abbrev end : ℕ
+    end = found.end
+
+    abbrev t : Bool
+    t = found.is_fit
+
     says : Told w at (drop at f) end t
-    says = told w at (drop at f) end t (sym e ∙ k)
+    says = told w at (drop at f) found (sym e ∙ k)
 
     end-inside : (at < end) × (end ≤ length f)
     end-inside =
@@ -244,7 +253,7 @@ module _ (f : List ℕ) (w : Wanted) (at : ℕ) (read : PatternRead) (e : read �
     pub pattern-falls-more : (m next : ℕ) → length f - at ≡ m → next ≡ next_name f end → length f - next < m
     pattern-falls-more m next h g = by_eqb (λ s. next ≡ cond s (end + 1) end → length f - next < m) (get_or f end 0) dollar (λ c k. omega (arith, end-inside)) (λ c k. omega (arith, end-inside)) g
 
-    module _ (name : Name) (r : NameFound) where
+    module _ (name : Name) (r : StdOption (StdOption Name)) where
       abbrev p : Pattern
       p = pattern_of (drop at f)
 
@@ -260,12 +269,12 @@ module _ (f : List ℕ) (w : Wanted) (at : ℕ) (read : PatternRead) (e : read �
           let c : at + (end - at + 1) ≡ end + 1 = omega (arith, end-inside) in
           patterns-step at (drop at f) ∙ rw (says.there, a, get_or-drop at f (end - at) 0, b, drop-drop (end - at) at f, b, drop-drop (end - at + 1) at f, c)
 
-      pub patterns-last : end ≡ length f → r ≡ first_of t name Unfit → r ≡ found_behind w name (patterns_of at (drop at f))
+      pub patterns-last : end ≡ length f → r ≡ first_of t name (Some None) → r ≡ found_behind w name (patterns_of at (drop at f))
       patterns-last m h =
           let l : end - at ≡ length (drop at f) = rw length-drop (omega arith) in
           h ∙ sym (rw (patterns-at, eq-eqb (end - at) (length (drop at f)) l, says.fit) (found-last w name p))
 
-      module _ (m : end ≡ length f → ⊥) (s : NameFound) (h : r ≡ first_of t name s) where
+      module _ (m : end ≡ length f → ⊥) (s : StdOption (StdOption Name)) (h : r ≡ first_of t name s) where
         further : eqb (end - at) (length (drop at f)) ≡ false
         further = ne_eqb (end - at) (length (drop at f)) (λ z. omega (arith, end-inside, length-drop at f))
 

@@ -27,13 +27,6 @@ pub struct Wanted {
     pub digit: u8,
 }
 
-// The name that is asked for, or that the field is no name list.
-#[derive(Clone, Copy)]
-pub enum Chosen {
-    Is(Name),
-    NoList,
-}
-
 // Columns 13 to 62: a longer list cannot stand there, and so the two functions that call each other below are never deep.
 pub const MOST_NAME_BYTES: usize = 50;
 
@@ -60,25 +53,20 @@ pub fn is_name_list(field: &[u8]) -> bool
             digit: ANY,
         },
     );
-    match found {
-        NameFound::Broken => false,
-        NameFound::Unfit => true,
-        NameFound::Fits(name) => true,
-    }
+    found.is_some()
 }
 
-// The first name with a fitting pattern, else the first name.
-pub fn name_for(field: &[u8], wanted: Wanted) -> Chosen
+// The first name with a fitting pattern, else the first name; none if the field is no name list.
+pub fn name_for(field: &[u8], wanted: Wanted) -> Option<Name>
     ensures { result ≡ chosen_by (name_for wanted field.now) }
 {
     if MOST_NAME_BYTES < field.len() {
-        return Chosen::NoList;
+        return None;
     }
-    let found = name_list(field, 0, wanted);
+    let found = name_list(field, 0, wanted)?;
     match found {
-        NameFound::Broken => Chosen::NoList,
-        NameFound::Unfit => Chosen::Is(first_name(field)),
-        NameFound::Fits(name) => Chosen::Is(name),
+        Some(name) => Some(name),
+        None => Some(first_name(field)),
     }
 }
 
@@ -94,27 +82,21 @@ fn first_name(field: &[u8]) -> Name
 
 // ---- what is asked for
 
-// What a language, by its letter, and a type, by its number, ask for (0 for any); or that one is outside the standard's list.
-#[derive(Clone, Copy)]
-pub enum Asked {
-    For(Wanted),
-    Outside,
-}
-
-pub fn asked_for(language: u32, nametype: u32) -> Asked
+// What a language, by its letter, and a type, by its number, ask for (0 for any); none if one is outside the standard's list.
+pub fn asked_for(language: u32, nametype: u32) -> Option<Wanted>
     ensures { result ≡ asked_by language nametype }
 {
     if LAST_TYPE < nametype {
-        return Asked::Outside;
+        return None;
     }
     if 255 < language {
-        return Asked::Outside;
+        return None;
     }
     let letter = language as u8;
     if !known_language(letter) {
-        return Asked::Outside;
+        return None;
     }
-    Asked::For(Wanted {
+    Some(Wanted {
         letter,
         digit: type_digit(nametype),
     })
@@ -142,28 +124,22 @@ fn type_digit(nametype: u32) -> u8
 
 // ---- the field read from a place on: names read on into patterns, and patterns into further names
 
-// What reading on tells: that it is no name list, that no name of it fits, or the first that fits.
-#[derive(Clone, Copy)]
-enum NameFound {
-    Broken,
-    Unfit,
-    Fits(Name),
-}
+// Reading on tells the first name that fits, if one does; or none, that it is no name list.
 
 // A name; then the end, "$" and patterns, or "$" and a further name list.
 #[cycle(name_list_patterns)]
-fn name_list(field: &[u8], at: usize, wanted: Wanted) -> NameFound
+fn name_list(field: &[u8], at: usize, wanted: Wanted) -> Option<Option<Name>>
     ensures { result ≡ found_in wanted (names_of at (drop at field.now)) }
 {
     let end = span_end(field, at, NameByte::Plain);
     if end == at {
-        return NameFound::Broken; // "A name is not empty"
+        return None; // "A name is not empty"
     }
     if end == field.len() {
-        return NameFound::Unfit; // a name without patterns fits nothing
+        return Some(None); // a name without patterns fits nothing
     }
     if field[end] != b'$' {
-        return NameFound::Broken;
+        return None;
     }
     if byte_at(field, end + 1) == b'<' {
         return patterns(
@@ -181,20 +157,22 @@ fn name_list(field: &[u8], at: usize, wanted: Wanted) -> NameFound
 
 // The patterns of a name; behind each the end, a further pattern, or a further name list.
 #[cycle(name_list_patterns)]
-fn patterns(field: &[u8], at: usize, name: Name, wanted: Wanted) -> NameFound
+fn patterns(field: &[u8], at: usize, name: Name, wanted: Wanted) -> Option<Option<Name>>
     ensures { result ≡ found_behind wanted name (patterns_of at (drop at field.now)) }
 {
-    let read = pattern_at(field, at, wanted);
-    let PatternRead::To { end, fits } = read else {
-        return NameFound::Broken;
-    };
+    let read = pattern_at(field, at, wanted)?;
+    let end = read.end;
     if end == field.len() {
-        return first_of(fits, name, NameFound::Unfit);
+        return first_of(read.is_fit, name, Some(None));
     }
     if field[end] == b'<' {
-        return first_of(fits, name, patterns(field, end, name, wanted));
+        return first_of(read.is_fit, name, patterns(field, end, name, wanted));
     }
-    first_of(fits, name, name_list(field, next_name(field, end), wanted))
+    first_of(
+        read.is_fit,
+        name,
+        name_list(field, next_name(field, end), wanted),
+    )
 }
 
 // Where the next name begins behind a pattern: "After the last pattern a "$" before the next name may be there or not."
@@ -206,56 +184,50 @@ fn next_name(field: &[u8], end: usize) -> usize
 }
 
 // The name, if its pattern fits, before what reading on tells; but what reads on must be right.
-fn first_of(fits: bool, name: Name, onward: NameFound) -> NameFound
+fn first_of(fits: bool, name: Name, onward: Option<Option<Name>>) -> Option<Option<Name>>
     ensures { result ≡ first_of fits name onward }
 {
-    if !fits {
-        return onward;
-    }
-    match onward {
-        NameFound::Broken => NameFound::Broken,
-        NameFound::Unfit => NameFound::Fits(name),
-        NameFound::Fits(later) => NameFound::Fits(name),
-    }
+    let later = onward?;
+    if fits { Some(Some(name)) } else { Some(later) }
 }
 
 // ---- a pattern
 
-// A pattern: where it ends, and whether it fits; or that there is none.
+// A pattern: where it ends, and whether it fits.
 #[derive(Clone, Copy)]
-enum PatternRead {
-    To { end: usize, fits: bool },
-    Nothing,
+struct PatternRead {
+    end: usize,
+    is_fit: bool,
 }
 
-// The pattern that begins at a place.
-fn pattern_at(field: &[u8], at: usize, wanted: Wanted) -> PatternRead
+// The pattern that begins at a place, if one does.
+fn pattern_at(field: &[u8], at: usize, wanted: Wanted) -> Option<PatternRead>
     ensures { result ≡ pattern_answer wanted at (drop at field.now) }
 {
     if byte_at(field, at) != b'<' {
-        return PatternRead::Nothing;
+        return None;
     }
     behind_opening(field, at + 1, wanted)
 }
 
 // What stands behind "<": letters of languages, then digits of types, ">", with at least one letter or digit.
-fn behind_opening(field: &[u8], letters: usize, wanted: Wanted) -> PatternRead
+fn behind_opening(field: &[u8], letters: usize, wanted: Wanted) -> Option<PatternRead>
     requires { letters ≤ length field.now }
     ensures { result ≡ behind_answer wanted letters (drop letters field.now) }
 {
     let digits = span_end(field, letters, NameByte::Letter);
     let close = span_end(field, digits, NameByte::Digit);
     if close == letters {
-        return PatternRead::Nothing;
+        return None;
     }
     if byte_at(field, close) != b'>' {
-        return PatternRead::Nothing;
+        return None;
     }
-    let fits = pattern_fits(&field[letters..digits], &field[digits..close], wanted);
-    PatternRead::To {
+    let is_fit = pattern_fits(&field[letters..digits], &field[digits..close], wanted);
+    Some(PatternRead {
         end: close + 1,
-        fits,
-    }
+        is_fit,
+    })
 }
 
 // One and the same pattern fits both, the language and the type.
@@ -296,6 +268,7 @@ fn span_end(field: &[u8], at: usize, class: NameByte) -> usize
     ensures { result ≡ at + span (is_of class) (drop at field.now) }
 {
     let mut i = at;
+    // Kept: (d) a place past the end is the answer itself, where `position` would need a slice from there.
     while i < field.len() {
         if is_of(class, field[i]) {
             i += 1;
@@ -350,12 +323,5 @@ fn is_type(b: u8) -> bool
 fn has(part: &[u8], b: u8) -> bool
     ensures { result ≡ among b part.now }
 {
-    let mut i = 0;
-    while i < part.len() {
-        if part[i] == b {
-            return true;
-        }
-        i += 1;
-    }
-    false
+    part.contains(&b)
 }

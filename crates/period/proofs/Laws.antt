@@ -1,4 +1,5 @@
 -- ECKDATEN line by line, and the needs of reading it. Assumes nothing.
+use Rattle.std.specs.Prelude.{Result, Ok, Err, Option, Some, None}
 use mathlib.Core.Path.{◌≡◌, refl, ap, sym, ◌∙◌}
 use mathlib.Core.List.{List, [], ◌∷◌}
 use mathlib.Core.Option.{none, some}
@@ -11,21 +12,13 @@ use Rattle.lines.specs.Lines.{Line, lines_at, lines_of, cut_at}
 use Rattle.lines.specs.declared.Cut.{Cut}
 use Rattle.lines.proofs.Laws.{cutting, lines_none, walk}
 use Rattle.calendar.specs.Calendar.{date_in, period_of}
-use Rattle.calendar.specs.declared.Date.{Date}
-use Rattle.calendar.specs.declared.Date.TheVariants.{Day, NoSuchDate}
-use Rattle.calendar.specs.declared.PeriodLength.{PeriodLength as PeriodOf}
-use Rattle.calendar.specs.declared.PeriodLength.TheVariants.{OfDays, NoPeriod}
 use Rattle.calendar.proofs.Bounds.{days-le}
-use Rattle.forms.specs.Form.{form_of}
+use Rattle.forms.specs.Form.{form_of, Form, Fits, Broken}
 use Rattle.forms.specs.Columns.{date_columns}
-use Rattle.forms.specs.declared.Form.{Form}
-use Rattle.forms.specs.declared.Form.TheVariants.{Fits, Broken}
 use Rattle.timetable.specs.Layout.{most_file_bytes, most_period_days}
 use Rattle.timetable.specs.Offences.{offence_at, ◌<|>◌, first, checked_by}
 use Rattle.timetable.specs.Files.{day_number, days_in, date_line_offence, period_first, period_in}
 use Rattle.timetable.specs.declared.Offence.{Offence}
-use Rattle.timetable.specs.declared.Checked.{Checked}
-use Rattle.timetable.specs.declared.Checked.TheVariants.{Holds, Refused}
 use Rattle.timetable.proofs.Offences.{checked-holds, checked_refused}
 use Rattle.period.specs.Inner.Dates.{date_of, date_at}
 
@@ -41,15 +34,15 @@ period-short (s ∷ e ∷ ls) = go (period_of a b) refl
     b : ℕ
     b = day_number (date_in e.text)
 
-    go : (p : PeriodOf) → period_of a b ≡ p → days_in p ≤ most_period_days
-    go (OfDays n) k = days-le a b n k
-    go NoPeriod k = omega arith
+    go : (p : Option ℕ) → period_of a b ≡ p → days_in p ≤ most_period_days
+    go (Some n) k = days-le a b n k
+    go None k = omega arith
 
 -- ---- a line that has to be a date, for `search dates`
 
-pub no-date : (f : List ℕ) (at n : ℕ) (x : Offence) → length f ≤ at → x ≡ offence_at 2 n → Refused x ≡ date_at f at n
+pub no-date : (f : List ℕ) (at n : ℕ) (x : Offence) → length f ≤ at → x ≡ offence_at 2 n → Err x ≡ date_at f at n
 unfolding date_at
-no-date f at n x h z = rw (lines_none f at n h) (ap Refused z)
+no-date f at n x h z = rw (lines_none f at n h) (ap Err z)
 
 -- r is the line cut there, g its form, d its date
 module _ (f : List ℕ) (at n : ℕ) (r : Cut) (h : at < length f) (e : r ≡ cut_at f at n) where
@@ -60,16 +53,16 @@ module _ (f : List ℕ) (at n : ℕ) (r : Cut) (h : at < length f) (e : r ≡ cu
   place-fits l = omega (arith, (cutting f at n r h e).inside)
 
   module _ (g : Form) (q : g ≡ form_of date_columns text) where
-    pub date-broken : (c : ℕ) → g ≡ Broken c → Refused (record { number = 4; line = n; column = c }) ≡ date_at f at n
+    pub date-broken : (c : ℕ) → g ≡ Broken c → Err (record { number = 4; line = n; column = c }) ≡ date_at f at n
     unfolding date_at ◌<|>◌
     date-broken c k = rw ((cutting f at n r h e).step, sym q ∙ k) refl
 
-    module _ (k : g ≡ Fits) (d : Date) (y : d ≡ date_in text) where
-      pub date-none : (x : Offence) → d ≡ NoSuchDate → x ≡ offence_at 5 n → Refused x ≡ date_at f at n
+    module _ (k : g ≡ Fits) (d : Option ℕ) (y : d ≡ date_in text) where
+      pub date-none : (x : Offence) → d ≡ None → x ≡ offence_at 5 n → Err x ≡ date_at f at n
       unfolding date_at ◌<|>◌
-      date-none x z v = rw ((cutting f at n r h e).step, sym q ∙ k, sym y ∙ z) (ap Refused v)
+      date-none x z v = rw ((cutting f at n r h e).step, sym q ∙ k, sym y ∙ z) (ap Err v)
 
-      pub date-day : (m : ℕ) → d ≡ Day m → Holds m r.next ≡ date_at f at n
+      pub date-day : (m : ℕ) → d ≡ Some m → Ok (m, r.next) ≡ date_at f at n
       unfolding date_at ◌<|>◌
       date-day m z = rw ((cutting f at n r h e).step, sym q ∙ k, sym y ∙ z, ← e) refl
 
@@ -77,46 +70,46 @@ pub ruleset dates = (tests, walk, no-date, place-fits, date-broken, date-none, d
 
 -- ---- the lines, one after the other: what the file answers
 
-abbrev answered : List Line → Checked
+abbrev answered : List Line → Result (ℕ × ℕ) Offence
 answered ls = checked_by (period_first ls) (period_in ls).start (period_in ls).n
 
-answered-none : answered [] ≡ Refused (offence_at 2 1)
+answered-none : answered [] ≡ Err (offence_at 2 1)
 unfolding period_first first ◌<|>◌
 answered-none = refl
 
 module _ (s : Line) where
-  answered-start : (ls : List Line) (x : Offence) → date_line_offence s ≡ some x → answered (s ∷ ls) ≡ Refused x
+  answered-start : (ls : List Line) (x : Offence) → date_line_offence s ≡ some x → answered (s ∷ ls) ≡ Err x
   unfolding period_first first ◌<|>◌
   answered-start ls x o = rw o refl
 
   module _ (o : date_line_offence s ≡ none) where
-    answered-one : answered (s ∷ []) ≡ Refused (offence_at 2 2)
+    answered-one : answered (s ∷ []) ≡ Err (offence_at 2 2)
     unfolding period_first first ◌<|>◌
     answered-one = rw o refl
 
     module _ (e : Line) where
-      answered-end : (ls : List Line) (x : Offence) → date_line_offence e ≡ some x → answered (s ∷ e ∷ ls) ≡ Refused x
+      answered-end : (ls : List Line) (x : Offence) → date_line_offence e ≡ some x → answered (s ∷ e ∷ ls) ≡ Err x
       unfolding period_first first ◌<|>◌
       answered-end ls x k = rw (o, k) refl
 
       module _ (k : date_line_offence e ≡ none) where
-        abbrev period : PeriodOf
+        abbrev period : Option ℕ
         period = period_of (day_number (date_in s.text)) (day_number (date_in e.text))
 
-        answered-no : (ls : List Line) → period ≡ NoPeriod → answered (s ∷ e ∷ ls) ≡ Refused (offence_at 5 e.no)
+        answered-no : (ls : List Line) → period ≡ None → answered (s ∷ e ∷ ls) ≡ Err (offence_at 5 e.no)
         unfolding period_first first ◌<|>◌
         answered-no ls p = rw (o, k, p) refl
 
-        module _ (n : ℕ) (p : period ≡ OfDays n) where
-          answered-two : answered (s ∷ e ∷ []) ≡ Refused (offence_at 2 3)
+        module _ (n : ℕ) (p : period ≡ Some n) where
+          answered-two : answered (s ∷ e ∷ []) ≡ Err (offence_at 2 3)
           unfolding period_first first ◌<|>◌
           answered-two = rw (o, k, p) refl
 
-          answered-three : (t : Line) → answered (s ∷ e ∷ t ∷ []) ≡ Holds (day_number (date_in s.text)) n
+          answered-three : (t : Line) → answered (s ∷ e ∷ t ∷ []) ≡ Ok (day_number (date_in s.text), n)
           unfolding period_first first ◌<|>◌
           answered-three t = rw (o, k, p) refl
 
-          answered-four : (t l : Line) (ls : List Line) → answered (s ∷ e ∷ t ∷ l ∷ ls) ≡ Refused (offence_at 3 l.no)
+          answered-four : (t l : Line) (ls : List Line) → answered (s ∷ e ∷ t ∷ l ∷ ls) ≡ Err (offence_at 3 l.no)
           unfolding period_first first ◌<|>◌
           answered-four t l ls = rw (o, k, p) refl
 
@@ -130,18 +123,18 @@ record Dated (f : List ℕ) (at n day next : ℕ) : Type 0 where
   lines : lines_at f at n ≡ line ∷ lines_at f next (n + 1)
   number : line.no ≡ n
 
-module _ (f : List ℕ) (at n : ℕ) (r : Checked) (e : r ≡ date_at f at n) where
+module _ (f : List ℕ) (at n : ℕ) (r : Result (ℕ × ℕ) Offence) (e : r ≡ date_at f at n) where
   -- what is answered where that line is none, or not a date
-  refused : (x : Offence) → r ≡ Refused x → date_of (lines_at f at n) n (cut_at f at n).next ≡ Refused x
+  refused : (x : Offence) → r ≡ Err x → date_of (lines_at f at n) n (cut_at f at n).next ≡ Err x
   unfolding date_at
   refused x y = sym e ∙ y
 
-  dated : (day next : ℕ) → r ≡ Holds day next → Dated f at n day next
+  dated : (day next : ℕ) → r ≡ Ok (day, next) → Dated f at n day next
   unfolding date_at
   dated day next y = elim (dec_lt at (length f)) [ yes h ↦ inside h | no h ↦ apart (outside (omega arith)) ]
     where
       outside : length f ≤ at → ◌≡◌ {A = ℕ} 0 1
-      outside h = let k : Holds day next ≡ Refused (offence_at 2 n) = sym y ∙ e ∙ rw (lines_none f at n h) refl in cc
+      outside h = let k : ◌≡◌ {A = Result (ℕ × ℕ) Offence} (Ok (day, next)) (Err (offence_at 2 n)) = sym y ∙ e ∙ rw (lines_none f at n h) refl in cc
 
       inside : at < length f → Dated f at n day next
       inside h =
@@ -151,29 +144,29 @@ module _ (f : List ℕ) (at n : ℕ) (r : Checked) (e : r ≡ date_at f at n) wh
           let q = checked-holds (date_line_offence l) _ _ r k day next y in
           record { line = l; right = q.0; is-day = q.1; lines = c.step ∙ rw (c.count, q.2) refl; number = refl }
 
-module _ (f : List ℕ) (r : Checked) (e : r ≡ date_at f 0 1) where
-  pub first_out : (x : Offence) → r ≡ Refused x → r ≡ answered (lines_of f)
+module _ (f : List ℕ) (r : Result (ℕ × ℕ) Offence) (e : r ≡ date_at f 0 1) where
+  pub first_out : (x : Offence) → r ≡ Err x → r ≡ answered (lines_of f)
   first_out x y = y ∙ go (lines_of f) (refused f 0 1 r e x y)
     where
-      go : (ls : List Line) → date_of ls 1 (cut_at f 0 1).next ≡ Refused x → Refused x ≡ answered ls
+      go : (ls : List Line) → date_of ls 1 (cut_at f 0 1).next ≡ Err x → Err x ≡ answered ls
       go [] k = sym k ∙ sym answered-none
       go (s ∷ ls) k = sym (answered-start s ls x (checked_refused (date_line_offence s) _ _ _ refl x k))
 
   -- the second line starts at a place
-  module _ (start at : ℕ) (y : r ≡ Holds start at) where
+  module _ (start at : ℕ) (y : r ≡ Ok (start, at)) where
     one : Dated f 0 1 start at
     one = dated f 0 1 r e start at y
 
-    module _ (r₂ : Checked) (e₂ : r₂ ≡ date_at f at 2) where
-      pub second-out : (x : Offence) → r₂ ≡ Refused x → r₂ ≡ answered (lines_of f)
+    module _ (r₂ : Result (ℕ × ℕ) Offence) (e₂ : r₂ ≡ date_at f at 2) where
+      pub second-out : (x : Offence) → r₂ ≡ Err x → r₂ ≡ answered (lines_of f)
       second-out x k = k ∙ rw one.lines (go (lines_at f at 2) (refused f at 2 r₂ e₂ x k))
         where
-          go : (ls : List Line) → date_of ls 2 (cut_at f at 2).next ≡ Refused x → Refused x ≡ answered (one.line ∷ ls)
+          go : (ls : List Line) → date_of ls 2 (cut_at f at 2).next ≡ Err x → Err x ≡ answered (one.line ∷ ls)
           go [] v = sym v ∙ sym (answered-one one.line one.right)
           go (s ∷ ls) v = sym (answered-end one.line one.right s ls x (checked_refused (date_line_offence s) _ _ _ refl x v))
 
       -- the third line starts at a place, and p is the period
-      module _ (end next : ℕ) (y₂ : r₂ ≡ Holds end next) (p : PeriodOf) (q : p ≡ period_of start end) where
+      module _ (end next : ℕ) (y₂ : r₂ ≡ Ok (end, next)) (p : Option ℕ) (q : p ≡ period_of start end) where
         two : Dated f at 2 end next
         two = dated f at 2 r₂ e₂ end next y₂
 
@@ -183,22 +176,22 @@ module _ (f : List ℕ) (r : Checked) (e : r ≡ date_at f 0 1) where
         period-is : period_of (day_number (date_in one.line.text)) (day_number (date_in two.line.text)) ≡ p
         period-is = sym (q ∙ rw (one.is-day, two.is-day) refl)
 
-        pub days-none : (x : Offence) → p ≡ NoPeriod → x ≡ offence_at 5 2 → Refused x ≡ answered (lines_of f)
-        days-none x k z = ap Refused z ∙ rw lines_are (sym (answered-no one.line one.right two.line two.right _ (period-is ∙ k) ∙ rw two.number refl))
+        pub days-none : (x : Offence) → p ≡ None → x ≡ offence_at 5 2 → Err x ≡ answered (lines_of f)
+        days-none x k z = ap Err z ∙ rw lines_are (sym (answered-no one.line one.right two.line two.right _ (period-is ∙ k) ∙ rw two.number refl))
 
-        module _ (n : ℕ) (k : p ≡ OfDays n) where
-          pub no_third : (x : Offence) → length f ≤ next → x ≡ offence_at 2 3 → Refused x ≡ answered (lines_of f)
-          no_third x l z = ap Refused z ∙ rw (lines_are, lines_none f next 3 l) (sym (answered-two one.line one.right two.line two.right n (period-is ∙ k)))
+        module _ (n : ℕ) (k : p ≡ Some n) where
+          pub no_third : (x : Offence) → length f ≤ next → x ≡ offence_at 2 3 → Err x ≡ answered (lines_of f)
+          no_third x l z = ap Err z ∙ rw (lines_are, lines_none f next 3 l) (sym (answered-two one.line one.right two.line two.right n (period-is ∙ k)))
 
           -- line 3 is cut
           module _ (c : Cut) (h : next < length f) (g : c ≡ cut_at f next 3) where
             third-is : lines_at f next 3 ≡ record { no = 3; start = next; text = take (c.stop - next) (drop next f) } ∷ lines_at f c.next 4
             third-is = (cutting f next 3 c h g).step ∙ rw (cutting f next 3 c h g).count refl
 
-            pub fourth : (x : Offence) → c.next < length f → x ≡ offence_at 3 4 → Refused x ≡ answered (lines_of f)
-            fourth x l z = ap Refused z ∙ rw (lines_are, third-is, (cutting f c.next 4 (cut_at f c.next 4) l refl).step) (sym (answered-four one.line one.right two.line two.right n (period-is ∙ k) _ _ _))
+            pub fourth : (x : Offence) → c.next < length f → x ≡ offence_at 3 4 → Err x ≡ answered (lines_of f)
+            fourth x l z = ap Err z ∙ rw (lines_are, third-is, (cutting f c.next 4 (cut_at f c.next 4) l refl).step) (sym (answered-four one.line one.right two.line two.right n (period-is ∙ k) _ _ _))
 
-            pub third : length f ≤ c.next → Holds start n ≡ answered (lines_of f)
+            pub third : length f ≤ c.next → Ok (start, n) ≡ answered (lines_of f)
             third l = rw (lines_are, third-is, lines_none f c.next 4 l) (sym (answered-three one.line one.right two.line two.right n (period-is ∙ k) _ ∙ rw one.is-day refl))
 
 pub ruleset periods = (tests, walk, first_out, second-out, days-none, no_third, fourth, third)

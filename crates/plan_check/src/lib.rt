@@ -13,12 +13,11 @@ ghost use Rattle.reading.specs.Inner.Maps.{FieldMap, StopMap, ClassIndex};
 ghost use Rattle.reading.specs.Inner.Reading.{Boundary};
 ghost use Rattle.reading.specs.Inner.Services.{block_words};
 
-use reading::Head;
-use service::ServiceCheck;
-use timetable::Checked;
+use timetable::Offence;
 
 // The first offence of FPLAN, or how many services it has and how many words they take. `fields` and `stops` are the maps of BITFELD and BAHNHOF, `index`
 // is the index of ZUGART; `calls` and `ranges` are lent for the drafts.
+#[tactic(auto, using(crate::proofs::Checking::planning))]
 pub fn check_plan(
     fplan: &[u8],
     bitfeld: &[u8],
@@ -30,7 +29,7 @@ pub fn check_plan(
     days: u32,
     calls: &mut [u32],
     ranges: &mut [u32],
-) -> Checked
+) -> Result<(u32, u32), Offence>
     requires fplan_len_bound { (length fplan.now ≤ most_file_bytes) × (days ≤ most_period_days) }
     requires field_map { FieldMap bitfeld.now fields.now × StopMap bahnhof.now stops.now × ClassIndex zugart.now
         index.now }
@@ -41,17 +40,14 @@ pub fn check_plan(
         (length (blocks (lines_of fplan.now)))
         (length (block_words (blocks (lines_of fplan.now)))) }
 {
-    let head = reading::head_end(fplan);
-    match head {
-        Head::Stray(offence) => Checked::Refused(offence),
-        Head::Clear(start, first) => check_services(
-            fplan, start, first, bitfeld, fields, bahnhof, stops, zugart, index, days, calls,
-            ranges,
-        ),
-    }
+    let (start, first) = reading::head_end(fplan)?;
+    check_services(
+        fplan, start, first, bitfeld, fields, bahnhof, stops, zugart, index, days, calls, ranges,
+    )
 }
 
 // The same of the services from place `start` on, where line `first` opens one or the file ends.
+#[tactic(auto, using(crate::proofs::Checking::checking))]
 fn check_services(
     fplan: &[u8],
     start: usize,
@@ -65,7 +61,7 @@ fn check_services(
     days: u32,
     calls: &mut [u32],
     ranges: &mut [u32],
-) -> Checked
+) -> Result<(u32, u32), Offence>
     requires boundary { Boundary fplan.now start first × (days ≤ most_period_days) }
     requires field_map { FieldMap bitfeld.now fields.now × StopMap bahnhof.now stops.now × ClassIndex zugart.now
         index.now }
@@ -80,21 +76,19 @@ fn check_services(
     let mut line = first;
     let mut count: u32 = 0;
     let mut total: u32 = 0;
+    // Kept: a walk from service to service, no loop by an index
     while at < fplan.len() {
         let checked = service::check_service(
             fplan, at, line, bitfeld, fields, bahnhof, stops, zugart, index, days, calls, ranges,
         );
-        match checked {
-            ServiceCheck::Refused(offence) => {
-                return Checked::Refused(offence);
-            }
-            ServiceCheck::Takes { words, end, no } => {
-                count += 1;
-                total += words;
-                at = end;
-                line = no;
-            }
-        }
+        let taken = match checked {
+            Ok(taken) => taken,
+            Err(offence) => return Err(offence),
+        };
+        count += 1;
+        total += taken.words;
+        at = taken.end;
+        line = taken.no;
     }
-    Checked::Holds(count, total)
+    Ok((count, total))
 }

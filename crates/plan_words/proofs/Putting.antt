@@ -25,8 +25,7 @@ use Rattle.draft.specs.declared.Drafted.{Drafted}
 use Rattle.draft.proofs.Drafts.{draft-service}
 use Rattle.reading.specs.Inner.Reading.{service_lines_at, Boundary, Sound, all_formed, ServiceRead, HeadAs}
 use Rattle.reading.specs.Inner.Services.{ServiceTaken, block_words}
-use Rattle.reading.specs.declared.Head.{Head}
-use Rattle.reading.specs.declared.Head.TheVariants.{Clear, Stray}
+use Rattle.std.specs.Prelude.{Result, Ok, Err}
 use Rattle.reading.proofs.Heads.{after, service-here, services-none}
 use Rattle.reading.proofs.Sizes.{words-fit}
 use Rattle.reading.proofs.Services.{here-words, head_clear, head-next, next-boundary, next-less, next-count}
@@ -140,7 +139,7 @@ pub ruleset putting = (tests, here-sound, here-room, next-boundary, next-less, n
 
 -- ---- where the services begin, for `search beginning`
 
-module _ (f : List ℕ) (h : Head) (at n : ℕ) (e : h ≡ Clear at n) (d : HeadAs f h) where
+module _ (f : List ℕ) (h : Result (ℕ × ℕ) Offence) (at n : ℕ) (e : h ≡ Ok (at, n)) (d : HeadAs f h) where
   pub head-sound : all_sound (blocks (lines_of f)) ≡ true → all_sound (blocks (lines_at f at n)) ≡ true
   head-sound v = rw (head_clear f h at n e d).services at v
 
@@ -155,7 +154,7 @@ some-none : {X : Type 0} (o : Offence) → some o ≡ none → X
 some-none o e = apart (cc)
 
 -- nothing stands before them
-pub no_stray : (f : List ℕ) (h : Head) (o : Offence) (t w : List ℕ) → h ≡ Stray o → HeadAs f h → head_first (lines_of f) ≡ none → t ≡ w
+pub no_stray : (f : List ℕ) (h : Result (ℕ × ℕ) Offence) (o : Offence) (t w : List ℕ) → h ≡ Err o → HeadAs f h → head_first (lines_of f) ≡ none → t ≡ w
 no_stray f h o t w e d v =
     let x : head_first (lines_of f) ≡ some o = rw e at d in
     some-none o (sym x ∙ v)

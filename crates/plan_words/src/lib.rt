@@ -16,19 +16,11 @@ ghost use Rattle.reading.specs.Inner.Reading.{service_lines_at, Boundary, Sound}
 ghost use Rattle.reading.specs.Inner.Services.{ServiceTaken, block_words};
 ghost use Rattle.plan_words.specs.Inner.Services.{placed_words, all_sound};
 
-use reading::Head;
-
-// A service that was written: the words that it took, and where the next service begins (the place and the number of its opening line, or of the file's
-// end).
-#[derive(Clone, Copy)]
-struct Put {
-    pub words: u32,
-    pub end: usize,
-    pub no: u32,
-}
+use reading::Taken;
 
 // Writes the words of every service into the table from place `at` on, where FPLAN has no offence. `stops` is the map of BAHNHOF, which the calls
 // point by; `calls` and `ranges` are lent for the drafts.
+#[tactic(auto, using(crate::proofs::Putting::beginning))]
 pub fn put_plan(
     fplan: &[u8],
     bahnhof: &[u8],
@@ -48,8 +40,7 @@ pub fn put_plan(
     ensures { table.new ≡ write table.old at
         (placed_words (stops_in bahnhof.now) (blocks (lines_of fplan.now))) }
 {
-    let head = reading::head_end(fplan);
-    let Head::Clear(start, first) = head else {
+    let Ok((start, first)) = reading::head_end(fplan) else {
         return;
     };
     put_services(
@@ -58,6 +49,7 @@ pub fn put_plan(
 }
 
 // The same of the services from place `start` on, where line `first` opens one or the file ends.
+#[tactic(auto, using(crate::proofs::Putting::putting))]
 fn put_services(
     fplan: &[u8],
     start: usize,
@@ -80,6 +72,7 @@ fn put_services(
     let mut place = start;
     let mut no = first;
     let mut to = at;
+    // Kept: a walk from service to service, no loop by an index
     while place < fplan.len() {
         let put = put_service(fplan, place, no, bahnhof, stops, calls, ranges, table, to);
         to += put.words as usize;
@@ -89,6 +82,7 @@ fn put_services(
 }
 
 // Writes the words of the service that begins at a place, with line `no`.
+#[tactic(auto, using(crate::proofs::Putting::holding))]
 fn put_service(
     fplan: &[u8],
     at: usize,
@@ -99,7 +93,7 @@ fn put_service(
     ranges: &mut [u32],
     table: &mut [u32],
     to: usize,
-) -> Put
+) -> Taken
     requires boundary { Boundary fplan.now at no × (at < length fplan.now) }
     requires stop_map { StopMap bahnhof.now stops.now }
     requires sound { Sound (service_lines_at fplan.now at no) }
@@ -112,7 +106,7 @@ fn put_service(
 {
     let read = reading::read_again(fplan, at, no, calls, ranges);
     let words = service_words::service_into(read, calls, ranges, bahnhof, stops, table, to);
-    Put {
+    Taken {
         words,
         end: read.end,
         no: read.no,

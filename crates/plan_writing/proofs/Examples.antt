@@ -1,4 +1,5 @@
 -- The trial week's table written, and changed copies of it: each cause of 44, the most that passes, 21 and 45. Assumes nothing.
+use Rattle.std.specs.Prelude.{Result, Ok, Err}
 use Prim.Native.Nat.{ℕ}
 use mathlib.Core.Path.{◌≡◌, refl}
 use mathlib.Core.List.{List, [], ◌∷◌, ◌++◌}
@@ -11,14 +12,15 @@ use Rattle.columns.specs.Columns.{pad_to}
 use Rattle.timetable.specs.Trial.{trial_words as words}
 use Rattle.timetable.specs.Runs.{opening_sound}
 use Rattle.timetable.specs.Table.{rows_in, service_at, services_in, resolved, stop_number_at, stops_at, table_of, record_sound, records_sound, head_sound, is_table}
+use Rattle.timetable.specs.declared.refusal.Refusal.TheVariants.{NoTable, TextTooShort}
+use Rattle.timetable.specs.Refusals.{number_of}
 use Rattle.line_text.specs.Text.{decimal, hash_before, hash_text, clock_text}
 use Rattle.line_text.specs.Laid.{laid, text_of}
 use Rattle.plan_text.specs.PlanText.{opening_text, frequency_text, category_text, day_text, extra_text, call_text}
 use Rattle.plan_services.specs.Services.{rest_lines, plan_lines}
 use Rattle.writable.specs.Writable.{half_writable, opening_writable, name_writable, code_writable, call_writable, service_writable}
-use Rattle.plan_writing.specs.Writing.{table_text, table_writable, plan_answer}
-use Rattle.plan_writing.specs.declared.WriteAnswer.{WriteAnswer}
-use Rattle.plan_writing.specs.declared.WriteAnswer.TheVariants.{Bytes, Refused}
+use Rattle.plan_writing.specs.Writing.{table_text, table_writable, refused, plan_answer}
+use Rattle.plan_writing.specs.declared.WriteRefusal.{WriteRefusal}
 
 trial-text : table_text words
     ≡ text_of (
@@ -89,9 +91,9 @@ writable =
     ∷ with_extra 16672 0
     ∷ []
 
-abbrev is44 : WriteAnswer → Bool
-is44 (Bytes n) = false
-is44 (Refused number needed) = eqb number 44 && eqb needed 0
+abbrev is44 : Result ℕ WriteRefusal → Bool
+is44 (Ok n) = false
+is44 (Err r) = eqb (number_of r.refusal) 44 && eqb r.needed 0
 
 -- also where no byte is lent: 44 before 45
 told-44 : every (λ (w : List ℕ). is44 (plan_answer w 480) && is44 (plan_answer w 0)) unwritable ≡ true
@@ -108,6 +110,6 @@ tables = refl
 
 -- ---- 21, 45 and the bytes written: seven lines of 60
 
-answers : (plan_answer (take 81 words) 420 ≡ Refused 21 0) × (plan_answer words 419 ≡ Refused 45 420) × (plan_answer words 420 ≡ Bytes 420) × (plan_answer words 1000 ≡ Bytes 420)
+answers : (plan_answer (take 81 words) 420 ≡ refused NoTable 0) × (plan_answer words 419 ≡ refused TextTooShort 420) × (plan_answer words 420 ≡ Ok 420) × (plan_answer words 1000 ≡ Ok 420)
 unfolding every plan_answer table_writable is_table head_sound records_sound record_sound opening_sound table_text table_of stops_at services_in service_at resolved stop_number_at rows_in half_writable opening_writable name_writable code_writable call_writable service_writable plan_lines rest_lines text_of opening_text frequency_text category_text day_text extra_text call_text laid pad_to decimal hash_text hash_before clock_text
 answers = (refl, refl, refl, refl)

@@ -29,6 +29,7 @@ use Rattle.plan_text.specs.PlanText.{with_lf, category_of, attribute_text, openi
 use Rattle.plan_text.proofs.Lengths.{category-length, day-length, extra-length, call_length}
 use Rattle.plan_services.specs.Services.{opening_line}
 use Rattle.service_lines.specs.Inner.Record.{range_size, part_count, part_place, here, part_rows, shown_call, call_rows}
+use Rattle.service_lines.proofs.Left.{rounds}
 use Rattle.service_lines.proofs.Parts.{category-room, day-room, extra-room, ranges-start, ranges-now, ranges-place, ranges-left}
 use Rattle.service_lines.proofs.Calls.{calls-just, calls-head, calls-start, calls-sound, sound-now, sound-left}
 use Rattle.plan_writing.specs.Inner.Record.{range_text, part_text, calls_text}
@@ -108,16 +109,20 @@ module _ (t t₀ : List ℕ) (q k at n : ℕ) (h : 0 < k) (e : q + 60 * k ≡ at
   pub line-place : length t < 2 ^ 64 → q + 60 < 2 ^ 64
   line-place b = omega arith
 
-  pub line-left : q + 60 + 60 * (k - 1) ≡ at + 60 * n
-  line-left = omega arith
+  pub line-left : (j : ℕ) → j + 1 ≡ k → q + 60 + 60 * j ≡ at + 60 * n
+  line-left j o = omega arith
 
-  pub ranges-again : (x : RangeKind) (s t' r : List ℕ) (p z : ℕ) → z ≡ range_size x → t' ≡ write t q (with_lf (range_text x (drop p s)))
-      → write t q (text_of (map (range_text x) (rows_in here (range_size x) k (drop p s)))) ≡ r → write t' (q + 60) (text_of (map (range_text x) (rows_in here (range_size x) (k - 1) (drop (p + z) s)))) ≡ r
-  ranges-again x s t' r p z f d v = rw f (rows-turn (range_text x) here (range_length x) (range_size x) s t t' r p k q h line-room d v)
+  pub ranges-again : (x : RangeKind) (s t' r : List ℕ) (p z j : ℕ) → z ≡ range_size x → j + 1 ≡ k → t' ≡ write t q (with_lf (range_text x (drop p s)))
+      → write t q (text_of (map (range_text x) (rows_in here (range_size x) k (drop p s)))) ≡ r → write t' (q + 60) (text_of (map (range_text x) (rows_in here (range_size x) j (drop (p + z) s)))) ≡ r
+  ranges-again x s t' r p z j f o d v =
+      let e : k - 1 ≡ j = omega arith in
+      rw f (rw e at (rows-turn (range_text x) here (range_length x) (range_size x) s t t' r p k q h line-room d v))
 
-  pub calls-again : (stops : List StopRecord) (s t' r : List ℕ) (p : ℕ) (c : Call) → c ≡ shown_call stops (drop p s) → t' ≡ write t q (with_lf (call_text c))
-      → write t q (text_of (map call_text (rows_in (shown_call stops) call_size k (drop p s)))) ≡ r → write t' (q + 60) (text_of (map call_text (rows_in (shown_call stops) call_size (k - 1) (drop (p + call_size) s)))) ≡ r
-  calls-again stops s t' r p c d f v = rows-turn call_text (shown_call stops) call_length call_size s t t' r p k q h line-room (f ∙ ap (λ (y : Call). write t q (with_lf (call_text y))) d) v
+  pub calls-again : (stops : List StopRecord) (s t' r : List ℕ) (p j : ℕ) (c : Call) → j + 1 ≡ k → c ≡ shown_call stops (drop p s) → t' ≡ write t q (with_lf (call_text c))
+      → write t q (text_of (map call_text (rows_in (shown_call stops) call_size k (drop p s)))) ≡ r → write t' (q + 60) (text_of (map call_text (rows_in (shown_call stops) call_size j (drop (p + call_size) s)))) ≡ r
+  calls-again stops s t' r p j c o d f v =
+      let e : k - 1 ≡ j = omega arith in
+      rw e at (rows-turn call_text (shown_call stops) call_length call_size s t t' r p k q h line-room (f ∙ ap (λ (y : Call). write t q (with_lf (call_text y))) d) v)
 
 pub line-end : (q k at n : ℕ) → k ≤ 0 → q + 60 * k ≡ at + 60 * n → q ≡ at + 60 * n
 line-end q k at n h e = omega arith
@@ -125,7 +130,7 @@ line-end q k at n h e = omega arith
 pub ranges-done : (x : RangeKind) (s t r : List ℕ) (q k : ℕ) → k ≤ 0 → write t q (text_of (map (range_text x) (rows_in here (range_size x) k s))) ≡ r → t ≡ r
 ranges-done x s t r q k h v = sym (write-none t q) ∙ (rw (text-none (range_text x) here (range_size x) k s h) at v)
 
-pub ruleset ranges = (tests, ranges-start, ranges-now, ranges-place, ranges-left, ranges-all, line-room, line-place, line-left, line-end, ranges-again, ranges-done)
+pub ruleset ranges = (tests, rounds, ranges-start, ranges-now, ranges-place, ranges-left, ranges-all, line-room, line-place, line-left, line-end, ranges-again, ranges-done)
 
 -- ---- the loop over calls
 
@@ -143,4 +148,4 @@ module _ (n : ℕ) (stops : List StopRecord) (s : List ℕ) (p k : ℕ) (h : 0 <
 pub calls-done : (stops : List StopRecord) (s t r : List ℕ) (q k : ℕ) → k ≤ 0 → write t q (text_of (map call_text (rows_in (shown_call stops) call_size k s))) ≡ r → t ≡ r
 calls-done stops s t r q k h v = sym (write-none t q) ∙ (rw (text-none call_text (shown_call stops) call_size k s h) at v)
 
-pub ruleset calls = (tests, calls-just, calls-head, calls-start, calls-sound, sound-now, sound-left, calls-all, line-room, line-place, line-left, line-end, arrival-low, departure-low, calls-done)
+pub ruleset calls = (tests, rounds, calls-just, calls-head, calls-start, calls-sound, sound-now, sound-left, calls-all, line-room, line-place, line-left, line-end, arrival-low, departure-low, calls-done)

@@ -23,6 +23,7 @@ use Rattle.plan_text.specs.PlanText.{with_lf, opening_text, frequency_text, cate
 use Rattle.plan_text.proofs.Lengths.{opening-length, frequency-length, call_length}
 use Rattle.plan_services.specs.Services.{opening_line, rest_lines, service_lines, plan_lines, plan_text}
 use Rattle.service_lines.specs.Inner.Record.{range_size, part_count, part_place, here, part_rows, call_rows, shown_call, shown}
+use Rattle.service_lines.proofs.Left.{rounds}
 use Rattle.service_lines.proofs.Services.{calls-shown, shown_from, shown-all, shown-now, no-service, standing-head, standing-sized, start-place, services-here, standing, records-inside, records-fit, records-place, records-left}
 use Rattle.plan_writing.specs.Writing.{table_text}
 use Rattle.plan_writing.specs.Inner.Record.{range_text, part_text, calls_text, record_text}
@@ -149,17 +150,20 @@ module _ (w : List ℕ) (at k : ℕ) (h : 0 < k) (i : records_sound (stops# w) k
 
     -- the next place is z
     module _ (z y : ℕ) (e : z ≡ q + length (record_text w (take (length w - at) (drop at w)))) (f : y ≡ get_or w at 0) where
-      pub plan-left : z + length (plan_text (shown_from w (k - 1) (at + y))) ≡ n
-      plan-left = omega (arith, e, l, plan-lengths y f)
+      pub plan-left : (j : ℕ) → j + 1 ≡ k → z + length (plan_text (shown_from w j (at + y))) ≡ n
+      plan-left j o =
+          let d : k - 1 ≡ j = omega arith in
+          omega (arith, e, l, rw d at (plan-lengths y f))
 
-      pub plan-again : (t t₀ t' r : List ℕ) → n ≤ length t₀ → length t ≡ length t₀ → t' ≡ write t q (record_text w (take (length w - at) (drop at w)))
-          → write t q (plan_text (shown_from w k at)) ≡ r → write t' z (plan_text (shown_from w (k - 1) (at + y))) ≡ r
-      plan-again t t₀ t' r a b g v =
-          rw (g, e) (write-write t q (record_text w (take (length w - at) (drop at w))) (plan_text (shown_from w (k - 1) (at + y))) (plan-room t t₀ a b))
+      pub plan-again : (t t₀ t' r : List ℕ) (j : ℕ) → j + 1 ≡ k → n ≤ length t₀ → length t ≡ length t₀ → t' ≡ write t q (record_text w (take (length w - at) (drop at w)))
+          → write t q (plan_text (shown_from w k at)) ≡ r → write t' z (plan_text (shown_from w j (at + y))) ≡ r
+      plan-again t t₀ t' r j o a b g v =
+          let d : k - 1 ≡ j = omega arith in
+          rw (← d, g, e) (write-write t q (record_text w (take (length w - at) (drop at w))) (plan_text (shown_from w (k - 1) (at + y))) (plan-room t t₀ a b))
           ∙ ap (write t q) (sym (plan-now y f)) ∙ v
 
 pub plan-done : (w t r : List ℕ) (at k q : ℕ) → k ≤ 0 → write t q (plan_text (shown_from w k at)) ≡ r → t ≡ r
 unfolding plan_lines text_of
 plan-done w t r at k q h v = sym (write-none t q) ∙ (rw (no-service k (drop at w) h) at v)
 
-pub ruleset services = (tests, just-word, start-place, services-here, standing, records-inside, records-fit, records-place, records-left, plan-size, plan-start, plan-room, plan-left, plan-again, plan-done)
+pub ruleset services = (tests, rounds, just-word, start-place, services-here, standing, records-inside, records-fit, records-place, records-left, plan-size, plan-start, plan-room, plan-left, plan-again, plan-done)

@@ -14,14 +14,14 @@ ghost use Rattle.plan_writing.specs.Writing.{table_text, plan_answer, plan_bytes
 ghost use Rattle.plan_writing.specs.Inner.Record.{range_text, part_text, calls_text, record_text};
 
 use timetable::{
-    CALL_WORDS, CALLS_AT, FIRST_SERVICE_AT, KIND_Z, RangeKind, SERVICE_WORDS, SERVICES_AT,
+    CALL_WORDS, CALLS_AT, FIRST_SERVICE_AT, KIND_Z, RangeKind, Refusal, SERVICE_WORDS, SERVICES_AT,
 };
 
-// What writing answers: the bytes written, or the refusal and the bytes needed (0 unless 45).
+// Why nothing was written, and the bytes needed (0 unless 45).
 #[derive(Clone, Copy)]
-pub enum WriteAnswer {
-    Bytes(usize),
-    Refused { number: u32, needed: usize },
+pub struct WriteRefusal {
+    pub refusal: Refusal,
+    pub needed: usize,
 }
 
 // The bytes of a line, with LF.
@@ -30,38 +30,41 @@ const LINE: usize = 60;
 // "VE" as two bytes.
 const VE: u32 = b'V' as u32 * 256 + b'E' as u32;
 
-// Writes the services of a table from the front of the bytes: 21, 44, 45 too few bytes. A refusal leaves the bytes as lent.
-pub fn write_plan(w: &[u32], text: &mut [u8]) -> WriteAnswer
+// Writes the services of a table from the front of the bytes, and says how many: 21, 44, 45 too few bytes. A refusal leaves the bytes as lent.
+pub fn write_plan(w: &[u32], text: &mut [u8]) -> Result<usize, WriteRefusal>
     ensures answer { result ≡ plan_answer w.now (length text.old) }
     ensures bytes { text.new ≡ plan_bytes w.now text.old }
 {
     if !table::is_table(w) {
-        return WriteAnswer::Refused {
-            number: 21,
+        return Err(WriteRefusal {
+            refusal: Refusal::NoTable,
             needed: 0,
-        };
+        });
     }
     write_table(table::used_words(w), text)
 }
 
 // The same of just a table.
-fn write_table(w: &[u32], text: &mut [u8]) -> WriteAnswer
+fn write_table(w: &[u32], text: &mut [u8]) -> Result<usize, WriteRefusal>
     requires { JustTable w.now }
     ensures answer { result ≡ plan_answer w.now (length text.old) }
     ensures bytes { text.new ≡ plan_bytes w.now text.old }
 {
     if !service_lines::services_writable(w) {
-        return WriteAnswer::Refused {
-            number: 44,
+        return Err(WriteRefusal {
+            refusal: Refusal::NotWritable,
             needed: 0,
-        };
+        });
     }
     let needed = LINE * service_lines::count_lines(w);
     if text.len() < needed {
-        return WriteAnswer::Refused { number: 45, needed };
+        return Err(WriteRefusal {
+            refusal: Refusal::TextTooShort,
+            needed,
+        });
     }
     put_services(w, text);
-    WriteAnswer::Bytes(needed)
+    Ok(needed)
 }
 
 // ---- services
@@ -73,12 +76,10 @@ fn put_services(w: &[u32], text: &mut [u8])
     ensures { text.new ≡ write text.old 0 (table_text w.now) }
 {
     let mut at = table::size(w[FIRST_SERVICE_AT]);
-    let mut k = w[SERVICES_AT];
     let mut q = 0;
-    while 0 < k {
+    for _ in 0..w[SERVICES_AT] {
         q = put_service(w, &w[at..], text, q);
         at += table::size(w[at]);
-        k -= 1;
     }
 }
 
@@ -122,13 +123,11 @@ fn put_ranges(s: &[u32], part: RangeKind, text: &mut [u8], at: usize) -> usize
     ensures bytes { text.new ≡ write text.old at (part_text part s.now) }
 {
     let mut p = service_lines::part_place(s, part);
-    let mut k = service_lines::part_count(s, part);
     let mut q = at;
-    while 0 < k {
+    for _ in 0..service_lines::part_count(s, part) {
         put_range(s, part, p, text, q);
         p += service_lines::range_words(part);
         q += LINE;
-        k -= 1;
     }
     q
 }
@@ -167,13 +166,11 @@ fn put_calls(w: &[u32], s: &[u32], text: &mut [u8], at: usize) -> usize
         write text.old at (calls_text (table_of w.now).stops s.now) }
 {
     let mut p = SERVICE_WORDS;
-    let mut k = s[CALLS_AT];
     let mut q = at;
-    while 0 < k {
+    for _ in 0..s[CALLS_AT] {
         plan_text::put_call(text, q, service_lines::call_shown(w, s, p));
         p += CALL_WORDS;
         q += LINE;
-        k -= 1;
     }
     q
 }

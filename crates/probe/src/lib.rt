@@ -12,14 +12,13 @@ ghost use Rattle.bitfield.specs.BitField.{bit_count, most_framed, bits_in, bit, 
 ghost use Rattle.forms.specs.Kinds.{kind_of};
 ghost use Rattle.forms.specs.Form.{form_of};
 ghost use Rattle.forms.specs.Columns.{columns_of};
-ghost use Rattle.probe.specs.Inner.Flat.{flat_cut, no_step, flat_time, flat_end, flat_detail, flat_date, flat_period};
+ghost use Rattle.probe.specs.Inner.Flat.{flat_cut, no_step, flat_time, flat_end, flat_detail, flat_number};
 ghost use Rattle.probe.specs.Inner.Flat.{flat_kind, flat_form, class_of, line_kind};
 
 use bitfield::{BIT_COUNT, BIT_WORDS, MOST_FRAMED};
-use calendar::{Date, PeriodLength};
 use columns::ByteClass;
 use fields::{Detail, RangeEnd, Time};
-use forms::{Form, Kind, LineKind};
+use forms::{Kind, LineKind};
 use lines::{Cut, reader};
 
 // Where a line's text stops, where the next line starts, and its number.
@@ -152,23 +151,23 @@ pub extern "C" fn probe_form(line: &[u8], k: u32) -> usize
 
 #[unsafe(no_mangle)]
 pub extern "C" fn probe_day(d: u32, m: u32, y: u32) -> Told
-    ensures { result ≡ flat_date (day_of d m y) }
+    ensures { result ≡ flat_number (day_of d m y) }
 {
-    flat_date(calendar::day_of(d, m, y))
+    flat_number(calendar::day_of(d, m, y))
 }
 
 #[unsafe(no_mangle)]
 pub extern "C" fn probe_date(line: &[u8]) -> Told
-    ensures { result ≡ flat_date (date_in line.now) }
+    ensures { result ≡ flat_number (date_in line.now) }
 {
-    flat_date(calendar::date_in(line))
+    flat_number(calendar::date_in(line))
 }
 
 #[unsafe(no_mangle)]
 pub extern "C" fn probe_period(start: u32, end: u32) -> Told
-    ensures { result ≡ flat_period (period_of start end) }
+    ensures { result ≡ flat_number (period_of start end) }
 {
-    flat_period(calendar::period_of(start, end))
+    flat_number(calendar::period_of(start, end))
 }
 
 // ---- bit fields
@@ -348,30 +347,21 @@ fn flat_kind(k: Kind) -> u32
     }
 }
 
-fn flat_form(f: Form) -> usize
+fn flat_form(f: Result<(), usize>) -> usize
     ensures { result ≡ flat_form f }
 {
     match f {
-        Form::Fits => 0,
-        Form::Broken(c) => c,
+        Ok(()) => 0,
+        Err(c) => c,
     }
 }
 
-fn flat_date(d: Date) -> Told
-    ensures { result ≡ flat_date d }
+fn flat_number(d: Option<u32>) -> Told
+    ensures { result ≡ flat_number d }
 {
     match d {
-        Date::Day(n) => Told { kind: 1, value: n },
-        Date::NoSuchDate => Told { kind: 0, value: 0 },
-    }
-}
-
-fn flat_period(p: PeriodLength) -> Told
-    ensures { result ≡ flat_period p }
-{
-    match p {
-        PeriodLength::OfDays(n) => Told { kind: 1, value: n },
-        PeriodLength::NoPeriod => Told { kind: 0, value: 0 },
+        Some(n) => Told { kind: 1, value: n },
+        None => Told { kind: 0, value: 0 },
     }
 }
 

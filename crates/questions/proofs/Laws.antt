@@ -6,21 +6,17 @@ use Prim.Native.Nat.{ℕ, ◌≤◌, ◌<◌}
 use lib.ListN.{length}
 use lib.Dec.{leb}
 use borrow.Author.Tests.{not-true, not-false, le-leb, lt-leb}
+use Rattle.std.specs.Prelude.{Ok, Result, Err}
 use Rattle.base.proofs.Laws.{tests}
 use Rattle.bitfield.specs.BitField.{runs_on}
 use Rattle.timetable.specs.Layout.{most_period_days, most_class}
 use Rattle.timetable.specs.Table.{used, is_table}
 use Rattle.timetable.specs.View.{View}
-use Rattle.timetable.specs.Questions.{dated, date_of, day_by, day_in, day_asked, first_time_class, minutes_for, interchange_in, interchange_asked, between_in, between_asked}
-use Rattle.timetable.specs.declared.DayAnswer.{DayAnswer}
-use Rattle.timetable.specs.declared.DayAnswer.TheVariants.{Runs, Idle, Refused as DayRefused}
-use Rattle.timetable.specs.declared.InterchangeAnswer.{InterchangeAnswer}
-use Rattle.timetable.specs.declared.InterchangeAnswer.TheVariants.{Minutes, Refused as InterchangeRefused}
-use Rattle.lookups.specs.Lookups.{times_of, period_day}
-use Rattle.lookups.specs.declared.PeriodDay.{PeriodDay}
-use Rattle.lookups.specs.declared.PeriodDay.TheVariants.{On, Refused}
+use Rattle.timetable.specs.Questions.{date_of, day_by, day_in, day_asked, first_time_class, minutes_for, interchange_in, interchange_asked, between_in, between_asked}
+use Rattle.timetable.specs.declared.refusal.Refusal.{Refusal}
+use Rattle.timetable.specs.declared.refusal.Refusal.TheVariants.{NoTable, ClassTooHigh, StopUnknown, NoSuchBitField, CategoryUnlisted}
+use Rattle.lookups.specs.Lookups.{times_of}
 use Rattle.lookups.specs.declared.Times.{Times}
-use Rattle.lookups.proofs.Dates.{is-undated, is-dated}
 use Rattle.index.specs.Index.{view_in}
 use Rattle.index.proofs.Shows.{day-low}
 use Rattle.index.proofs.Quick.{asked-refused, asked-on, plain-words}
@@ -28,31 +24,28 @@ use Rattle.index.proofs.Quick.{asked-refused, asked-on, plain-words}
 -- ---- day k; known and ws are what the look-up of bit field b gave
 
 module _ (v : View) (b k : ℕ) (known : Bool) (e : known ≡ v.known b) where
-  pub day-unknown : not known ≡ true → DayRefused 28 ≡ day_by v b (dated k)
+  pub day-unknown : not known ≡ true → Err NoSuchBitField ≡ day_by v b (Ok k)
   day-unknown n = rw (sym e ∙ not-true known n)
 
   module _ (n : not known ≡ false) (l : k < most_period_days) (ws : List ℕ) (f : (d : ℕ) → d < most_period_days → runs_on ws d ≡ v.runs b d) (x : Bool) (g : x ≡ runs_on ws k) where
     runs-is : v.runs b k ≡ x
     runs-is = sym (g ∙ f k l)
 
-    pub day-runs : x ≡ true → Runs ≡ day_by v b (dated k)
-    day-runs t = rw (sym e ∙ not-false known n, runs-is, t)
-
-    pub day-idle : x ≡ false → Idle ≡ day_by v b (dated k)
-    day-idle t = rw (sym e ∙ not-false known n, runs-is, t)
+    pub day-runs : Ok x ≡ day_by v b (Ok k)
+    day-runs = rw (sym e ∙ not-false known n, runs-is)
 
 -- ---- a date; on is the day that it is
 
-module _ (v : View) (day month year b : ℕ) (on : PeriodDay) (e : on ≡ period_day (date_of v day month year)) where
-  pub day-refused : (number : ℕ) → on ≡ Refused number → DayRefused number ≡ day_in v day month year b
+module _ (v : View) (day month year b : ℕ) (on : Result ℕ Refusal) (e : on ≡ date_of v day month year) where
+  pub day-refused : (refusal : Refusal) → on ≡ Err refusal → Err refusal ≡ day_in v day month year b
   unfolding day_in
-  day-refused number g = ap (day_by v b) (sym (is-undated (date_of v day month year) on e number g))
+  day-refused refusal g = ap (day_by v b) (sym (sym e ∙ g))
 
-  pub day-on : (k : ℕ) → on ≡ On k → (r : DayAnswer) → r ≡ day_by v b (dated k) → r ≡ day_in v day month year b
+  pub day-on : (k : ℕ) → on ≡ Ok k → (r : Result Bool Refusal) → r ≡ day_by v b (Ok k) → r ≡ day_in v day month year b
   unfolding day_in
-  day-on k g r f = f ∙ ap (day_by v b) (sym (is-dated (date_of v day month year) on e k g))
+  day-on k g r f = f ∙ ap (day_by v b) (sym (sym e ∙ g))
 
-pub ruleset days = (tests, day-low, day-unknown, day-runs, day-idle, day-refused, day-on)
+pub ruleset days = (tests, day-low, day-unknown, day-runs, day-refused, day-on)
 
 -- ---- an interchange; y says whether the classes are known, z whether the stop is
 
@@ -67,16 +60,16 @@ module _ (a b : ℕ) (times : Times) where
   both_first g h = rw (le-leb a 2 g, le-leb b 2 h)
 
 module _ (v : View) (stop a b : ℕ) (y : Bool) (f : y ≡ (leb a most_class && leb b most_class)) where
-  pub interchange-class : not y ≡ true → InterchangeRefused 26 ≡ interchange_in v stop a b
+  pub interchange-class : not y ≡ true → Err ClassTooHigh ≡ interchange_in v stop a b
   unfolding interchange_in
   interchange-class m = rw (sym f ∙ not-true y m)
 
   module _ (m : not y ≡ false) (z : Bool) (g : z ≡ v.stop stop) where
-    pub interchange-unknown : not z ≡ true → InterchangeRefused 27 ≡ interchange_in v stop a b
+    pub interchange-unknown : not z ≡ true → Err StopUnknown ≡ interchange_in v stop a b
     unfolding interchange_in
     interchange-unknown o = rw (sym f ∙ not-false y m, sym g ∙ not-true z o)
 
-    pub interchange-minutes : not z ≡ false → (t : Times) → t ≡ times_of (v.times stop) → (r : ℕ) → r ≡ cond (first_time_class a && first_time_class b) t.first t.second → Minutes r ≡ interchange_in v stop a b
+    pub interchange-minutes : not z ≡ false → (t : Times) → t ≡ times_of (v.times stop) → (r : ℕ) → r ≡ cond (first_time_class a && first_time_class b) t.first t.second → Ok r ≡ interchange_in v stop a b
     unfolding interchange_in
     interchange-minutes o t i r j = rw (sym f ∙ not-false y m, sym g ∙ not-false z o, j, i)
 
@@ -99,16 +92,16 @@ minutes-are v stop a b t f i j g h r k = rw (k, f, g, h)
 -- y says whether the stop is known, z whether both are listed
 
 module _ (v : View) (stop a b : ℕ) (y : Bool) (f : y ≡ v.stop stop) where
-  pub between-unknown : y ≡ false → InterchangeRefused 27 ≡ between_in v stop a b
+  pub between-unknown : y ≡ false → Err StopUnknown ≡ between_in v stop a b
   unfolding between_in
   between-unknown o = rw (sym f ∙ o)
 
   module _ (o : y ≡ true) (z : Bool) (g : z ≡ (v.listed a && v.listed b)) where
-    pub between-unlisted : z ≡ false → InterchangeRefused 38 ≡ between_in v stop a b
+    pub between-unlisted : z ≡ false → Err CategoryUnlisted ≡ between_in v stop a b
     unfolding between_in
     between-unlisted q = rw (sym f ∙ o, sym g ∙ q)
 
-    pub between-minutes : z ≡ true → (r : ℕ) → r ≡ minutes_for (v.times stop) (v.class a) (v.class b) → Minutes r ≡ between_in v stop a b
+    pub between-minutes : z ≡ true → (r : ℕ) → r ≡ minutes_for (v.times stop) (v.class a) (v.class b) → Ok r ≡ between_in v stop a b
     unfolding between_in
     between-minutes q r i = rw (sym f ∙ o, sym g ∙ q, i)
 
@@ -118,29 +111,29 @@ pub ruleset categories = (tests, first-unlisted, second-listed, minutes-are, bet
 
 module _ (w : List ℕ) (t : Bool) (e : t ≡ is_table w) where
   module _ (n : not t ≡ true) where
-    pub day-bare : (day month year b : ℕ) → DayRefused 21 ≡ day_asked w day month year b
+    pub day-bare : (day month year b : ℕ) → Err NoTable ≡ day_asked w day month year b
     unfolding day_asked
-    day-bare day month year b = asked-refused w t e DayRefused (λ (v : View). day_in v day month year b) n
+    day-bare day month year b = asked-refused w t e Err (λ (v : View). day_in v day month year b) n
 
-    pub interchange-bare : (stop a b : ℕ) → InterchangeRefused 21 ≡ interchange_asked w stop a b
+    pub interchange-bare : (stop a b : ℕ) → Err NoTable ≡ interchange_asked w stop a b
     unfolding interchange_asked
-    interchange-bare stop a b = asked-refused w t e InterchangeRefused (λ (v : View). interchange_in v stop a b) n
+    interchange-bare stop a b = asked-refused w t e Err (λ (v : View). interchange_in v stop a b) n
 
-    pub between-bare : (stop a b : ℕ) → InterchangeRefused 21 ≡ between_asked w stop a b
+    pub between-bare : (stop a b : ℕ) → Err NoTable ≡ between_asked w stop a b
     unfolding between_asked
-    between-bare stop a b = asked-refused w t e InterchangeRefused (λ (v : View). between_in v stop a b) n
+    between-bare stop a b = asked-refused w t e Err (λ (v : View). between_in v stop a b) n
 
   module _ (n : not t ≡ false) (u : List ℕ) (p : u ≡ used w) (x : List ℕ) (z : length x ≡ 0) where
-    pub day-plain : (day month year b : ℕ) (r : DayAnswer) → r ≡ day_in (view_in u x) day month year b → r ≡ day_asked w day month year b
+    pub day-plain : (day month year b : ℕ) (r : Result Bool Refusal) → r ≡ day_in (view_in u x) day month year b → r ≡ day_asked w day month year b
     unfolding day_asked
-    day-plain day month year b r f = f ∙ asked-on w t e n u p x z DayRefused (λ (v : View). day_in v day month year b)
+    day-plain day month year b r f = f ∙ asked-on w t e n u p x z Err (λ (v : View). day_in v day month year b)
 
-    pub interchange-plain : (stop a b : ℕ) (r : InterchangeAnswer) → r ≡ interchange_in (view_in u x) stop a b → r ≡ interchange_asked w stop a b
+    pub interchange-plain : (stop a b : ℕ) (r : Result ℕ Refusal) → r ≡ interchange_in (view_in u x) stop a b → r ≡ interchange_asked w stop a b
     unfolding interchange_asked
-    interchange-plain stop a b r f = f ∙ asked-on w t e n u p x z InterchangeRefused (λ (v : View). interchange_in v stop a b)
+    interchange-plain stop a b r f = f ∙ asked-on w t e n u p x z Err (λ (v : View). interchange_in v stop a b)
 
-    pub between-plain : (stop a b : ℕ) (r : InterchangeAnswer) → r ≡ between_in (view_in u x) stop a b → r ≡ between_asked w stop a b
+    pub between-plain : (stop a b : ℕ) (r : Result ℕ Refusal) → r ≡ between_in (view_in u x) stop a b → r ≡ between_asked w stop a b
     unfolding between_asked
-    between-plain stop a b r f = f ∙ asked-on w t e n u p x z InterchangeRefused (λ (v : View). between_in v stop a b)
+    between-plain stop a b r f = f ∙ asked-on w t e n u p x z Err (λ (v : View). between_in v stop a b)
 
 pub ruleset plain = (tests, plain-words, day-bare, interchange-bare, between-bare, day-plain, interchange-plain, between-plain)

@@ -2,15 +2,15 @@
 // Each of any words, and (`day_by`, `interchange_by`, `between_by`, which the quick questions share) of words and an index that look-ups may go by.
 #![tactic(auto)]
 
-ghost use Rattle.std.specs.Prelude.{◌≡◌, cond, ◌&&◌, ◌<◌, leb};
+ghost use Rattle.std.specs.Prelude.{◌≡◌, cond, ◌&&◌, ◌<◌, leb, Ok};
 ghost use Rattle.timetable.specs.Layout.{most_class, most_period_days};
-ghost use Rattle.timetable.specs.Questions.{dated, day_by, day_in, day_asked, first_time_class, minutes_for, interchange_in};
+ghost use Rattle.timetable.specs.Questions.{day_by, day_in, day_asked, first_time_class, minutes_for, interchange_in};
 ghost use Rattle.timetable.specs.Questions.{interchange_asked, between_in, between_asked};
 ghost use Rattle.index.specs.Index.{view_in};
 ghost use Rattle.index.specs.Inner.Ready.{Ready};
 
-use lookups::{PeriodDay, Times};
-use timetable::{DayAnswer, InterchangeAnswer, MOST_CLASS};
+use lookups::Times;
+use timetable::{MOST_CLASS, Refusal};
 
 pub mod stop_names;
 
@@ -20,64 +20,65 @@ const FIRST_TIME_CLASS: u32 = 2;
 // ---- day
 
 // Whether a bit field runs on a date: 21 to 23, 28 no such bit field.
-pub fn day(w: &[u32], day: u32, month: u32, year: u32, field: u32) -> DayAnswer
+pub fn day(w: &[u32], day: u32, month: u32, year: u32, field: u32) -> Result<bool, Refusal>
     ensures { result ≡ day_asked w.now day month year field }
 {
     if !table::is_table(w) {
-        return DayAnswer::Refused(21);
+        return Err(Refusal::NoTable);
     }
     day_by(table::used_words(w), &w[0..0], day, month, year, field)
 }
 
-pub fn day_by(w: &[u32], x: &[u32], day: u32, month: u32, year: u32, field: u32) -> DayAnswer
+pub fn day_by(
+    w: &[u32],
+    x: &[u32],
+    day: u32,
+    month: u32,
+    year: u32,
+    field: u32,
+) -> Result<bool, Refusal>
     requires { Ready w.now x.now }
     ensures { result ≡ day_in (view_in w.now x.now) day month year field }
 {
-    let on = index::dated(w, x, day, month, year);
-    match on {
-        PeriodDay::Refused(number) => DayAnswer::Refused(number),
-        PeriodDay::On(k) => field_day(w, x, field, k),
-    }
+    let k = index::dated(w, x, day, month, year)?;
+    field_day(w, x, field, k)
 }
 
 // On day k of the period.
-fn field_day(w: &[u32], x: &[u32], field: u32, k: u32) -> DayAnswer
+fn field_day(w: &[u32], x: &[u32], field: u32, k: u32) -> Result<bool, Refusal>
     requires { Ready w.now x.now × (k < most_period_days) }
-    ensures { result ≡ day_by (view_in w.now x.now) field (dated k) }
+    ensures { result ≡ day_by (view_in w.now x.now) field (Ok k) }
 {
     let f = index::field_words(w, x, field);
     if !f.known {
-        return DayAnswer::Refused(28);
+        return Err(Refusal::NoSuchBitField);
     }
-    if lookups::field_runs(f, k) {
-        return DayAnswer::Runs;
-    }
-    DayAnswer::Idle
+    Ok(lookups::field_runs(f, k))
 }
 
 // ---- interchange between two classes
 
 // The minutes of an interchange between services of two classes: 21, 26 class over 13, 27 stop unknown.
-pub fn interchange(w: &[u32], stop: u32, a: u32, b: u32) -> InterchangeAnswer
+pub fn interchange(w: &[u32], stop: u32, a: u32, b: u32) -> Result<u32, Refusal>
     ensures { result ≡ interchange_asked w.now stop a b }
 {
     if !table::is_table(w) {
-        return InterchangeAnswer::Refused(21);
+        return Err(Refusal::NoTable);
     }
     interchange_by(table::used_words(w), &w[0..0], stop, a, b)
 }
 
-pub fn interchange_by(w: &[u32], x: &[u32], stop: u32, a: u32, b: u32) -> InterchangeAnswer
+pub fn interchange_by(w: &[u32], x: &[u32], stop: u32, a: u32, b: u32) -> Result<u32, Refusal>
     requires { Ready w.now x.now }
     ensures { result ≡ interchange_in (view_in w.now x.now) stop a b }
 {
     if !classes_known(a, b) {
-        return InterchangeAnswer::Refused(26);
+        return Err(Refusal::ClassTooHigh);
     }
     if !index::stop_known(w, x, stop) {
-        return InterchangeAnswer::Refused(27);
+        return Err(Refusal::StopUnknown);
     }
-    InterchangeAnswer::Minutes(minutes(index::interchange_at(w, x, stop), a, b))
+    Ok(minutes(index::interchange_at(w, x, stop), a, b))
 }
 
 fn classes_known(a: u32, b: u32) -> bool
@@ -92,26 +93,26 @@ fn classes_known(a: u32, b: u32) -> bool
 // ---- interchange between two categories
 
 // The minutes of an interchange between services of two categories: 21, 27 stop unknown, 38 a category not listed.
-pub fn between(w: &[u32], stop: u32, a: u32, b: u32) -> InterchangeAnswer
+pub fn between(w: &[u32], stop: u32, a: u32, b: u32) -> Result<u32, Refusal>
     ensures { result ≡ between_asked w.now stop a b }
 {
     if !table::is_table(w) {
-        return InterchangeAnswer::Refused(21);
+        return Err(Refusal::NoTable);
     }
     between_by(table::used_words(w), &w[0..0], stop, a, b)
 }
 
-pub fn between_by(w: &[u32], x: &[u32], stop: u32, a: u32, b: u32) -> InterchangeAnswer
+pub fn between_by(w: &[u32], x: &[u32], stop: u32, a: u32, b: u32) -> Result<u32, Refusal>
     requires { Ready w.now x.now }
     ensures { result ≡ between_in (view_in w.now x.now) stop a b }
 {
     if index::stop_known(w, x, stop) {
         if both_listed(w, x, a, b) {
-            return InterchangeAnswer::Minutes(minutes_between(w, x, stop, a, b));
+            return Ok(minutes_between(w, x, stop, a, b));
         }
-        return InterchangeAnswer::Refused(38);
+        return Err(Refusal::CategoryUnlisted);
     }
-    InterchangeAnswer::Refused(27)
+    Err(Refusal::StopUnknown)
 }
 
 // Whether two categories are listed.

@@ -5,16 +5,21 @@ ghost use Rattle.timetable.specs.StopNames.{name_within, stop_name, stop_name_in
 ghost use Rattle.index.specs.Index.{view_in};
 ghost use Rattle.index.specs.Inner.Ready.{Ready};
 
-use lookups::StopName;
-use names::{Asked, Chosen, Wanted};
-use timetable::NameAnswer;
+use names::Wanted;
+use timetable::{NamePart, Refusal};
 
 // The part of BAHNHOF that holds the name: 21, 40 language or type outside the standard's list, 27 stop unknown, 41, 39.
-pub fn name(w: &[u32], bahnhof: &[u8], stop: u32, language: u32, kind: u32) -> NameAnswer
+pub fn name(
+    w: &[u32],
+    bahnhof: &[u8],
+    stop: u32,
+    language: u32,
+    kind: u32,
+) -> Result<NamePart, Refusal>
     ensures { result ≡ stop_name_asked w.now bahnhof.now stop language kind }
 {
     if !table::is_table(w) {
-        return NameAnswer::Refused(21);
+        return Err(Refusal::NoTable);
     }
     name_by(
         table::used_words(w),
@@ -33,47 +38,50 @@ pub fn name_by(
     stop: u32,
     language: u32,
     kind: u32,
-) -> NameAnswer
+) -> Result<NamePart, Refusal>
     requires { Ready w.now x.now }
     ensures { result ≡
         stop_name_in (view_in w.now x.now) bahnhof.now stop language kind }
 {
-    let asked = names::asked_for(language, kind);
-    let Asked::For(wanted) = asked else {
-        return NameAnswer::Refused(40);
+    let Some(wanted) = names::asked_for(language, kind) else {
+        return Err(Refusal::NotAskable);
     };
     stop_name(w, x, bahnhof, stop, wanted)
 }
 
 // The name of a stop.
-fn stop_name(w: &[u32], x: &[u32], bahnhof: &[u8], stop: u32, wanted: Wanted) -> NameAnswer
+fn stop_name(
+    w: &[u32],
+    x: &[u32],
+    bahnhof: &[u8],
+    stop: u32,
+    wanted: Wanted,
+) -> Result<NamePart, Refusal>
     requires { Ready w.now x.now }
     ensures { result ≡
         stop_name bahnhof.now wanted ((view_in w.now x.now).named stop) }
 {
-    let found = index::stop_name(w, x, stop);
-    match found {
-        StopName::Place { offset, size } => name_within(bahnhof, offset, size, wanted),
-        StopName::Unknown => NameAnswer::Refused(27),
+    match index::stop_name(w, x, stop) {
+        Some(place) => name_within(bahnhof, place.offset, place.size, wanted),
+        None => Err(Refusal::StopUnknown),
     }
 }
 
 // The name in so many bytes from a place on: 41 not inside the bytes given, 39 no name list.
-fn name_within(bahnhof: &[u8], offset: u32, size: u32, wanted: Wanted) -> NameAnswer
+fn name_within(bahnhof: &[u8], offset: u32, size: u32, wanted: Wanted) -> Result<NamePart, Refusal>
     ensures { result ≡
         name_within bahnhof.now wanted (record { number = 0; offset = offset; size = size }) }
 {
     let start = offset as usize;
     let end = start + size as usize;
     if bahnhof.len() < end {
-        return NameAnswer::Refused(41);
+        return Err(Refusal::NameOutside);
     }
-    let chosen = names::name_for(&bahnhof[start..end], wanted);
-    match chosen {
-        Chosen::Is(name) => NameAnswer::Part {
+    match names::name_for(&bahnhof[start..end], wanted) {
+        Some(name) => Ok(NamePart {
             start: start + name.place,
             size: name.size,
-        },
-        Chosen::NoList => NameAnswer::Refused(39),
+        }),
+        None => Err(Refusal::NoNameList),
     }
 }

@@ -2,9 +2,11 @@
 use mathlib.Core.Path.{◌≡◌, refl, sym, ap, ◌∙◌}
 use mathlib.Core.List.{List, [], ◌∷◌, ◌++◌, append-nil}
 use mathlib.Core.Bool.{Bool, true, false, cond}
-use mathlib.Core.Option.{Option, none, some}
-use Prim.Native.Nat.{ℕ, ◌+◌, ◌-◌, ◌≤◌, ◌<◌}
+use mathlib.Core.Option.{Option as Maybe, none, some}
+use Rattle.std.specs.Prelude.{Option, Some, None}
+use Prim.Native.Nat.{ℕ, ◌+◌, ◌-◌, ◌*◌, ◌≤◌, ◌<◌}
 use native.Mathlib.Nat.{add-zero}
+use native.Mathlib.Omega.{arith}
 use lib.ListN.{length, get_or, drop}
 use lib.Seq.{get_or-drop}
 use lib.Dec.{eqb}
@@ -25,11 +27,7 @@ use Rattle.timetable.specs.declared.RangeKind.TheVariants.{Category, Days, Extra
 use Rattle.timetable.specs.declared.RangeLine.{RangeLine}
 use Rattle.draft.specs.Inner.Draft.{draft_range, part_back, line_back, ranges_in, part_in}
 use Rattle.route.specs.Inner.Route.{found_of}
-use Rattle.route.specs.declared.RangeFound.{RangeFound}
-use Rattle.route.specs.declared.RangeFound.TheVariants.{Between, Missing}
-use Rattle.range_words.specs.Inner.Parts.{range_row_words, part_row, found_words, range_gives, part_words, given_words}
-use Rattle.range_words.specs.declared.Given.{Given}
-use Rattle.range_words.specs.declared.Given.TheVariants.{Nothing, Three, Four}
+use Rattle.range_words.specs.Inner.Parts.{range_row_words, part_row, found_words, range_gives, part_words}
 use Rattle.range_words.proofs.Rows.{row-turn, no_rows, row-start, run-count, run_room, run-again}
 
 -- ---- a part is the part of the service
@@ -54,7 +52,7 @@ module _ (cs : List Call) (rs : List RangeLine) where
   unfolding gathered
   categories-part = part-of Category cs (category_range cs) category_words (λ r. go r (legs_on cs r)) rs
     where
-      go : (r : RangeLine) (o : Option Legs) → gathered category_words (with_legs (λ (x : Legs). record { name = r.name; legs = x }) o) ≡ found_words Category r o
+      go : (r : RangeLine) (o : Maybe Legs) → gathered category_words (with_legs (λ (x : Legs). record { name = r.name; legs = x }) o) ≡ found_words Category r o
       go r none = refl
       go r (some g) = refl
 
@@ -62,7 +60,7 @@ module _ (cs : List Call) (rs : List RangeLine) where
   unfolding gathered
   days-part = part-of Days cs (day_range cs) day_words (λ r. go r (legs_on cs r)) rs
     where
-      go : (r : RangeLine) (o : Option Legs) → gathered day_words (with_legs (λ (x : Legs). record { field = r.field; legs = x }) o) ≡ found_words Days r o
+      go : (r : RangeLine) (o : Maybe Legs) → gathered day_words (with_legs (λ (x : Legs). record { field = r.field; legs = x }) o) ≡ found_words Days r o
       go r none = refl
       go r (some g) = refl
 
@@ -70,34 +68,21 @@ module _ (cs : List Call) (rs : List RangeLine) where
   unfolding gathered
   extras-part = part-of Extra cs (extra_range cs) extra_words (λ r. go r (legs_on cs r)) rs
     where
-      go : (r : RangeLine) (o : Option Legs) → gathered extra_words (with_legs (λ (x : Legs). record { code = r.name; field = r.field; legs = x }) o) ≡ found_words Extra r o
+      go : (r : RangeLine) (o : Maybe Legs) → gathered extra_words (with_legs (λ (x : Legs). record { code = r.name; field = r.field; legs = x }) o) ≡ found_words Extra r o
       go r none = refl
       go r (some g) = refl
 
 -- ---- what a range gives, for `search gives`
 
 -- the legs that were found are those that the answer says
-unfoldable pub unfound : RangeFound → Option Legs
-unfound (Between from to) = some (record { from = from.0; to = to.0 })
-unfound Missing = none
+unfoldable pub unfound : Option (RouteIndex × RouteIndex) → Maybe Legs
+unfound (Some (from, to)) = some (record { from = from.0; to = to.0 })
+unfound None = none
 
-pub found-legs : (f : RangeFound) (o : Option Legs) → f ≡ found_of o → o ≡ unfound f
+pub found-legs : (f : Option (RouteIndex × RouteIndex)) (o : Maybe Legs) → f ≡ found_of o → o ≡ unfound f
 unfolding unfound
 found-legs f none k = rw k refl
 found-legs f (some g) k = rw k refl
-
-module _ (part : RangeKind) (cs : List Call) (x : RangeLine) where
-  module _ (own : is_part part x ≡ true) (f : RangeFound) (d : f ≡ found_of (legs_on cs x)) where
-    gives_found : range_gives part cs x ≡ found_words part x (legs_on cs x)
-    gives_found = rw own refl
-
-    pub gives_nothing : f ≡ Missing → [] ≡ range_gives part cs x
-    unfolding unfound
-    gives_nothing k = sym (gives_found ∙ ap (found_words part x) (found-legs f (legs_on cs x) d ∙ ap unfound k))
-
-    pub gives_row : (from to : RouteIndex) (g : Given) → f ≡ Between from to → given_words g ≡ range_row_words part x from.0 to.0 → given_words g ≡ range_gives part cs x
-    unfolding unfound
-    gives_row from to g k v = v ∙ sym (gives_found ∙ ap (found_words part x) (found-legs f (legs_on cs x) d ∙ ap unfound k))
 
 pub drafted-0 : (k : ℕ) → k ≡ 0 → 0 ≡ part_number (part_back k)
 drafted-0 k e = rw e refl
@@ -105,63 +90,89 @@ drafted-0 k e = rw e refl
 pub drafted-1 : (k : ℕ) → k ≡ 1 → 1 ≡ part_number (part_back k)
 drafted-1 k e = rw e refl
 
-pub gives-drafted : (part : RangeKind) (cs : List Call) (w : List ℕ) (p : ℕ) (x : RangeLine) (g : Given) → x ≡ line_back (drop p w) → given_words g ≡ range_gives part cs x → given_words g ≡ range_gives part cs (line_back (drop p w))
-gives-drafted part cs w p x g e v = v ∙ ap (range_gives part cs) e
-
 -- by the word of the range at place p that says its part: a is that part's number, b the number of the part that is written
-module _ (part : RangeKind) (w : List ℕ) (p a b : ℕ) (e : a ≡ part_number (part_back (get_or w (p + 1) 0))) (d : b ≡ part_number part) where
+module _ (part : RangeKind) (cs : List Call) (w : List ℕ) (p a b : ℕ) (e : a ≡ part_number (part_back (get_or w (p + 1) 0))) (d : b ≡ part_number part) where
   part-here : is_part part (line_back (drop p w)) ≡ eqb a b
   part-here = ap (λ (k : ℕ). eqb (part_number (part_back k)) (part_number part)) (get_or-drop p w 1 0) ∙ rw (e, d) refl
 
-  pub gives_other : (cs : List Call) → (a ≡ b → ⊥) → [] ≡ range_gives part cs (line_back (drop p w))
-  gives_other cs h = rw (part-here ∙ ne_eqb a b h) refl
+  module _ (h : a ≡ b → ⊥) where
+    gives-other : range_gives part cs (line_back (drop p w)) ≡ []
+    gives-other = rw (part-here ∙ ne_eqb a b h) refl
 
-  pub part-own : (x : RangeLine) → a ≡ b → x ≡ line_back (drop p w) → is_part part x ≡ true
-  part-own x h y = ap (is_part part) y ∙ (part-here ∙ eq-eqb a b h)
+    pub other_count : (q : ℕ) → q ≡ q + length (range_gives part cs (line_back (drop p w)))
+    other_count q = rw gives-other (sym (add-zero q))
 
-module _ (part : RangeKind) (x : RangeLine) (from to : ℕ) where
-  pub row-category : part ≡ Category → x.name ∷ from ∷ to ∷ [] ≡ range_row_words part x from to
-  row-category e = rw e refl
+    pub other_put : (t : List ℕ) (q : ℕ) → t ≡ write t q (range_gives part cs (line_back (drop p w)))
+    other_put t q = rw gives-other (sym (write-none t q))
 
-  pub row-days : part ≡ Days → x.field ∷ from ∷ to ∷ [] ≡ range_row_words part x from to
-  row-days e = rw e refl
+  -- x is that range, f what was found of it
+  module _ (h : a ≡ b) (x : RangeLine) (y : x ≡ line_back (drop p w)) (f : Option (RouteIndex × RouteIndex)) (k : f ≡ found_of (legs_on cs x)) where
+    gives-found : range_gives part cs (line_back (drop p w)) ≡ found_words part x (unfound f)
+    gives-found =
+        let own : is_part part x ≡ true = ap (is_part part) y ∙ (part-here ∙ eq-eqb a b h) in
+        ap (range_gives part cs) (sym y) ∙ rw own (ap (found_words part x) (found-legs f (legs_on cs x) k))
 
-  pub row-extra : part ≡ Extra → x.name ∷ x.field ∷ from ∷ to ∷ [] ≡ range_row_words part x from to
-  row-extra e = rw e refl
+    module _ (z : f ≡ None) where
+      gives-none : range_gives part cs (line_back (drop p w)) ≡ []
+      unfolding unfound
+      gives-none = gives-found ∙ ap (λ (f : Option (RouteIndex × RouteIndex)). found_words part x (unfound f)) z
 
-pub ruleset gives = (tests, drafted-0, drafted-1, gives-drafted, gives_other, part-own, gives_nothing, gives_row, row-category, row-days, row-extra)
+      pub none_count : (q : ℕ) → q ≡ q + length (range_gives part cs (line_back (drop p w)))
+      none_count q = rw gives-none (sym (add-zero q))
 
--- ---- writing it, for `search putting`
+      pub none_put : (t : List ℕ) (q : ℕ) → t ≡ write t q (range_gives part cs (line_back (drop p w)))
+      none_put t q = rw gives-none (sym (write-none t q))
 
-module _ (g : Given) (t : List ℕ) (q : ℕ) where
-  module _ (e : g ≡ Nothing) where
-    pub none-count : q ≡ q + length (given_words g)
-    none-count = rw e (sym (add-zero q))
+    module _ (from to : RouteIndex) (z : f ≡ Some (from, to)) where
+      gives-row : range_gives part cs (line_back (drop p w)) ≡ range_row_words part x from.0 to.0
+      unfolding unfound
+      gives-row = gives-found ∙ ap (λ (f : Option (RouteIndex × RouteIndex)). found_words part x (unfound f)) z
 
-    pub put-none : t ≡ write t q (given_words g)
-    put-none = rw e (sym (write-none t q))
+      pub found_room : (t : List ℕ) (q : ℕ) → q + length (range_gives part cs (line_back (drop p w))) ≤ length t → q + length (range_row_words part x from.0 to.0) ≤ length t
+      found_room t q r = rw gives-row at r
 
-  module _ (x y z : ℕ) (e : g ≡ Three x y z) where
-    pub three-room : q + length (given_words g) ≤ length t → q + 3 ≤ length t
-    three-room h = rw e at h
+      pub found_count : (q r : ℕ) → r ≡ q + length (range_row_words part x from.0 to.0) → r ≡ q + length (range_gives part cs (line_back (drop p w)))
+      found_count q r v = rw gives-row v
 
-    pub three-count : q + 3 ≡ q + length (given_words g)
-    three-count = rw e refl
+      pub found_put : (t t' : List ℕ) (q : ℕ) → t' ≡ write t q (range_row_words part x from.0 to.0) → t' ≡ write t q (range_gives part cs (line_back (drop p w)))
+      found_put t t' q v = rw gives-row v
 
-    pub put_three : (t' : List ℕ) → t' ≡ write t q (x ∷ y ∷ z ∷ []) → t' ≡ write t q (given_words g)
-    put_three t' k = rw e k
+pub ruleset gives = (tests, drafted-0, drafted-1, other_count, other_put, none_count, none_put, found_room, found_count, found_put)
 
-  module _ (x y z u : ℕ) (e : g ≡ Four x y z u) where
-    pub four-room : q + length (given_words g) ≤ length t → q + 4 ≤ length t
-    four-room h = rw e at h
+-- ---- the words of a row, for `search putting`
 
-    pub four-count : q + 4 ≡ q + length (given_words g)
-    four-count = rw e refl
+module _ (part : RangeKind) (x : RangeLine) (from to : ℕ) (t : List ℕ) (q : ℕ) where
+  module _ (e : part ≡ Category) where
+    pub category-room : q + length (range_row_words part x from to) ≤ length t → q + 3 ≤ length t
+    category-room h = rw e at h
 
-    pub put_four : (t' : List ℕ) → t' ≡ write t q (x ∷ y ∷ z ∷ u ∷ []) → t' ≡ write t q (given_words g)
-    put_four t' k = rw e k
+    pub category-count : q + 3 ≡ q + length (range_row_words part x from to)
+    category-count = rw e refl
 
-pub ruleset putting = (tests, none-count, put-none, three-room, three-count, put_three, four-room, four-count, put_four)
+    pub category-put : (t' : List ℕ) → t' ≡ write t q (x.name ∷ from ∷ to ∷ []) → t' ≡ write t q (range_row_words part x from to)
+    category-put t' k = rw e k
+
+  module _ (e : part ≡ Days) where
+    pub days-room : q + length (range_row_words part x from to) ≤ length t → q + 3 ≤ length t
+    days-room h = rw e at h
+
+    pub days-count : q + 3 ≡ q + length (range_row_words part x from to)
+    days-count = rw e refl
+
+    pub days-put : (t' : List ℕ) → t' ≡ write t q (x.field ∷ from ∷ to ∷ []) → t' ≡ write t q (range_row_words part x from to)
+    days-put t' k = rw e k
+
+  module _ (e : part ≡ Extra) where
+    pub extra-room : q + length (range_row_words part x from to) ≤ length t → q + 4 ≤ length t
+    extra-room h = rw e at h
+
+    pub extra-count : q + 4 ≡ q + length (range_row_words part x from to)
+    extra-count = rw e refl
+
+    pub extra-put : (t' : List ℕ) → t' ≡ write t q (x.name ∷ x.field ∷ from ∷ to ∷ []) → t' ≡ write t q (range_row_words part x from to)
+    extra-put t' k = rw e k
+
+pub ruleset putting = (tests, category-room, category-count, category-put, days-room, days-count, days-put, extra-room, extra-count, extra-put)
 
 -- ---- the row of a range that is written only to its own part, for `search rowing`: a and b are the numbers of its part and of that part
 
@@ -179,55 +190,59 @@ module _ (part : RangeKind) (x : RangeLine) (a b : ℕ) (e : a ≡ part_number x
     pub other-put : (t : List ℕ) (q : ℕ) → t ≡ write t q (part_row part x from to)
     other-put t q = rw no_row (sym (write-none t q))
 
-  module _ (h : a ≡ b) (g : Given) (k : given_words g ≡ range_row_words part x from to) where
-    one-row : part_row part x from to ≡ given_words g
-    one-row = rw (own-here ∙ eq-eqb a b h) (sym k)
+  module _ (h : a ≡ b) where
+    one-row : part_row part x from to ≡ range_row_words part x from to
+    one-row = rw (own-here ∙ eq-eqb a b h) refl
 
-    pub own_room : (t : List ℕ) (q : ℕ) → q + length (part_row part x from to) ≤ length t → q + length (given_words g) ≤ length t
+    pub own_room : (t : List ℕ) (q : ℕ) → q + length (part_row part x from to) ≤ length t → q + length (range_row_words part x from to) ≤ length t
     own_room t q r = rw one-row at r
 
-    pub own-count : (q r : ℕ) → r ≡ q + length (given_words g) → r ≡ q + length (part_row part x from to)
+    pub own-count : (q r : ℕ) → r ≡ q + length (range_row_words part x from to) → r ≡ q + length (part_row part x from to)
     own-count q r v = rw one-row v
 
-    pub own_put : (t t' : List ℕ) (q : ℕ) → t' ≡ write t q (given_words g) → t' ≡ write t q (part_row part x from to)
+    pub own_put : (t t' : List ℕ) (q : ℕ) → t' ≡ write t q (range_row_words part x from to) → t' ≡ write t q (part_row part x from to)
     own_put t t' q v = rw one-row v
 
 pub ruleset rowing = (tests, other-count, other-put, own_room, own-count, own_put)
 
 -- ---- the loop of `part_into`, for `search puts`
 
--- the words of the ranges from the i-th of n on, which is drafted at place p
-abbrev pub part_left : RangeKind → List Call → ℕ → ℕ → ℕ → List ℕ → List ℕ
-part_left part cs n i p w = part_words part cs (rows_in line_back draft_range (n - i) (drop p w))
+-- the words of the ranges from the i-th of n on
+abbrev pub part_left : RangeKind → List Call → ℕ → ℕ → List ℕ → List ℕ
+part_left part cs n i w = part_words part cs (rows_in line_back draft_range (n - i) (drop (draft_range * i) w))
+
+-- the words of a range lie in w
+pub range_inside : (w : List ℕ) (n i p : ℕ) → draft_range * n ≤ length w → i < n → p ≡ draft_range * i → p + draft_range ≤ length w
+range_inside w n i p l h e = omega arith
 
 module _ (part : RangeKind) (cs : List Call) where
-  pub part_count : (n q : ℕ) (w : List ℕ) → q + length (part_left part cs n 0 0 w) ≡ q + length (part_words part cs (ranges_in n w))
+  pub part_count : (n q : ℕ) (w : List ℕ) → q + length (part_left part cs n 0 w) ≡ q + length (part_words part cs (ranges_in n w))
   part_count n q w = ap (λ (vs : List ℕ). q + length vs) (row-start line_back draft_range (range_gives part cs) w n)
 
-  pub part-start : (n q : ℕ) (w t : List ℕ) → write t q (part_left part cs n 0 0 w) ≡ write t q (part_words part cs (ranges_in n w))
+  pub part-start : (n q : ℕ) (w t : List ℕ) → write t q (part_left part cs n 0 w) ≡ write t q (part_words part cs (ranges_in n w))
   part-start n q w t = ap (write t q) (row-start line_back draft_range (range_gives part cs) w n)
 
-  module _ (n i p q m : ℕ) (w : List ℕ) where
-    module _ (h : i < n) (vs : List ℕ) (k : vs ≡ range_gives part cs (line_back (drop p w))) (t t₀ : List ℕ) (len : length t ≡ length t₀)
-        (count : q + length (part_left part cs n i p w) ≡ m) (room : m ≤ length t₀) where
-      part-turn : part_left part cs n i p w ≡ vs ++ part_left part cs n (i + 1) (p + draft_range) w
-      part-turn = row-turn line_back draft_range (range_gives part cs) w n i p h vs k
+  module _ (n i q m : ℕ) (w : List ℕ) where
+    module _ (p : ℕ) (d : p ≡ draft_range * i) (h : i < n) (vs : List ℕ) (k : vs ≡ range_gives part cs (line_back (drop p w))) (t t₀ : List ℕ) (len : length t ≡ length t₀)
+        (count : q + length (part_left part cs n i w) ≡ m) (room : m ≤ length t₀) where
+      part-turn : part_left part cs n i w ≡ vs ++ part_left part cs n (i + 1) w
+      part-turn = row-turn line_back draft_range (range_gives part cs) w n i p d h vs k
 
       pub put-room : q + length vs ≤ length t
-      put-room = run_room vs (part_left part cs n (i + 1) (p + draft_range) w) (part_left part cs n i p w) t t₀ q m part-turn len count room
+      put-room = run_room vs (part_left part cs n (i + 1) w) (part_left part cs n i w) t t₀ q m part-turn len count room
 
       module _ (q' : ℕ) (after : q' ≡ q + length vs) where
-        pub put_count : q' + length (part_left part cs n (i + 1) (p + draft_range) w) ≡ m
-        put_count = rw after (run-count vs (part_left part cs n (i + 1) (p + draft_range) w) (part_left part cs n i p w) t t₀ q m part-turn len count)
+        pub put_count : q' + length (part_left part cs n (i + 1) w) ≡ m
+        put_count = rw after (run-count vs (part_left part cs n (i + 1) w) (part_left part cs n i w) t t₀ q m part-turn len count)
 
-        pub put-again : (t' r : List ℕ) → t' ≡ write t q vs → write t q (part_left part cs n i p w) ≡ r → write t' q' (part_left part cs n (i + 1) (p + draft_range) w) ≡ r
-        put-again t' r z v = rw after (run-again vs (part_left part cs n (i + 1) (p + draft_range) w) (part_left part cs n i p w) t t₀ q m part-turn len count room t' r z v)
+        pub put-again : (t' r : List ℕ) → t' ≡ write t q vs → write t q (part_left part cs n i w) ≡ r → write t' q' (part_left part cs n (i + 1) w) ≡ r
+        put-again t' r z v = rw after (run-again vs (part_left part cs n (i + 1) w) (part_left part cs n i w) t t₀ q m part-turn len count room t' r z v)
 
     module _ (h : n ≤ i) where
-      pub part-last : q + length (part_left part cs n i p w) ≡ m → q ≡ m
-      part-last v = sym (add-zero q) ∙ (rw (no_rows line_back draft_range (range_gives part cs) w n i p h) at v)
+      pub part-last : q + length (part_left part cs n i w) ≡ m → q ≡ m
+      part-last v = sym (add-zero q) ∙ (rw (no_rows line_back draft_range (range_gives part cs) w n i h) at v)
 
-      pub part-done : (t r : List ℕ) → write t q (part_left part cs n i p w) ≡ r → t ≡ r
-      part-done t r v = sym (write-none t q) ∙ (rw (no_rows line_back draft_range (range_gives part cs) w n i p h) at v)
+      pub part-done : (t r : List ℕ) → write t q (part_left part cs n i w) ≡ r → t ≡ r
+      part-done t r v = sym (write-none t q) ∙ (rw (no_rows line_back draft_range (range_gives part cs) w n i h) at v)
 
-pub ruleset puts = (tests, len-trans, part_count, part-start, put-room, put_count, put-again, part-last, part-done)
+pub ruleset puts = (tests, len-trans, range_inside, part_count, part-start, put-room, put_count, put-again, part-last, part-done)

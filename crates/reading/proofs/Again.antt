@@ -1,5 +1,6 @@
 -- A line that was checked, drafted by its kind: what it says is what its kind reads. And the first line of a service, whose form alone is checked.
 -- Assumes nothing.
+use Rattle.std.specs.Prelude.{Ok, Err}
 use mathlib.Core.Path.{◌≡◌, refl, sym, ap, ◌∙◌}
 use mathlib.Core.List.{List, [], ◌∷◌, ◌++◌}
 use mathlib.Core.Bool.{Bool, true, false, cond}
@@ -10,11 +11,9 @@ use Prim.Native.Nat.{ℕ}
 use native.Mathlib.Omega.{arith}
 use Rattle.base.proofs.Laws.{clash, tests}
 use Rattle.lines.specs.Lines.{skipped}
-use Rattle.forms.specs.Form.{form_of, is_fit, has_form}
+use Rattle.forms.specs.Form.{form_of, is_fit, has_form, Form, Fits, Broken as BrokenForm}
 use Rattle.forms.specs.Columns.{service_columns, frequency_columns, category_columns, attribute_columns, call_columns}
 use Rattle.forms.specs.Kinds.{kind_of}
-use Rattle.forms.specs.declared.Form.{Form}
-use Rattle.forms.specs.declared.Form.TheVariants.{Fits, Broken as BrokenForm}
 use Rattle.forms.specs.declared.Kind.{Kind}
 use Rattle.forms.specs.declared.Kind.TheVariants.{Opening as OpeningKind, Frequency, Category as CategoryKind, Attribute, Schedule, Other as OtherKind}
 use Rattle.forms.specs.contracts.Kind as K
@@ -27,7 +26,6 @@ use Rattle.timetable.specs.declared.Opening.{Opening}
 use Rattle.timetable.specs.declared.RangeLine.{RangeLine}
 use Rattle.timetable.specs.declared.Told.{Told}
 use Rattle.timetable.specs.declared.Told.TheVariants.{Skip, Other, Broken, Opens, Ranges, Calls}
-use Rattle.timetable.specs.declared.Verdict.TheVariants.{Fine, Offends}
 use Rattle.timetable.specs.contracts.Told as T
 use Rattle.draft.specs.Inner.Draft.{calls_on, ranges_on, on_line, calls_after, count_calls, counted, ranges#}
 use Rattle.draft.specs.declared.Counts.{Counts}
@@ -113,10 +111,10 @@ pub ruleset again-passed = (tests, passed_counted, passed-called, passed-ranged)
 
 -- ---- the needs of `first_offence`, for `search firstly`
 
-pub first-broken : (t : Told) (line c : ℕ) → t ≡ Broken c → Offends (record { number = 4; line = line; column = c }) ≡ verdict_by (form_after line t)
+pub first-broken : (t : Told) (line c : ℕ) → t ≡ Broken c → Err (record { number = 4; line = line; column = c }) ≡ verdict_by (form_after line t)
 first-broken t line c e = rw e refl
 
-pub first_fine : (t : Told) (line : ℕ) → OneOf (0 ∷ 1 ∷ 3 ∷ 4 ∷ 5 ∷ []) (tag_of T.the_type t) → Fine ≡ verdict_by (form_after line t)
+pub first_fine : (t : Told) (line : ℕ) → OneOf (0 ∷ 1 ∷ 3 ∷ 4 ∷ 5 ∷ []) (tag_of T.the_type t) → Ok tt ≡ verdict_by (form_after line t)
 first_fine Skip line e = refl
 first_fine Other line e = refl
 first_fine (Broken c) line e = absurd (⊎_elim (λ w. omega arith) (⊎_elim (λ w. omega arith) (⊎_elim (λ w. omega arith) (⊎_elim (λ w. omega arith) (λ w. omega arith)))) e)

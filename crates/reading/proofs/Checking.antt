@@ -25,15 +25,13 @@ use Rattle.timetable.specs.declared.RangeKind.{RangeKind}
 use Rattle.timetable.specs.declared.RangeKind.TheVariants.{Category, Days, Extra}
 use Rattle.timetable.specs.declared.Told.{Told}
 use Rattle.timetable.specs.declared.Told.TheVariants.{Skip, Other, Broken, Opens, Ranges, Calls}
-use Rattle.timetable.specs.declared.Verdict.{Verdict}
-use Rattle.timetable.specs.declared.Verdict.TheVariants.{Fine, Offends}
 use Rattle.timetable.proofs.Offences.{then-none, given-none, first-none, verdict-fine, verdict-offends}
 use Rattle.draft.specs.Inner.Draft.{calls_lent, ranges_lent, calls_on, ranges_on, on_line, calls_after, counts_of, count_part, ranges#, no_counts, counted, Within}
 use Rattle.draft.specs.declared.Counts.{Counts}
 use Rattle.draft.proofs.Drafts.{counts-more}
 use Rattle.reading.specs.Inner.Reading.{service_lines_at, Boundary, Sound, is_formed, all_formed, NextLine, NextAs, count_of, range_after, form_after, offence_after}
-use Rattle.reading.specs.declared.Next.{Next}
-use Rattle.reading.specs.declared.Next.TheVariants.{Line as LineTold, End}
+use Rattle.reading.specs.declared.LineTold.{LineTold}
+use Rattle.std.specs.Prelude.{Option as RustOption, Some, None, Result, Ok, Err}
 use Rattle.reading.proofs.Heads.{cut_line, after, first-opens}
 use Rattle.reading.proofs.Again.{form-only}
 use Rattle.reading.proofs.Passing.{Reads, reads_first, reads_more, next-is, pass-end, pass-less}
@@ -131,7 +129,7 @@ pub record Clean (fields : List BitField) (stops : List StopRecord) (classes : L
 
 module _ (fields : List BitField) (stops : List StopRecord) (classes : List CategoryClass) where
   -- at the first line: v is the verdict of its form
-  module _ (f : List ℕ) (at n : ℕ) (r : Cut) (said : Told) (v : Verdict) (b : Boundary f at n)
+  module _ (f : List ℕ) (at n : ℕ) (r : Cut) (said : Told) (v : Result (Unit {0}) Offence) (b : Boundary f at n)
       (h : at < length f) (e : r ≡ cut_at f at n) (d : said ≡ told_in (take (r.stop - at) (drop at f))) (o : v ≡ verdict_by (form_after n said)) where
     own_first : form_after n said ≡ own_offence fields stops classes [] (cut_line f at n r)
     unfolding tolds gathered said_on holding called_on
@@ -144,49 +142,49 @@ module _ (fields : List BitField) (stops : List StopRecord) (classes : List Cate
     first-lines = rw (cutting f at n r h e).step (first-cons (own_offence fields stops classes) [] (cut_line f at n r) (head_lines (after f r)))
 
     pub clean-first : (opening : Opening) (k : Counts) (calls ranges : List ℕ) → k ≡ no_counts → opening ≡ first_opening (as_opening said) → calls_lent ≤ length calls → ranges_lent ≤ length ranges
-        → v ≡ Fine → Clean fields stops classes f at n opening r.next r.no k calls ranges
+        → v ≡ Ok tt → Clean fields stops classes f at n opening r.next r.no k calls ranges
     clean-first opening k calls ranges z p x y g = record {
       ls = cut_line f at n r ∷ [];
       reads = reads_first f at n r said opening k calls ranges b h e d p z x y;
       clean = first-lines ∙ or-none (own_offence fields stops classes [] (cut_line f at n r)) _ (sym own_first ∙ verdict-fine (form_after n said) v o g);
     }
 
-    pub refused-first : (x : Offence) → v ≡ Offends x → first (own_offence fields stops classes) [] (service_lines_at f at n) ≡ some x
+    pub refused-first : (x : Offence) → v ≡ Err x → first (own_offence fields stops classes) [] (service_lines_at f at n) ≡ some x
     refused-first x g = first-lines ∙ or_some (own_offence fields stops classes [] (cut_line f at n r)) _ x (sym own_first ∙ verdict-offends (form_after n said) v o x g)
 
-  module _ (f : List ℕ) (at n : ℕ) (opening : Opening) (e m : ℕ) (k : Counts) (calls ranges : List ℕ) (p : Clean fields stops classes f at n opening e m k calls ranges) (r : Next) (a : NextAs f e m r) where
-    pub clean_end : r ≡ End → first (own_offence fields stops classes) [] (service_lines_at f at n) ≡ none
+  module _ (f : List ℕ) (at n : ℕ) (opening : Opening) (e m : ℕ) (k : Counts) (calls ranges : List ℕ) (p : Clean fields stops classes f at n opening e m k calls ranges) (r : RustOption LineTold) (a : NextAs f e m r) where
+    pub clean_end : r ≡ None → first (own_offence fields stops classes) [] (service_lines_at f at n) ≡ none
     unfolding first
     clean_end g = let z : head_lines (lines_at f e m) ≡ [] = rw g at a in p.clean ∙ rw z refl
 
     -- v is the next line's verdict
-    module _ (said : Told) (next m' : ℕ) (g : r ≡ LineTold said next m') (v : Verdict) (o : v ≡ verdict_by (offence_after fields stops classes k m said)) where
-      abbrev it : NextLine f e m said next m'
-      it = next-is f e m r said next m' a g
+    module _ (l : LineTold) (g : r ≡ Some l) (v : Result (Unit {0}) Offence) (o : v ≡ verdict_by (offence_after fields stops classes k m l.said)) where
+      abbrev it : NextLine f e m l.said l.next l.no
+      it = next-is f e m r l a g
 
-      own-next : offence_after fields stops classes k m said ≡ own_offence fields stops classes p.ls it.line
-      own-next = offence-next fields stops classes p.ls it.line k m said p.reads.draft.counts it.own_number it.told
+      own-next : offence_after fields stops classes k m l.said ≡ own_offence fields stops classes p.ls it.line
+      own-next = offence-next fields stops classes p.ls it.line k m l.said p.reads.draft.counts it.own_number it.told
 
       next-lines : first (own_offence fields stops classes) [] (service_lines_at f at n)
-          ≡ (own_offence fields stops classes p.ls it.line <|> first (own_offence fields stops classes) (p.ls ++ (it.line ∷ [])) (head_lines (lines_at f next m')))
-      next-lines = p.clean ∙ (ap (first (own_offence fields stops classes) p.ls) it.head ∙ first-cons (own_offence fields stops classes) p.ls it.line (head_lines (lines_at f next m')))
+          ≡ (own_offence fields stops classes p.ls it.line <|> first (own_offence fields stops classes) (p.ls ++ (it.line ∷ [])) (head_lines (lines_at f l.next l.no)))
+      next-lines = p.clean ∙ (ap (first (own_offence fields stops classes) p.ls) it.head ∙ first-cons (own_offence fields stops classes) p.ls it.line (head_lines (lines_at f l.next l.no)))
 
-      pub refused-next : (x : Offence) → v ≡ Offends x → first (own_offence fields stops classes) [] (service_lines_at f at n) ≡ some x
-      refused-next x y = next-lines ∙ or_some (own_offence fields stops classes p.ls it.line) _ x (sym own-next ∙ verdict-offends (offence_after fields stops classes k m said) v o x y)
+      pub refused-next : (x : Offence) → v ≡ Err x → first (own_offence fields stops classes) [] (service_lines_at f at n) ≡ some x
+      refused-next x y = next-lines ∙ or_some (own_offence fields stops classes p.ls it.line) _ x (sym own-next ∙ verdict-offends (offence_after fields stops classes k m l.said) v o x y)
 
-      module _ (y : v ≡ Fine) where
-        pub clean-within : Within (counted k said)
-        clean-within = within_more fields stops classes k m said p.reads.draft.within (verdict-fine (offence_after fields stops classes k m said) v o y)
+      module _ (y : v ≡ Ok tt) where
+        pub clean-within : Within (counted k l.said)
+        clean-within = within_more fields stops classes k m l.said p.reads.draft.within (verdict-fine (offence_after fields stops classes k m l.said) v o y)
 
-        pub clean-more : (k' : Counts) (calls' ranges' : List ℕ) → k' ≡ counted k said
-            → calls_on k'.calls calls' ≡ calls_after opening (calls_on k.calls calls) m (as_call said)
-            → ranges_on (ranges# k') ranges' ≡ ranges_on (ranges# k) ranges ++ on_line m (as_range said)
+        pub clean-more : (k' : Counts) (calls' ranges' : List ℕ) → k' ≡ counted k l.said
+            → calls_on k'.calls calls' ≡ calls_after opening (calls_on k.calls calls) m (as_call l.said)
+            → ranges_on (ranges# k') ranges' ≡ ranges_on (ranges# k) ranges ++ on_line m (as_range l.said)
             → length calls' ≡ length calls → length ranges' ≡ length ranges
-            → Clean fields stops classes f at n opening next m' k' calls' ranges'
+            → Clean fields stops classes f at n opening l.next l.no k' calls' ranges'
         clean-more k' calls' ranges' q c s i j = record {
           ls = p.ls ++ (it.line ∷ []);
-          reads = reads_more f at n opening p.ls e m k calls ranges p.reads said next m' it k' calls' ranges' clean-within q c s i j;
-          clean = next-lines ∙ or-none (own_offence fields stops classes p.ls it.line) _ (sym own-next ∙ verdict-fine (offence_after fields stops classes k m said) v o y);
+          reads = reads_more f at n opening p.ls e m k calls ranges p.reads l.said l.next l.no it k' calls' ranges' clean-within q c s i j;
+          clean = next-lines ∙ or-none (own_offence fields stops classes p.ls it.line) _ (sym own-next ∙ verdict-fine (offence_after fields stops classes k m l.said) v o y);
         }
 
 pub ruleset checking = (tests, walk, first-opens, clean-first, refused-first, clean_end, pass-end, pass-less, refused-next, clean-within, clean-more)

@@ -4,6 +4,7 @@ use mathlib.Core.Path.{◌≡◌, refl, ap, sym, ◌∙◌}
 use mathlib.Core.List.{List, [], ◌∷◌, ◌++◌}
 use mathlib.Core.Bool.{Bool, true, false, cond, not, true≢false}
 use mathlib.Core.Option.{some}
+use Rattle.std.specs.Prelude.{Result, Ok, Err}
 use Prim.Native.Nat.{ℕ, ◌+◌, ◌-◌, ◌≤◌, ◌<◌}
 use native.Mathlib.Omega.{arith}
 use lib.ListN.{length, take, drop}
@@ -21,8 +22,6 @@ use Rattle.timetable.specs.Checks.{head_first}
 use Rattle.timetable.specs.declared.Offence.{Offence}
 use Rattle.timetable.specs.declared.Told.{Told}
 use Rattle.reading.specs.Inner.Reading.{service_lines_at, Boundary, HeadClear, HeadAs, ends_head, head_by, NextLine}
-use Rattle.reading.specs.declared.Head.{Head}
-use Rattle.reading.specs.declared.Head.TheVariants.{Clear, Stray}
 
 -- ---- the first of some lines
 
@@ -132,7 +131,7 @@ module _ (f : List ℕ) (at n : ℕ) (p : Headed f at n) where
     next = record { short = s; inside = p.inside; number = p.number; opening = z };
   }
 
-  head-none : length f ≤ most_file_bytes → length f ≤ at → HeadClear f at n
+  pub head-none : length f ≤ most_file_bytes → length f ≤ at → HeadClear f at n
   head-none s h = cleared s (nothing-opens f at n h)
 
   module _ (r : Cut) (kind : Kind) (t : Bool) (h : at < length f) (d : r ≡ cut_at f at n) (w : kind ≡ kind_of (take (r.stop - at) (drop at f))) (o : t ≡ is_opening kind) where
@@ -170,16 +169,13 @@ module _ (f : List ℕ) (at n : ℕ) (p : Headed f at n) where
         go false false o i e = absurd (true≢false (sym e))
         go true s o i e = absurd (true≢false (sym e))
 
-    pub head-answer : (z : Head) → length f ≤ most_file_bytes → true ≡ ends_head text → z ≡ head_by (is_opening (kind_of text)) at n → HeadAs f z
+    pub head-answer : (z : Result (ℕ × ℕ) Offence) → length f ≤ most_file_bytes → true ≡ ends_head text → z ≡ head_by (is_opening (kind_of text)) at n → HeadAs f z
     head-answer z m e v = go (is_opening (kind_of text)) (skipped text) refl refl e v
       where
         go : (t s : Bool) → t ≡ is_opening (kind_of text) → s ≡ skipped text → true ≡ cond t true (not s) → z ≡ head_by t at n → HeadAs f z
         go true s o i e v = rw v (head_clear r (kind_of text) true h d refl o m refl)
         go false false o i e v = rw v (head-stray r (kind_of text) false h d refl o false refl i (offence_at 12 n) refl refl)
         go false true o i e v = absurd (true≢false e)
-
-  pub head-over : (z : Head) → length f ≤ most_file_bytes → length f ≤ at → z ≡ head_by true at n → HeadAs f z
-  head-over z m h v = rw v (head-none m h)
 
 -- ---- a line that ends them, for `search heading`: t says whether it opens a service
 
@@ -193,10 +189,10 @@ module _ (l : List ℕ) (kind : Kind) (t : Bool) (w : kind ≡ kind_of l) (o : t
   pub ends-shut : (s : Bool) → t ≡ false → s ≡ skipped l → not s ≡ ends_head l
   ends-shut s k i = rw (opens ∙ k, i) refl
 
-  pub at_open : (at n : ℕ) → t ≡ true → Clear at n ≡ head_by (is_opening (kind_of l)) at n
+  pub at_open : (at n : ℕ) → t ≡ true → Ok (at, n) ≡ head_by (is_opening (kind_of l)) at n
   at_open at n k = rw (opens ∙ k) refl
 
-  pub at-shut : (at n : ℕ) (e : Offence) → t ≡ false → e ≡ offence_at 12 n → Stray e ≡ head_by (is_opening (kind_of l)) at n
+  pub at-shut : (at n : ℕ) (e : Offence) → t ≡ false → e ≡ offence_at 12 n → Err e ≡ head_by (is_opening (kind_of l)) at n
   at-shut at n e k z = rw (opens ∙ k, z) refl
 
 pub ruleset heading = (tests, walk, ends_open, ends-shut, at_open, at-shut)

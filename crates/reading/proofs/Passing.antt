@@ -15,11 +15,9 @@ use Rattle.base.proofs.Lists.{gathered-append}
 use Rattle.lines.specs.Lines.{Line, skipped, cut_at, lines_at}
 use Rattle.lines.specs.declared.Cut.{Cut}
 use Rattle.lines.proofs.Laws.{walk, Cutting, cutting}
-use Rattle.forms.specs.Form.{form_of}
+use Rattle.forms.specs.Form.{form_of, Form, Fits, Broken as BrokenForm}
 use Rattle.forms.specs.Columns.{service_columns, frequency_columns}
 use Rattle.forms.specs.Kinds.{kind_of}
-use Rattle.forms.specs.declared.Form.{Form}
-use Rattle.forms.specs.declared.Form.TheVariants.{Fits, Broken as BrokenForm}
 use Rattle.forms.specs.declared.Kind.{Kind}
 use Rattle.forms.specs.declared.Kind.TheVariants.{Opening as OpeningKind, Frequency, Category as CategoryKind, Attribute, Schedule, Other as OtherKind}
 use Rattle.timetable.specs.Plan.{opening_in, frequency_in, formed, told_by, told_in, is_opening, opens_service, tolds, as_call, as_range, as_opening, ranges_of, of_part, part_lines}
@@ -36,8 +34,8 @@ use Rattle.draft.specs.Inner.Draft.{calls_lent, ranges_lent, calls_on, ranges_on
 use Rattle.draft.specs.declared.Counts.{Counts}
 use Rattle.draft.proofs.Drafts.{draft-first, draft-more, opening-kept, counts-more}
 use Rattle.reading.specs.Inner.Reading.{service_lines_at, Boundary, Sound, is_formed, all_formed, ServiceRead, NextLine, NextAs}
-use Rattle.reading.specs.declared.Next.{Next}
-use Rattle.reading.specs.declared.Next.TheVariants.{Line as LineTold, End}
+use Rattle.reading.specs.declared.LineTold.{LineTold}
+use Rattle.std.specs.Prelude.{Option as RustOption, Some, None}
 use Rattle.reading.proofs.Heads.{cut_line, after, opens-first, blocks-open, nothing-opens, first-opens, next-opens, next-told}
 
 -- ---- lines within the limits: so are those at their front
@@ -150,8 +148,8 @@ reads_first f at n r said opening k calls ranges b h e d o z x y =
       number = omega (arith, b.number, c);
     }
 
-pub next-is : (f : List ℕ) (e m : ℕ) (r : Next) (said : Told) (next m' : ℕ) → NextAs f e m r → r ≡ LineTold said next m' → NextLine f e m said next m'
-next-is f e m r said next m' a g = rw g at a
+pub next-is : (f : List ℕ) (e m : ℕ) (r : RustOption LineTold) (l : LineTold) → NextAs f e m r → r ≡ Some l → NextLine f e m l.said l.next l.no
+next-is f e m r l a g = rw g at a
 
 module _ (f : List ℕ) (at n : ℕ) (opening : Opening) (ls : List Line) (e m : ℕ) (k : Counts) (calls ranges : List ℕ) (p : Reads f at n opening ls e m k calls ranges) where
   reads_end : head_lines (lines_at f e m) ≡ [] → ServiceRead f at n (record { opening = opening; line = n; counts = k; end = e; no = m }) calls ranges
@@ -215,12 +213,12 @@ pub pass-first : (f : List ℕ) (at n : ℕ) (r : Cut) (said : Told) (opening : 
     → Passed f at n opening r.next r.no k calls ranges
 pass-first f at n r said opening k calls ranges b h e d o z x y = record { ls = cut_line f at n r ∷ []; reads = reads_first f at n r said opening k calls ranges b h e d o z x y }
 
-pub pass-end : (f : List ℕ) (at n : ℕ) (opening : Opening) (ls : List Line) (e m : ℕ) (k : Counts) (calls ranges : List ℕ) (r : Next)
-    → Reads f at n opening ls e m k calls ranges → NextAs f e m r → r ≡ End → ServiceRead f at n (record { opening = opening; line = n; counts = k; end = e; no = m }) calls ranges
+pub pass-end : (f : List ℕ) (at n : ℕ) (opening : Opening) (ls : List Line) (e m : ℕ) (k : Counts) (calls ranges : List ℕ) (r : RustOption LineTold)
+    → Reads f at n opening ls e m k calls ranges → NextAs f e m r → r ≡ None → ServiceRead f at n (record { opening = opening; line = n; counts = k; end = e; no = m }) calls ranges
 pass-end f at n opening ls e m k calls ranges r p a g = reads_end f at n opening ls e m k calls ranges p (let z : head_lines (lines_at f e m) ≡ [] = rw g at a in z)
 
-pub pass-less : (f : List ℕ) (e m : ℕ) (r : Next) (said : Told) (next m' : ℕ) → NextAs f e m r → r ≡ LineTold said next m' → length f - next < length f - e
-pass-less f e m r said next m' a g = let x : NextLine f e m said next m' = next-is f e m r said next m' a g in omega (arith, x.past, x.inside)
+pub pass-less : (f : List ℕ) (e m : ℕ) (r : RustOption LineTold) (l : LineTold) → NextAs f e m r → r ≡ Some l → length f - l.next < length f - e
+pass-less f e m r l a g = let x : NextLine f e m l.said l.next l.no = next-is f e m r l a g in omega (arith, x.past, x.inside)
 
 module _ (f : List ℕ) (at n : ℕ) (opening : Opening) (e m : ℕ) (k : Counts) (calls ranges : List ℕ) (p : Passed f at n opening e m k calls ranges) where
   pub again-inside : e ≤ length f

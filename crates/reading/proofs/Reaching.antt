@@ -17,11 +17,9 @@ use Rattle.columns.specs.Columns.{column, is_digit}
 use Rattle.columns.proofs.Laws.{every-long}
 use Rattle.lines.specs.Lines.{to_lf, no_cr, cut_at}
 use Rattle.lines.proofs.Pieces.{to_lf-le, no_cr-take, one-beyond}
-use Rattle.forms.specs.Form.{form_of}
+use Rattle.forms.specs.Form.{form_of, Form, Fits, Broken as BrokenForm}
 use Rattle.forms.specs.Columns.{call_columns}
 use Rattle.forms.specs.Kinds.{kind_of}
-use Rattle.forms.specs.declared.Form.{Form}
-use Rattle.forms.specs.declared.Form.TheVariants.{Fits, Broken as BrokenForm}
 use Rattle.forms.specs.declared.Kind.TheVariants.{Schedule}
 use Rattle.forms.proofs.Laws.{row-holds}
 use Rattle.told.proofs.Laws.{told-own}

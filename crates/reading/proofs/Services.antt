@@ -10,8 +10,8 @@ use Rattle.timetable.specs.Service.{blocks, service_of}
 use Rattle.timetable.specs.Table.{service_words}
 use Rattle.reading.specs.Inner.Reading.{service_lines_at, Boundary, HeadClear, HeadAs}
 use Rattle.reading.specs.Inner.Services.{ServiceTaken, block_words}
-use Rattle.reading.specs.declared.Head.{Head}
-use Rattle.reading.specs.declared.Head.TheVariants.{Clear}
+use Rattle.std.specs.Prelude.{Result, Ok}
+use Rattle.timetable.specs.declared.Offence.{Offence}
 use Rattle.reading.proofs.Heads.{after, service-here}
 
 -- ---- the first and the others
@@ -31,7 +31,7 @@ here-words f at n b h =
 
 -- ---- where the services begin
 
-module _ (f : List ℕ) (h : Head) (at n : ℕ) (e : h ≡ Clear at n) (d : HeadAs f h) where
+module _ (f : List ℕ) (h : Result (ℕ × ℕ) Offence) (at n : ℕ) (e : h ≡ Ok (at, n)) (d : HeadAs f h) where
   pub head_clear : HeadClear f at n
   head_clear = rw e at d
 

@@ -25,32 +25,28 @@ use draft::{Counts, Drafted};
 use forms::Kind;
 use lines::reader::Reader;
 use lines::{Cut, reader};
-use timetable::{Offence, Opening, RangeKind, Told, Verdict};
+use timetable::{Offence, Opening, RangeKind, Told};
 
-// A service as it was read and drafted, or the first own offence of its lines.
+// A service that was checked or written: the words that it takes, and where the next begins (the place and the number of its opening line, or of the
+// file's end).
 #[derive(Clone, Copy)]
-pub enum Read {
-    Service(Drafted),
-    Refused(Offence),
+pub struct Taken {
+    pub words: u32,
+    pub end: usize,
+    pub no: u32,
 }
 
-// Where the first service begins: the place and the number of its line (the file's end, where there is none); or the first line before it
-// that is not skipped (12).
+// A line of a service: what it says, and the place and the number of the line after it.
 #[derive(Clone, Copy)]
-pub enum Head {
-    Clear(usize, u32),
-    Stray(Offence),
+struct LineTold {
+    pub said: Told,
+    pub next: usize,
+    pub no: u32,
 }
 
-// The next line of a service: what it says, and the place and the number of the line after it; or that the service has no more.
-#[derive(Clone, Copy)]
-enum Next {
-    Line(Told, usize, u32),
-    End,
-}
-
-// The end of the lines before the first service. One reader passes them; the first line that it may not pass is the answer.
-pub fn head_end(f: &[u8]) -> Head
+// The end of the lines before the first service. Where that begins: the place and the number of its line (the file's end, where there is none); or the
+// first line before it that is not skipped (12). One reader passes the lines; the first that it may not pass is the answer.
+pub fn head_end(f: &[u8]) -> Result<(usize, u32), Offence>
     requires { length f.now ≤ most_file_bytes }
     ensures { HeadAs f.now result }
 {
@@ -59,6 +55,7 @@ pub fn head_end(f: &[u8]) -> Head
         at: 0,
         no: 1,
     };
+    // Kept: a walk from line to line, no loop by an index
     while reader.at < f.len() {
         let at = reader.at;
         let no = reader.no;
@@ -67,14 +64,7 @@ pub fn head_end(f: &[u8]) -> Head
             return head_at(f, at, no, cut.stop);
         }
     }
-    clear_at(reader.at, reader.no)
-}
-
-// No line ends them before a place.
-fn clear_at(at: usize, no: u32) -> Head
-    ensures { result ≡ head_by true at no }
-{
-    Head::Clear(at, no)
+    Ok((reader.at, reader.no))
 }
 
 // Whether a line ends the lines before the first service: it opens a service, or is not skipped.
@@ -89,18 +79,20 @@ fn ends_head(f: &[u8], at: usize, stop: usize) -> bool
 }
 
 // What such a line is: the first service begins with it, or it is the first that is not skipped (12).
-fn head_at(f: &[u8], at: usize, no: u32, stop: usize) -> Head
+fn head_at(f: &[u8], at: usize, no: u32, stop: usize) -> Result<(usize, u32), Offence>
     requires { (at ≤ stop) × (stop ≤ length f.now) }
     ensures { result ≡ head_by (is_opening (kind_of (take (stop - at) (drop at f.now)))) at no }
 {
     if timetable::is_opening(forms::kind_of(&f[at..stop])) {
-        return Head::Clear(at, no);
+        return Ok((at, no));
     }
-    Head::Stray(timetable::offence_at(12, no))
+    Err(timetable::offence_at(12, no))
 }
 
 // Reads the service that begins at a place, with line `no`, checks each of its lines (11, 4, 13, 9, 10, 38) and drafts it. Bit fields are looked
-// up in BITFELD, stops in BAHNHOF, categories in ZUGART: `fields` and `stops` are the maps of the first two, `index` is the index of the third.
+// up in BITFELD, stops in BAHNHOF, categories in ZUGART: `fields` and `stops` are the maps of the first two, `index` is the index of the third. The draft,
+// or the first own offence of the lines.
+#[tactic(auto, using(crate::proofs::Checking::checking))]
 pub fn read_checked(
     fplan: &[u8],
     at: usize,
@@ -113,7 +105,7 @@ pub fn read_checked(
     index: &[u32],
     calls: &mut [u32],
     ranges: &mut [u32],
-) -> Read
+) -> Result<Drafted, Offence>
     requires boundary { Boundary fplan.now at no × (at < length fplan.now) }
     requires field_map { FieldMap bitfeld.now fields.now × StopMap bahnhof.now stops.now × ClassIndex zugart.now
         index.now }
@@ -125,31 +117,30 @@ pub fn read_checked(
     let stop = cut.stop;
     let first = told::told_first(&fplan[at..stop]);
     let mut counts = draft::no_counts();
-    if let Verdict::Offends(offence) = first_offence(first, no) {
-        return Read::Refused(offence);
+    if let Err(offence) = first_offence(first, no) {
+        return Err(offence);
     }
     let opening = opening_of(first);
     let mut end = cut.next;
     let mut line = cut.no;
-    loop {
-        let Next::Line(said, next, after) = next_line(fplan, end, line) else {
-            return Read::Service(Drafted {
-                opening,
-                line: no,
-                counts,
-                end,
-                no: line,
-            });
-        };
-        if let Verdict::Offends(offence) = offence_after(
-            counts, said, line, bitfeld, fields, bahnhof, stops, zugart, index,
+    // Kept: a walk from line to line, no loop by an index
+    while let Some(after) = next_line(fplan, end, line) {
+        if let Err(offence) = offence_after(
+            counts, after.said, line, bitfeld, fields, bahnhof, stops, zugart, index,
         ) {
-            return Read::Refused(offence);
+            return Err(offence);
         }
-        counts = draft::draft_line(opening, said, line, counts, calls, ranges);
-        end = next;
-        line = after;
+        counts = draft::draft_line(opening, after.said, line, counts, calls, ranges);
+        end = after.next;
+        line = after.no;
     }
+    Ok(Drafted {
+        opening,
+        line: no,
+        counts,
+        end,
+        no: line,
+    })
 }
 
 // Reads the service that begins at a place, with line `no`, and drafts it, where its lines were checked: no form is asked again.
@@ -171,6 +162,7 @@ pub fn read_again(
     let mut counts = draft::no_counts();
     let mut end = cut.next;
     let mut line = cut.no;
+    // Kept: a walk from line to line, no loop by an index
     while end < fplan.len() {
         let after = cut_again(fplan, end, line);
         let last = after.stop;
@@ -250,20 +242,24 @@ fn draft_again(
 }
 
 // The line of a service that starts at a place, if the service has one there. An opening line is not told here: its own service tells it.
-fn next_line(fplan: &[u8], at: usize, no: u32) -> Next
+fn next_line(fplan: &[u8], at: usize, no: u32) -> Option<LineTold>
     requires { (length fplan.now ≤ most_file_bytes) × (at ≤ length fplan.now) × (no ≤ at + 1) }
     ensures { NextAs fplan.now at no result }
 {
     if fplan.len() <= at {
-        return Next::End;
+        return None;
     }
     let cut = reader::line_from(fplan, at, no);
     let stop = cut.stop;
     let kind = forms::kind_of(&fplan[at..stop]);
     if timetable::is_opening(kind) {
-        return Next::End;
+        return None;
     }
-    Next::Line(told::told_of(kind, &fplan[at..stop]), cut.next, cut.no)
+    Some(LineTold {
+        said: told::told_of(kind, &fplan[at..stop]),
+        next: cut.next,
+        no: cut.no,
+    })
 }
 
 // What an opening line says.
@@ -286,13 +282,13 @@ fn opening_of(said: Told) -> Opening
 // ---- a line's own offence, where so much of its service is counted before it
 
 // Of a service's first line.
-fn first_offence(said: Told, line: u32) -> Verdict
+fn first_offence(said: Told, line: u32) -> Result<(), Offence>
     ensures { result ≡ verdict_by (form_after line said) }
 {
     let Told::Broken(column) = said else {
-        return Verdict::Fine;
+        return Ok(());
     };
-    Verdict::Offends(Offence {
+    Err(Offence {
         number: 4,
         line,
         column,
@@ -309,21 +305,21 @@ fn offence_after(
     stops: &[u32],
     zugart: &[u8],
     index: &[u32],
-) -> Verdict
+) -> Result<(), Offence>
     requires { FieldMap bitfeld.now fields.now × StopMap bahnhof.now stops.now × ClassIndex zugart.now
         index.now }
     ensures { result ≡ verdict_by
         (offence_after (bit_fields_in bitfeld.now) (stops_in bahnhof.now) (classes_in zugart.now) counts line said) }
 {
     match said {
-        Told::Skip => Verdict::Fine,
+        Told::Skip => Ok(()),
         Told::Other => timetable::offends(11, line),
-        Told::Broken(column) => Verdict::Offends(Offence {
+        Told::Broken(column) => Err(Offence {
             number: 4,
             line,
             column,
         }),
-        Told::Opens(opening) => Verdict::Fine,
+        Told::Opens(opening) => Ok(()),
         Told::Ranges(range) => {
             let part = range.part;
             range_offence(
@@ -353,7 +349,7 @@ fn range_offence(
     fields: &[u32],
     zugart: &[u8],
     index: &[u32],
-) -> Verdict
+) -> Result<(), Offence>
     requires { FieldMap bitfeld.now fields.now × ClassIndex zugart.now index.now }
     ensures { result ≡ verdict_by (range_after (bit_fields_in bitfeld.now) (classes_in zugart.now)
         counts line part field name) }
@@ -368,17 +364,29 @@ fn range_offence(
 }
 
 // 38: a *G line's category is not listed.
-fn category_offence(part: RangeKind, name: u32, line: u32, zugart: &[u8], index: &[u32]) -> Verdict
+fn category_offence(
+    part: RangeKind,
+    name: u32,
+    line: u32,
+    zugart: &[u8],
+    index: &[u32],
+) -> Result<(), Offence>
     requires { ClassIndex zugart.now index.now }
     ensures { result ≡ verdict_by (category_after (classes_in zugart.now) line part name) }
 {
     if category_listed(part, name, zugart, index) {
-        return Verdict::Fine;
+        return Ok(());
     }
     timetable::offends(38, line)
 }
 
-fn call_offence(counts: Counts, stop: u32, line: u32, bahnhof: &[u8], stops: &[u32]) -> Verdict
+fn call_offence(
+    counts: Counts,
+    stop: u32,
+    line: u32,
+    bahnhof: &[u8],
+    stops: &[u32],
+) -> Result<(), Offence>
     requires { StopMap bahnhof.now stops.now }
     ensures { result ≡ verdict_by (call_after (stops_in bahnhof.now) counts line stop) }
 {
@@ -386,7 +394,7 @@ fn call_offence(counts: Counts, stop: u32, line: u32, bahnhof: &[u8], stops: &[u
         return timetable::offends(13, line);
     }
     if sections::known_stop(bahnhof, stops, stop) {
-        return Verdict::Fine;
+        return Ok(());
     }
     timetable::offends(9, line)
 }

@@ -12,9 +12,7 @@ use Rattle.base.proofs.Laws.{clash}
 use Rattle.base.proofs.Loops.{and-true}
 use Rattle.columns.specs.Columns.{pad_to, columns, is_blank, is_digit, blank, digits, count, count_to}
 use Rattle.columns.proofs.Laws.{blank-past, every-reaches}
-use Rattle.forms.specs.Form.{FieldRule, form_of}
-use Rattle.forms.specs.declared.Form.{Form}
-use Rattle.forms.specs.declared.Form.TheVariants.{Fits, Broken}
+use Rattle.forms.specs.Form.{FieldRule, form_of, Form, Fits, Broken}
 use Rattle.lines.specs.Lines.{start_with, pieces, Line, numbered, lines_from, lines_of, skipped}
 use Rattle.lines.proofs.Pieces.{no_cr-take}
 use Rattle.lines.proofs.Laws.{length-lines}

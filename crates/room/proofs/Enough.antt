@@ -13,9 +13,8 @@ use Rattle.base.proofs.Laws.{apart, clash, by-ltb}
 use Rattle.columns.specs.Columns.{columns, is_hex, number}
 use Rattle.bitfield.specs.BitField.{bits_in}
 use Rattle.columns.proofs.Laws.{every-long}
-use Rattle.forms.specs.Form.{form_of}
+use Rattle.forms.specs.Form.{form_of, Fits}
 use Rattle.forms.specs.Columns.{bit_field_columns, stop_columns, interchange_columns, class_columns}
-use Rattle.forms.specs.declared.Form.TheVariants.{Fits}
 use Rattle.forms.proofs.Laws.{row-holds}
 use Rattle.lines.specs.Lines.{Line, lines_of}
 use Rattle.timetable.specs.Layout.{header_size, bit_field_size, stop_size, interchange_size, class_size, most_file_bytes}

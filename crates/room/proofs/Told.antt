@@ -10,11 +10,9 @@ use Rattle.base.specs.Lists.{All, nil, cons, every, count_if, gathered}
 use Rattle.base.proofs.Laws.{apart}
 use Rattle.columns.specs.Columns.{columns}
 use Rattle.columns.proofs.Laws.{every-long}
-use Rattle.forms.specs.Form.{FieldRule, form_of}
+use Rattle.forms.specs.Form.{FieldRule, form_of, Form, Fits, Broken as BrokenForm}
 use Rattle.forms.specs.Columns.{service_columns, frequency_columns, category_columns, attribute_columns, call_columns}
 use Rattle.forms.specs.Kinds.{kind_of}
-use Rattle.forms.specs.declared.Form.{Form}
-use Rattle.forms.specs.declared.Form.TheVariants.{Fits, Broken as BrokenForm}
 use Rattle.forms.specs.declared.Kind.{Kind}
 use Rattle.forms.specs.declared.Kind.TheVariants.{Opening as OpeningKind, Frequency, Category as CategoryKind, Attribute, Schedule, Other as OtherKind}
 use Rattle.forms.proofs.Laws.{row-holds}

@@ -1,4 +1,5 @@
 -- 44 is told of a table exactly where the text of its services would not be read back: `no-44`, `back-no-44`. Assumes nothing.
+use Rattle.std.specs.Prelude.{Result, Ok, Err}
 use mathlib.Core.Path.{◌≡◌, refl, ap, sym, ◌∙◌, subst}
 use mathlib.Core.List.{List, [], ◌∷◌, map}
 use mathlib.Core.Logic.{◌⊎◌, inl, inr}
@@ -16,6 +17,8 @@ use Rattle.timetable.specs.Layout.{most_calls, kind_z}
 use Rattle.timetable.specs.Plan.{told_in, tolds, opens_service}
 use Rattle.timetable.specs.Service.{head_lines, blocks, calls_of, service_of}
 use Rattle.timetable.specs.Table.{stops#, services#, stops_at, resolved, with_stop, stop_number_at, table_of, is_table}
+use Rattle.timetable.specs.Refusals.{number_of}
+use Rattle.timetable.specs.declared.refusal.Refusal.TheVariants.{NotWritable, TextTooShort}
 use Rattle.timetable.specs.declared.Opening.{Opening}
 use Rattle.timetable.specs.declared.CallLine.{CallLine}
 use Rattle.timetable.specs.declared.RangeLine.{RangeLine}
@@ -32,9 +35,8 @@ use Rattle.plan_text.proofs.Calls.{call-told}
 use Rattle.plan_services.specs.Services.{opening_line, rest_lines, service_lines, plan_lines, plan_text, relined, CategoryOn, DaysOn, ExtraOn, ServiceHeld}
 use Rattle.plan_services.proofs.Services.{plan-clean, plan-back}
 use Rattle.plan_accepted.proofs.Written.{lines-clean, Block, blocks-clean, read_held}
-use Rattle.plan_writing.specs.Writing.{table_text, table_writable, text_or_short, plan_answer}
-use Rattle.plan_writing.specs.declared.WriteAnswer.{WriteAnswer}
-use Rattle.plan_writing.specs.declared.WriteAnswer.TheVariants.{Bytes, Refused}
+use Rattle.plan_writing.specs.Writing.{table_text, table_writable, refused, text_or_short, plan_answer}
+use Rattle.plan_writing.specs.declared.WriteRefusal.{WriteRefusal}
 use Rattle.round_trip.specs.ReadBack.{Formed, ReadBack}
 use Rattle.round_trip.proofs.Held.{Sound, records-are-sound, table-held, held-table}
 use Rattle.round_trip.proofs.Bytes.{text-bytes}
@@ -153,16 +155,17 @@ table-few : (w : List ℕ) → is_table w ≡ true → All Few (table_of w).serv
 unfolding table_of
 table-few w e = few-resolved (stops_at w) (stops# w) _ (records-are-sound (stops# w) (services# w) _ (table-records w e))
 
-abbrev number_of : WriteAnswer → ℕ
-number_of (Bytes n) = 0
-number_of (Refused number needed) = number
+-- the number of what was refused, 0 where nothing was
+abbrev number_in : Result ℕ WriteRefusal → ℕ
+number_in (Ok n) = 0
+number_in (Err r) = number_of r.refusal
 
-short-not-44 : (text : List ℕ) (room : ℕ) → text_or_short text room ≡ Refused 44 0 → ⊥
+short-not-44 : (text : List ℕ) (room : ℕ) → text_or_short text room ≡ refused NotWritable 0 → ⊥
 short-not-44 text room v = go (ltb room (length text)) v
   where
-    go : (t : Bool) → cond t (Refused 45 (length text)) (Bytes (length text)) ≡ Refused 44 0 → ⊥
-    go true v = let z : ◌≡◌ {A = ℕ} 45 44 = ap number_of v in omega arith
-    go false v = let z : ◌≡◌ {A = ℕ} 0 44 = ap number_of v in omega arith
+    go : (t : Bool) → cond t (refused TextTooShort (length text)) (Ok (length text)) ≡ refused NotWritable 0 → ⊥
+    go true v = let z : ◌≡◌ {A = ℕ} 45 44 = ap number_in v in omega arith
+    go false v = let z : ◌≡◌ {A = ℕ} 0 44 = ap number_in v in omega arith
 
 module _ (w : List ℕ) (e : is_table w ≡ true) where
   pub writable_back : table_writable w ≡ true → ReadBack (table_of w).services
@@ -172,14 +175,14 @@ module _ (w : List ℕ) (e : is_table w ≡ true) where
   back-writable r = held-table w (back-held (table_of w).services (table-few w e) r)
 
   -- where 44 is not told, the text is read back; where it would be read back, 44 is not told
-  pub no-44 : (room : ℕ) → (plan_answer w room ≡ Refused 44 0 → ⊥) → ReadBack (table_of w).services
+  pub no-44 : (room : ℕ) → (plan_answer w room ≡ refused NotWritable 0 → ⊥) → ReadBack (table_of w).services
   unfolding plan_answer
   no-44 room d = writable_back (go (table_writable w) (λ v. d (rw e v)))
     where
-      go : (t : Bool) → (cond t (text_or_short (table_text w) room) (Refused 44 0) ≡ Refused 44 0 → ⊥) → t ≡ true
+      go : (t : Bool) → (cond t (text_or_short (table_text w) room) (refused NotWritable 0) ≡ refused NotWritable 0 → ⊥) → t ≡ true
       go true d = refl
       go false d = absurd (d refl)
 
-  pub back-no-44 : (room : ℕ) → ReadBack (table_of w).services → plan_answer w room ≡ Refused 44 0 → ⊥
+  pub back-no-44 : (room : ℕ) → ReadBack (table_of w).services → plan_answer w room ≡ refused NotWritable 0 → ⊥
   unfolding plan_answer
   back-no-44 room r v = short-not-44 (table_text w) room (rw (e, back-writable r) at v)

@@ -2,7 +2,8 @@
 use mathlib.Core.Path.{◌≡◌, refl, sym, ap, ◌∙◌}
 use mathlib.Core.List.{List, [], ◌∷◌, ◌++◌, append-nil}
 use mathlib.Core.Bool.{Bool, true, false, cond, ◌&&◌}
-use mathlib.Core.Option.{Option, some}
+use mathlib.Core.Option.{Option as Maybe, some}
+use Rattle.std.specs.Prelude.{Some, None}
 use Prim.Native.Nat.{ℕ, zero, suc, ◌+◌, ◌-◌, ◌*◌, ◌/◌, ◌%◌, ◌<◌, ◌≤◌}
 use native.Mathlib.Nat.{add-zero, sub-zero, zero-add, mul_comm}
 use native.Mathlib.Omega.{arith}
@@ -19,7 +20,6 @@ use Rattle.draft.specs.Inner.Draft.{draft_call, call_back, calls_in}
 use Rattle.route.specs.Inner.Route.{meets, route_place}
 use Rattle.route.specs.declared.Sought.{Sought}
 use Rattle.route.specs.declared.Sought.TheVariants.{Calling, Departing, Arriving}
-use Rattle.route.specs.declared.Place.TheVariants.{At, Nowhere}
 use Rattle.timetable.proofs.Rows.{rows-turn, rows_none, rows_last, length-rows}
 
 -- ---- places
@@ -110,21 +110,29 @@ call_of u = (call_back u).1
 pub length-calls : (c : ℕ) (w : List ℕ) → length (calls_in c w) ≡ c
 length-calls c w = length-rows call_of draft_call c w
 
--- the places from call i on, whose words start at `at`
-abbrev pub places_from : (Call → Bool) → List ℕ → ℕ → ℕ → ℕ → List ℕ
-places_from t w c i at = places t i (rows_in call_of draft_call (c - i) (drop at w))
+-- the places from call i on
+abbrev pub places_from : (Call → Bool) → List ℕ → ℕ → ℕ → List ℕ
+places_from t w c i = places t i (rows_in call_of draft_call (c - i) (drop (draft_call * i) w))
 
-module _ (t : Call → Bool) (w : List ℕ) (c i at : ℕ) where
-  pub places-turn : (b : Bool) → i < c → b ≡ t (call_back (drop at w)).1 → places_from t w c i at ≡ cond b (i ∷ places_from t w c (i + 1) (at + draft_call)) (places_from t w c (i + 1) (at + draft_call))
+module _ (t : Call → Bool) (w : List ℕ) (c i : ℕ) where
+  pub places-turn : (at : ℕ) (b : Bool) → i < c → at ≡ draft_call * i → b ≡ t (call_back (drop at w)).1
+      → places_from t w c i ≡ cond b (i ∷ places_from t w c (i + 1)) (places_from t w c (i + 1))
   unfolding places
-  places-turn b h e = rw (rows-turn call_of draft_call c i at w h, ← e) refl
+  places-turn at b h p e =
+      let q : draft_call * i + draft_call ≡ draft_call * (i + 1) = omega arith in
+      let g : b ≡ t (call_back (drop (draft_call * i) w)).1 = e ∙ ap (λ (k : ℕ). t (call_back (drop k w)).1) p in
+      rw (rows-turn call_of draft_call c i (draft_call * i) w h, ← g, q) refl
 
-  pub places-none : c ≤ i → places_from t w c i at ≡ []
+  pub places-none : c ≤ i → places_from t w c i ≡ []
   unfolding places
-  places-none h = rw (rows_none call_of draft_call c i (drop at w) h) refl
+  places-none h = rw (rows_none call_of draft_call c i (drop (draft_call * i) w) h) refl
 
-pub places-all : (t : Call → Bool) (w : List ℕ) (c : ℕ) → places_from t w c 0 0 ≡ places t 0 (calls_in c w)
+pub places-all : (t : Call → Bool) (w : List ℕ) (c : ℕ) → places_from t w c 0 ≡ places t 0 (calls_in c w)
 places-all t w c = rw (sub-zero c) refl
+
+-- the words of a call of the route lie in w
+pub call_inside : (w : List ℕ) (c i at : ℕ) → draft_call * c ≤ length w → i < c → at ≡ draft_call * i → at + draft_call ≤ length w
+call_inside w c i at l h p = omega arith
 
 -- of n + 1 calls the last one
 pub places-last : (t : Call → Bool) (w : List ℕ) (n at : ℕ) (b : Bool) → at ≡ draft_call * n → b ≡ t (call_back (drop at w)).1
@@ -141,59 +149,58 @@ places-last t w n at b p e =
 -- ---- the needs of the searches; b says whether the call at hand is sought
 
 -- no call passed is sought: the places from the call at hand on are all places, ks
-module _ (t : Call → Bool) (w : List ℕ) (c at : ℕ) (i : RouteIndex) (ks : List ℕ) (v : places_from t w c i.0 at ≡ ks) where
-  pub first-again : (b : Bool) → i.0 < c → b ≡ t (call_back (drop at w)).1 → b ≡ false → places_from t w c (i.0 + 1) (at + draft_call) ≡ ks
-  first-again b h e f = sym (places-turn t w c i.0 at false h (sym f ∙ e)) ∙ v
+module _ (t : Call → Bool) (w : List ℕ) (c i : ℕ) (ks : List ℕ) (v : places_from t w c i ≡ ks) where
+  pub first-again : (at : ℕ) (b : Bool) → i < c → at ≡ draft_call * i → b ≡ t (call_back (drop at w)).1 → b ≡ false → places_from t w c (i + 1) ≡ ks
+  first-again at b h p e f = sym (places-turn t w c i at false h p (sym f ∙ e)) ∙ v
 
-  pub first_out : (b : Bool) → i.0 < c → b ≡ t (call_back (drop at w)).1 → b ≡ true → At i ≡ route_place (first_place ks)
-  first_out b h e f = ap (λ (l : List ℕ). route_place (first_place l)) (sym (places-turn t w c i.0 at true h (sym f ∙ e)) ∙ v)
+  pub first_out : (at : ℕ) (b : Bool) → i < c → at ≡ draft_call * i → b ≡ t (call_back (drop at w)).1 → b ≡ true → Some (record { 0 = i }) ≡ route_place (first_place ks)
+  first_out at b h p e f = ap (λ (l : List ℕ). route_place (first_place l)) (sym (places-turn t w c i at true h p (sym f ∙ e)) ∙ v)
 
-  pub first_done : c ≤ i.0 → Nowhere ≡ route_place (first_place ks)
-  first_done h = ap (λ (l : List ℕ). route_place (first_place l)) (sym (places-none t w c i.0 at h) ∙ v)
+  pub first_done : c ≤ i → None ≡ route_place (first_place ks)
+  first_done h = ap (λ (l : List ℕ). route_place (first_place l)) (sym (places-none t w c i h) ∙ v)
 
-pub ruleset firsts = (tests, places-all, first-again, first_out, first_done)
+pub ruleset firsts = (tests, places-all, call_inside, first-again, first_out, first_done)
 
--- the last place among the calls that are left is o, the last of all
-module _ (t : Call → Bool) (w : List ℕ) (left at : ℕ) (o : Option ℕ) (v : last_place (places t 0 (calls_in left w)) ≡ o) where
-  back : (b : Bool) → 0 < left → at ≡ draft_call * left → b ≡ t (call_back (drop (at - draft_call) w)).1 → cond b (some (left - 1)) (last_place (places t 0 (calls_in (left - 1) w))) ≡ o
-  back b h p e =
-      let n : left - 1 + 1 ≡ left = omega arith in
-      let q : at - draft_call ≡ draft_call * (left - 1) = omega arith in
-      sym (places-last t w (left - 1) (at - draft_call) b q e) ∙ ap (λ (k : ℕ). last_place (places t 0 (calls_in k w))) n ∙ v
+-- the last place among the first n + 1 calls is o, the last of all
+module _ (t : Call → Bool) (w : List ℕ) (n : ℕ) (o : Maybe ℕ) where
+  back : (at : ℕ) (b : Bool) → last_place (places t 0 (calls_in (n + 1) w)) ≡ o → at ≡ draft_call * n → b ≡ t (call_back (drop at w)).1
+      → cond b (some n) (last_place (places t 0 (calls_in n w))) ≡ o
+  back at b v p e = sym (places-last t w n at b p e) ∙ v
 
-  pub last-again : (b : Bool) → 0 < left → at ≡ draft_call * left → b ≡ t (call_back (drop (at - draft_call) w)).1 → b ≡ false → last_place (places t 0 (calls_in (left - 1) w)) ≡ o
-  last-again b h p e f = back false h p (sym f ∙ e)
+  pub last-again : (at : ℕ) (b : Bool) → last_place (places t 0 (calls_in (n + 1) w)) ≡ o → at ≡ draft_call * n → b ≡ t (call_back (drop at w)).1
+      → b ≡ false → last_place (places t 0 (calls_in n w)) ≡ o
+  last-again at b v p e f = back at false v p (sym f ∙ e)
 
-  pub last_out : (b : Bool) → 0 < left → at ≡ draft_call * left → b ≡ t (call_back (drop (at - draft_call) w)).1 → b ≡ true → At (record { 0 = left - 1 }) ≡ route_place o
-  last_out b h p e f = ap route_place (back true h p (sym f ∙ e))
+  pub last_out : (at : ℕ) (b : Bool) → last_place (places t 0 (calls_in (n + 1) w)) ≡ o → at ≡ draft_call * n → b ≡ t (call_back (drop at w)).1
+      → b ≡ true → Some (record { 0 = n }) ≡ route_place o
+  last_out at b v p e f = ap route_place (back at true v p (sym f ∙ e))
 
-  pub last_done : left ≤ 0 → Nowhere ≡ route_place o
-  unfolding rows_in places last_place
-  last_done h =
-      let z : 0 ≡ left = omega arith in
-      ap route_place (ap (λ (k : ℕ). last_place (places t 0 (calls_in k w))) z ∙ v)
+pub last_done : (t : Call → Bool) (w : List ℕ) (i : ℕ) (o : Maybe ℕ) → i ≤ 0 → last_place (places t 0 (calls_in i w)) ≡ o → None ≡ route_place o
+unfolding rows_in places last_place
+last_done t w zero o h v = ap route_place v
+last_done t w (suc i) o h v = absurd (omega arith)
 
-pub ruleset lasts = (tests, last-again, last_out, last_done)
+pub ruleset lasts = (tests, call_inside, last-again, last_out, last_done)
 
 -- of the places from the call at hand on the one behind `before` others is o
-module _ (n : StopNumber) (w : List ℕ) (c at before : ℕ) (i : RouteIndex) (o : Option ℕ) (v : get_elem? (places_from (calls_at n) w c i.0 at) before ≡ o) where
+module _ (n : StopNumber) (w : List ℕ) (c i before : ℕ) (o : Maybe ℕ) (v : get_elem? (places_from (calls_at n) w c i) before ≡ o) where
   abbrev rest : List ℕ
-  rest = places_from (calls_at n) w c (i.0 + 1) (at + draft_call)
+  rest = places_from (calls_at n) w c (i + 1)
 
-  module _ (call : Call) (here : ℕ) (h : i.0 < c) (d : call ≡ (call_back (drop at w)).1) (e : here ≡ cond (eqb call.stop n.0) 1 0) where
-    turn : get_elem? (cond (calls_at n call) (i.0 ∷ rest) rest) before ≡ o
-    turn = ap (λ (l : List ℕ). get_elem? l before) (sym (places-turn (calls_at n) w c i.0 at (calls_at n call) h (ap (calls_at n) d))) ∙ v
+  module _ (at : ℕ) (call : Call) (here : ℕ) (h : i < c) (p : at ≡ draft_call * i) (d : call ≡ (call_back (drop at w)).1) (e : here ≡ cond (eqb call.stop n.0) 1 0) where
+    turn : get_elem? (cond (calls_at n call) (i ∷ rest) rest) before ≡ o
+    turn = ap (λ (l : List ℕ). get_elem? l before) (sym (places-turn (calls_at n) w c i at (calls_at n call) h p (ap (calls_at n) d))) ∙ v
 
-    pub nth-again : here ≤ before → get_elem? (places_from (calls_at n) w c (i.0 + 1) (at + draft_call)) (before - here) ≡ o
-    nth-again l = sym (nth-behind (calls_at n call) i.0 rest here e before l) ∙ turn
+    pub nth-again : here ≤ before → get_elem? (places_from (calls_at n) w c (i + 1)) (before - here) ≡ o
+    nth-again l = sym (nth-behind (calls_at n call) i rest here e before l) ∙ turn
 
-    pub nth-out : before < here → At i ≡ route_place o
-    nth-out l = ap route_place (sym (nth-front (calls_at n call) i.0 rest here e before l) ∙ turn)
+    pub nth-out : before < here → Some (record { 0 = i }) ≡ route_place o
+    nth-out l = ap route_place (sym (nth-front (calls_at n call) i rest here e before l) ∙ turn)
 
-  pub nth-done : c ≤ i.0 → Nowhere ≡ route_place o
-  nth-done h = ap route_place (ap (λ (l : List ℕ). get_elem? l before) (sym (places-none (calls_at n) w c i.0 at h)) ∙ v)
+  pub nth-done : c ≤ i → None ≡ route_place o
+  nth-done h = ap route_place (ap (λ (l : List ℕ). get_elem? l before) (sym (places-none (calls_at n) w c i h)) ∙ v)
 
-pub nth-start : (n : StopNumber) (k : ℕ) (w : List ℕ) (c : ℕ) → get_elem? (places_from (calls_at n) w c 0 0) k ≡ get_elem? (places (calls_at n) 0 (calls_in c w)) k
+pub nth-start : (n : StopNumber) (k : ℕ) (w : List ℕ) (c : ℕ) → get_elem? (places_from (calls_at n) w c 0) k ≡ get_elem? (places (calls_at n) 0 (calls_in c w)) k
 nth-start n k w c = ap (λ (l : List ℕ). get_elem? l k) (places-all (calls_at n) w c)
 
-pub ruleset nths = (tests, nth-start, nth-again, nth-out, nth-done)
+pub ruleset nths = (tests, nth-start, call_inside, nth-again, nth-out, nth-done)

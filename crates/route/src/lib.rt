@@ -4,13 +4,13 @@
 ghost use Rattle.std.specs.Prelude.{◌≡◌, ◌+◌, ◌*◌, ◌-◌, ◌%◌, ◌≤◌, cond, ◌&&◌, eqb, ltb, length, drop};
 ghost use Rattle.std.proofs.Math.Option.{none, some};
 ghost use Rattle.std.proofs.Math.ListN.{get_elem?};
-ghost use Rattle.timetable.specs.Ranges.{places, calls_at, first_place, last_place, from_stop, to_stop, from_place, to_place};
+ghost use Rattle.timetable.specs.Ranges.{places, calls_at, first_place, last_place};
 ghost use Rattle.timetable.specs.Ranges.{legs_of};
 ghost use Rattle.timetable.specs.Service.{loose as is_loose, legs_on};
 ghost use Rattle.draft.specs.Inner.Draft.{draft_call, call_back, calls_in};
-ghost use Rattle.route.specs.Inner.Route.{meets, route_place, found_of};
+ghost use Rattle.route.specs.Inner.Route.{meets, route_place, found_of, stop_place, end_place};
+ghost use Rattle.route.specs.declared.Sought.TheVariants.{Departing, Arriving};
 
-use draft::DRAFT_CALL_WORDS;
 use fields::{Appearance, Detail, RangeEnd, RouteIndex, StopNumber};
 use timetable::{Call, DEPARTURE, End, Ends, RangeKind, RangeLine};
 
@@ -22,140 +22,101 @@ enum Sought {
     Arriving(StopNumber, u32),
 }
 
-// A call of the route, or that there is none.
-#[derive(Clone, Copy)]
-enum Place {
-    At(RouteIndex),
-    Nowhere,
-}
-
-// Both ends of a range in order, or that one is not found or they are not.
-#[derive(Clone, Copy)]
-pub enum RangeFound {
-    Between(RouteIndex, RouteIndex),
-    Missing,
-}
-
 // ---- a range
 
-// The legs of a range over the c calls of w.
-pub fn legs_on(w: &[u32], c: u32, range: RangeLine) -> RangeFound
+// The two calls between which a range lies over the c calls of w, where both are found and in order.
+#[tactic(auto, using(crate::proofs::Ends::legs))]
+pub fn legs_on(w: &[u32], c: u32, range: RangeLine) -> Option<(RouteIndex, RouteIndex)>
     requires { draft_call * c ≤ length w.now }
     ensures { result ≡ found_of (legs_on (calls_in c w.now) range) }
 {
-    let part = range.part;
-    let ends = range.ends;
-    legs_of(w, c, ends, is_loose(part))
+    legs_of(w, c, range.ends, is_loose(range.part))
 }
 
 // "*G and operating-day ranges need from < to ..; other *A need from ≤ to": these are loose.
 fn is_loose(part: RangeKind) -> bool
     ensures { result ≡ is_loose part }
 {
-    match part {
-        RangeKind::Category => false,
-        RangeKind::Days => false,
-        RangeKind::Extra => true,
-    }
+    matches!(part, RangeKind::Extra)
 }
 
-fn legs_of(w: &[u32], c: u32, e: Ends, loose: bool) -> RangeFound
+#[tactic(auto, using(crate::proofs::Ends::legs))]
+fn legs_of(w: &[u32], c: u32, e: Ends, loose: bool) -> Option<(RouteIndex, RouteIndex)>
     requires { draft_call * c ≤ length w.now }
     ensures { result ≡ found_of (legs_of loose (calls_in c w.now) e) }
 {
-    let f = e.from;
-    let t = e.to;
-    let Place::At(from) = from_place(w, c, f) else {
-        return RangeFound::Missing;
-    };
-    let Place::At(to) = to_place(w, c, t) else {
-        return RangeFound::Missing;
-    };
+    let from = end_place(w, c, e.from, false)?;
+    let to = end_place(w, c, e.to, true)?;
     if timetable::in_order(loose, from.0, to.0) {
-        return RangeFound::Between(from, to);
+        return Some((from, to));
     }
-    RangeFound::Missing
+    None
 }
 
 // ---- its ends
 
-fn from_place(w: &[u32], c: u32, e: End) -> Place
+// The call at which a range starts, or, at its `last` end, the one at which it ends.
+#[tactic(auto, using(crate::proofs::Ends::ends))]
+fn end_place(w: &[u32], c: u32, e: End, last: bool) -> Option<RouteIndex>
     requires { draft_call * c ≤ length w.now }
-    ensures { result ≡ route_place (from_place (calls_in c w.now) e) }
+    ensures { result ≡ route_place (end_place last (calls_in c w.now) e) }
 {
-    let p = e.place;
-    let d = e.detail;
-    match p {
-        RangeEnd::Outer => on_route(c, RouteIndex(0)),
+    match e.place {
+        RangeEnd::Outer => outer_call(c, last),
         RangeEnd::Index(i) => on_route(c, i),
-        RangeEnd::Stop(n) => from_stop(w, c, n, d),
-        RangeEnd::NoEnd => Place::Nowhere,
-    }
-}
-
-fn to_place(w: &[u32], c: u32, e: End) -> Place
-    requires { draft_call * c ≤ length w.now }
-    ensures { result ≡ route_place (to_place (calls_in c w.now) e) }
-{
-    let p = e.place;
-    let d = e.detail;
-    match p {
-        RangeEnd::Outer => last_call(c),
-        RangeEnd::Index(i) => on_route(c, i),
-        RangeEnd::Stop(n) => to_stop(w, c, n, d),
-        RangeEnd::NoEnd => Place::Nowhere,
+        RangeEnd::Stop(n) => stop_place(w, c, n, e.detail, last),
+        RangeEnd::NoEnd => None,
     }
 }
 
 // An index that a route of c calls has.
-fn on_route(c: u32, i: RouteIndex) -> Place
+fn on_route(c: u32, i: RouteIndex) -> Option<RouteIndex>
     ensures { result ≡ route_place (cond (ltb i.0 c) (some i.0) none) }
 {
     if i.0 < c {
-        return Place::At(i);
+        return Some(i);
     }
-    Place::Nowhere
+    None
 }
 
-fn last_call(c: u32) -> Place
-    ensures { result ≡ route_place (cond (ltb (c - 1) c) (some (c - 1)) none) }
+// The first or the last of c calls.
+fn outer_call(c: u32, last: bool) -> Option<RouteIndex>
+    ensures { result ≡ route_place (cond (ltb (cond last (c - 1) 0) c) (some (cond last (c - 1) 0)) none) }
 {
-    if c < 1 {
-        return Place::Nowhere;
+    if c == 0 {
+        return None;
     }
-    Place::At(RouteIndex(c - 1))
+    Some(RouteIndex(if last { c - 1 } else { 0 }))
 }
 
-// From a stop: searched from the front.
-fn from_stop(w: &[u32], c: u32, n: StopNumber, d: Detail) -> Place
+// From a stop: searched from the front. To one: searched from the end, but appearances count from the route's start.
+#[tactic(auto, using(crate::proofs::Ends::ends))]
+fn stop_place(w: &[u32], c: u32, n: StopNumber, d: Detail, last: bool) -> Option<RouteIndex>
     requires { draft_call * c ≤ length w.now }
-    ensures { result ≡ route_place (from_stop (calls_in c w.now) n d) }
+    ensures { result ≡ route_place (stop_place last (calls_in c w.now) n d) }
 {
     match d {
-        Detail::Plain => place_sought(w, c, Sought::Calling(n), false),
+        Detail::Plain => place_sought(w, c, Sought::Calling(n), last),
         Detail::Nth(k) => nth_place(w, c, n, k),
-        Detail::Timed(m) => place_sought(w, c, Sought::Departing(n, m), false),
-        Detail::NoDetail => Place::Nowhere,
+        Detail::Timed(m) => place_sought(w, c, timed_at(n, m, last), last),
+        Detail::NoDetail => None,
     }
 }
 
-// To a stop: searched from the end, but appearances count from the route's start.
-fn to_stop(w: &[u32], c: u32, n: StopNumber, d: Detail) -> Place
-    requires { draft_call * c ≤ length w.now }
-    ensures { result ≡ route_place (to_stop (calls_in c w.now) n d) }
+// A range starts with a departure and ends with an arrival.
+fn timed_at(n: StopNumber, m: u32, last: bool) -> Sought
+    ensures { result ≡ cond last (Arriving n m) (Departing n m) }
 {
-    match d {
-        Detail::Plain => place_sought(w, c, Sought::Calling(n), true),
-        Detail::Nth(k) => nth_place(w, c, n, k),
-        Detail::Timed(m) => place_sought(w, c, Sought::Arriving(n, m), true),
-        Detail::NoDetail => Place::Nowhere,
+    if last {
+        return Sought::Arriving(n, m);
     }
+    Sought::Departing(n, m)
 }
 
 // ---- searches over the calls
 
 // Of the calls that are sought the last, or the first.
-fn place_sought(w: &[u32], c: u32, s: Sought, last: bool) -> Place
+fn place_sought(w: &[u32], c: u32, s: Sought, last: bool) -> Option<RouteIndex>
     requires { draft_call * c ≤ length w.now }
     ensures { result ≡
         route_place (cond last last_place first_place (places (meets s) 0 (calls_in c w.now))) }
@@ -166,63 +127,54 @@ fn place_sought(w: &[u32], c: u32, s: Sought, last: bool) -> Place
     first_place(w, c, s)
 }
 
-fn first_place(w: &[u32], c: u32, s: Sought) -> Place
+#[tactic(auto, using(crate::proofs::Laws::firsts))]
+fn first_place(w: &[u32], c: u32, s: Sought) -> Option<RouteIndex>
     requires { draft_call * c ≤ length w.now }
     ensures { result ≡ route_place (first_place (places (meets s) 0 (calls_in c w.now))) }
 {
-    let mut i = RouteIndex(0);
-    let mut at: usize = 0;
-    while i.0 < c {
-        if sought_at(w, at, s) {
-            return Place::At(i);
+    for i in 0..c {
+        if sought_at(w, draft::call_start(i), s) {
+            return Some(RouteIndex(i));
         }
-        at += DRAFT_CALL_WORDS;
-        i = RouteIndex(i.0 + 1);
     }
-    Place::Nowhere
+    None
 }
 
 // Searched from the end.
-fn last_place(w: &[u32], c: u32, s: Sought) -> Place
+#[tactic(auto, using(crate::proofs::Laws::lasts))]
+fn last_place(w: &[u32], c: u32, s: Sought) -> Option<RouteIndex>
     requires { draft_call * c ≤ length w.now }
     ensures { result ≡ route_place (last_place (places (meets s) 0 (calls_in c w.now))) }
 {
-    // past the last call
-    let mut i = RouteIndex(c);
-    let mut at = calls_end(c);
-    while 0 < i.0 {
-        at -= DRAFT_CALL_WORDS;
-        i = RouteIndex(i.0 - 1);
-        if sought_at(w, at, s) {
-            return Place::At(i);
+    for i in (0..c).rev() {
+        if sought_at(w, draft::call_start(i), s) {
+            return Some(RouteIndex(i));
         }
     }
-    Place::Nowhere
+    None
 }
 
 // The k-th call at a stop, from 0.
-fn nth_place(w: &[u32], c: u32, n: StopNumber, k: Appearance) -> Place
+#[tactic(auto, using(crate::proofs::Laws::nths))]
+fn nth_place(w: &[u32], c: u32, n: StopNumber, k: Appearance) -> Option<RouteIndex>
     requires { draft_call * c ≤ length w.now }
     ensures { result ≡ route_place (get_elem? (places (calls_at n) 0 (calls_in c w.now)) k.0) }
 {
     // its appearances from here on that come before the one sought
     let mut before = k;
-    let mut index = RouteIndex(0);
-    let mut at: usize = 0;
-    while index.0 < c {
-        let call = draft::call_at(w, at);
+    for i in 0..c {
+        let call = draft::call_at(w, draft::call_start(i));
         let here = appearances(StopNumber(call.stop), n);
         if before.0 < here.0 {
-            return Place::At(index);
+            return Some(RouteIndex(i));
         }
         before = Appearance(before.0 - here.0);
-        at += DRAFT_CALL_WORDS;
-        index = RouteIndex(index.0 + 1);
     }
-    Place::Nowhere
+    None
 }
 
 // How many appearances of stop n a call at `stop` is: one, or none.
+#[tactic(auto, using(crate::proofs::Laws::stops))]
 fn appearances(stop: StopNumber, n: StopNumber) -> Appearance
     ensures { result.0 ≡ cond (eqb stop.0 n.0) 1 0 }
 {
@@ -232,14 +184,8 @@ fn appearances(stop: StopNumber, n: StopNumber) -> Appearance
     Appearance(0)
 }
 
-// Where the words of c calls end.
-fn calls_end(c: u32) -> usize
-    ensures { result ≡ draft_call * c }
-{
-    DRAFT_CALL_WORDS * c as usize
-}
-
 // Whether the call whose words start at a place is sought.
+#[tactic(auto, using(crate::proofs::Laws::sought))]
 fn sought_at(w: &[u32], at: usize, s: Sought) -> bool
     requires { at + draft_call ≤ length w.now }
     ensures { result ≡ meets s (call_back (drop at w.now)).1 }
@@ -247,6 +193,7 @@ fn sought_at(w: &[u32], at: usize, s: Sought) -> bool
     is_sought(s, draft::call_at(w, at))
 }
 
+#[tactic(auto, using(crate::proofs::Laws::sought))]
 fn is_sought(s: Sought, call: Call) -> bool
     ensures { result ≡ meets s call }
 {
@@ -259,6 +206,7 @@ fn is_sought(s: Sought, call: Call) -> bool
 }
 
 // Whether a call at `stop` is at stop n and its stated time is m; the lowest bit of `stated` says whether it is stated.
+#[tactic(auto, using(crate::proofs::Laws::stops))]
 fn timed(stop: StopNumber, n: StopNumber, stated: u32, time: u32, m: u32) -> bool
     ensures { result ≡ (eqb stop.0 n.0 && (eqb (stated % 2) 1 && eqb time m)) }
 {

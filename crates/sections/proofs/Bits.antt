@@ -15,13 +15,10 @@ use Rattle.lines.specs.Lines.{Line, skipped, lines_of, cut_at}
 use Rattle.lines.specs.declared.Cut.{Cut}
 use Rattle.lines.proofs.Laws.{walk}
 use Rattle.bitfield.specs.BitField.{bit_words, bits_in}
-use Rattle.forms.specs.Form.{form_of}
+use Rattle.forms.specs.Form.{form_of, Form, Fits, Broken as BrokenForm}
 use Rattle.forms.specs.Columns.{bit_field_columns}
-use Rattle.forms.specs.declared.Form.{Form}
-use Rattle.forms.specs.declared.Form.TheVariants.{Fits, Broken as BrokenForm}
 use Rattle.map.specs.Inner.Map.{map_record_size, Mapped, Finds, Distinct, numbers_in, places_in}
-use Rattle.map.specs.declared.Found.{Found}
-use Rattle.map.specs.declared.Found.TheVariants.{At, Nowhere}
+use Rattle.std.specs.Prelude.{Option, Some, None}
 use Rattle.map.proofs.Columns.{length-column}
 use Rattle.map.proofs.Meaning.{found_inside, found_number, found-room, first_found, get_d-column}
 use Rattle.timetable.specs.Delivery.{BitField}
@@ -77,13 +74,13 @@ module _ (f m : List ℕ) (w : MapOf BitFields f m) where
   pub bits-mapped : Mapped m
   bits-mapped = record { count = w.count; chained = w.filled.chained }
 
-  module _ (k : ℕ) (r : Found) (e : Finds k m r) where
-    pub bits_none : r ≡ Nowhere → replicate bit_words 0 ≡ words_of k (held_in bit_field_of (lines_of f))
+  module _ (k : ℕ) (r : Option ℕ) (e : Finds k m r) where
+    pub bits_none : r ≡ None → replicate bit_words 0 ≡ words_of k (held_in bit_field_of (lines_of f))
     bits_none d =
         let q : false ≡ has_field k (held_in bit_field_of (lines_of f)) = has-field false k (lines_of f) (seen-not BitFields (lines_of f) m (map-seen BitFields f m w) k r e d) in
         ap words_by (sym (find_none (λ (b : BitField). eqb b.number k) (held_in bit_field_of (lines_of f)) (sym q)))
 
-    module _ (i : ℕ) (d : r ≡ At i) where
+    module _ (i : ℕ) (d : r ≡ Some i) where
       pub bits-room : map_record_size * i + map_record_size ≤ length m
       bits-room = found-room m w.count k i r w.filled.chained (e.among w.count w.filled.chained) d
 

@@ -1,4 +1,5 @@
 -- The needs of the checks of whole files, for `search files`: r is what the walk of the lines ls answers. Assumes nothing.
+use Rattle.std.specs.Prelude.{Result, Ok, Err}
 use mathlib.Core.Path.{◌≡◌, refl, ap, sym, ◌∙◌}
 use mathlib.Core.List.{List, [], ◌∷◌}
 use mathlib.Core.Option.{Option}
@@ -18,8 +19,6 @@ use Rattle.timetable.specs.Files.{class_of, class_line_offence, classes_first}
 use Rattle.timetable.specs.Plan.{three_bytes}
 use Rattle.timetable.specs.Files.{interchange_of, interchange_offence, interchange_line_offence, interchanges_first}
 use Rattle.timetable.specs.declared.Offence.{Offence}
-use Rattle.timetable.specs.declared.Checked.{Checked}
-use Rattle.timetable.specs.declared.Checked.TheVariants.{Holds, Refused}
 use Rattle.timetable.proofs.Offences.{first-same, checked-holds, checked_refused}
 use Rattle.sections.specs.Inner.Sections.{numbers, number_on, record_offence, line_offence}
 use Rattle.sections.specs.Inner.SectionMap.{MapOf, Lent, Ready}
@@ -79,7 +78,7 @@ module _ (f b m : List ℕ) where
 
 -- ---- each file
 
-module _ (ls : List Line) (days : ℕ) (stops : List StopRecord) (r : Checked) where
+module _ (ls : List Line) (days : ℕ) (stops : List StopRecord) (r : Result (ℕ × ℕ) Offence) where
   pub fields-checked : r ≡ checked_by (first (line_offence BitFields days stops) [] ls) (length (numbers BitFields ls)) (length ls + 1)
       → r ≡ checked_by (bit_fields_first days ls) (length (held_in bit_field_of ls)) (length ls + 1)
   unfolding bit_fields_first
@@ -103,20 +102,20 @@ module _ (ls : List Line) (days : ℕ) (stops : List StopRecord) (r : Checked) w
     here : r ≡ checked_by own (length (held_in interchange_of ls)) (length ls + 1)
     here = e ∙ rw (count-interchanges, first-same _ _ (line-of-interchanges days stops) [] ls) refl
 
-    pub interchanges-refused : (x : Offence) → r ≡ Refused x → r ≡ checked_by (interchanges_first stops ls) (length (held_in interchange_of ls)) (length ls + 1)
+    pub interchanges-refused : (x : Offence) → r ≡ Err x → r ≡ checked_by (interchanges_first stops ls) (length (held_in interchange_of ls)) (length ls + 1)
     unfolding interchanges_first ◌<|>◌
     interchanges-refused x y = y ∙ rw (checked_refused own _ _ r here x y) refl
 
-    module _ (c n : ℕ) (y : r ≡ Holds c n) where
+    module _ (c n : ℕ) (y : r ≡ Ok (c, n)) where
       -- "2 UMSTEIGB without a record"
-      pub interchanges-none : (x : Offence) → c < 1 → x ≡ offence_at 2 n → Refused x ≡ checked_by (interchanges_first stops ls) (length (held_in interchange_of ls)) (length ls + 1)
+      pub interchanges-none : (x : Offence) → c < 1 → x ≡ offence_at 2 n → Err x ≡ checked_by (interchanges_first stops ls) (length (held_in interchange_of ls)) (length ls + 1)
       unfolding interchanges_first ◌<|>◌
       interchanges-none x l z =
           let h = checked-holds own _ _ r here c n y in
           let k : length (held_in interchange_of ls) ≡ 0 = omega (arith, h.1) in
-          rw (h.0, eq-eqb (length (held_in interchange_of ls)) 0 k, h.2) (ap Refused z)
+          rw (h.0, eq-eqb (length (held_in interchange_of ls)) 0 k, h.2) (ap Err z)
 
-      pub interchanges-checked : 1 ≤ c → Holds c n ≡ checked_by (interchanges_first stops ls) (length (held_in interchange_of ls)) (length ls + 1)
+      pub interchanges-checked : 1 ≤ c → Ok (c, n) ≡ checked_by (interchanges_first stops ls) (length (held_in interchange_of ls)) (length ls + 1)
       unfolding interchanges_first ◌<|>◌
       interchanges-checked l =
           let h = checked-holds own _ _ r here c n y in

@@ -1,5 +1,6 @@
 -- The map of the lines read so far: the needs of a record put, for `search puts`, and of the walk that puts each, for `search fills`.
 -- Assumes nothing.
+use Rattle.std.specs.Prelude.{Result, Ok, Err}
 use mathlib.Core.Path.{◌≡◌, refl, ap, ◌∙◌}
 use mathlib.Core.List.{List, [], ◌∷◌, ◌++◌, map, append-nil}
 use mathlib.Core.Bool.{false}
@@ -25,9 +26,6 @@ use Rattle.timetable.specs.Layout.{most_file_bytes}
 use Rattle.timetable.specs.Delivery.{StopRecord}
 use Rattle.timetable.specs.Offences.{verdict_by}
 use Rattle.timetable.specs.declared.Offence.{Offence}
-use Rattle.timetable.specs.declared.Verdict.{Verdict}
-use Rattle.timetable.specs.declared.Verdict.TheVariants.{Fine}
-use Rattle.timetable.specs.declared.Checked.TheVariants.{Holds, Refused}
 use Rattle.timetable.proofs.Offences.{verdict-fine}
 use Rattle.sections.specs.Inner.Sections.{number_on, as_number, numbers, has_number, record_offence, numbered_offence}
 use Rattle.sections.specs.Inner.SectionMap.{if_held, texts, Filled, Lent, MapAfter, Ready, Reached, PutReady, Put}
@@ -159,15 +157,15 @@ map-held g x (Broken c) = refl
 
 -- r is the line cut at `at`, n what it has for a number, own what its own checks say
 module _ (f : List ℕ) (at no : ℕ) (r : Cut) (h : at < length f) (e : r ≡ cut_at f at no) (w : Walked f at no) (s : Section) (n : Numbered) (y : n ≡ number_on s (take (r.stop - at) (drop at f)))
-    (days : ℕ) (stops : List StopRecord) (own : Verdict) (x : own ≡ verdict_by (numbered_offence (record_offence s days stops (lines_of (take (at - 0) (drop 0 f))) no (take (r.stop - at) (drop at f))) no n)) where
+    (days : ℕ) (stops : List StopRecord) (own : Result (Unit {0}) Offence) (x : own ≡ verdict_by (numbered_offence (record_offence s days stops (lines_of (take (at - 0) (drop 0 f))) no (take (r.stop - at) (drop at f))) no n)) where
   abbrev text : List ℕ
   text = take (r.stop - at) (drop at f)
 
   -- no offence, so its number was not seen earlier
-  unseen : own ≡ Fine → (k : ℕ) → n ≡ Number k → has_number k (numbers s (lines_of (take at f))) ≡ false
+  unseen : own ≡ Ok tt → (k : ℕ) → n ≡ Number k → has_number k (numbers s (lines_of (take at f))) ≡ false
   unseen z k d = record-unseen days no k stops (lines_of (take at f)) text s (verdict-fine _ own (x ∙ rw (d, sub-zero) refl) z)
 
-  pub fill-turn : (m₀ m m' : List ℕ) (split count count' : ℕ) → own ≡ Fine → Filling s f m₀ split at count m → Put n at count split m count' m' → Filling s f m₀ split r.next count' m'
+  pub fill-turn : (m₀ m m' : List ℕ) (split count count' : ℕ) → own ≡ Ok tt → Filling s f m₀ split at count m → Put n at count split m count' m' → Filling s f m₀ split r.next count' m'
   fill-turn m₀ m m' split count count' z v q =
       let ls : List Line = lines_of (take at f) in
       record {
@@ -185,7 +183,7 @@ module _ (f : List ℕ) (at no : ℕ) (r : Cut) (h : at < length f) (e : r ≡ c
 skip-turn : (s : Section) (f m₀ m : List ℕ) (split at line count : ℕ) (r : Cut) → at < length f → r ≡ cut_at f at line → Skipped ≡ number_on s (take (r.stop - at) (drop at f)) → Walked f at line
     → Filling s f m₀ split at count m → Filling s f m₀ split r.next count m
 skip-turn s f m₀ m split at line count r h e y w v =
-    fill-turn f at line r h e w s Skipped y 0 [] Fine refl m₀ m m split count count refl v (record {
+    fill-turn f at line r h e w s Skipped y 0 [] (Ok tt) refl m₀ m m split count count refl v (record {
       same = refl;
       front = refl;
       counted = omega arith;
@@ -201,10 +199,10 @@ pub fill-passed : (s : Section) (f m₀ m : List ℕ) (split at line count p : �
 fill-passed s f m₀ m split at line count p h e l w v =
     rw (passed-next f at line p e l) at (skip-turn s f m₀ m split at line count (cut_at f at line) h refl (skipped-number s (take ((cut_at f at line).stop - at) (drop at f)) (passed-text f at line p e l)) w v)
 
-pub fill_done : (s : Section) (f m₀ m : List ℕ) (split at count line : ℕ) → length f ≤ at → Filling s f m₀ split at count m → MapAfter s f (Holds count line) (drop split m)
+pub fill_done : (s : Section) (f m₀ m : List ℕ) (split at count line : ℕ) → length f ≤ at → Filling s f m₀ split at count m → MapAfter s f (Ok (count, line)) (drop split m)
 fill_done s f m₀ m split at count line h v = record { held = λ c n e. record { count = count; filled = rw (take_all at f h) at v.filled } }
 
-pub fill-refused : (s : Section) (f m : List ℕ) (o : Offence) → MapAfter s f (Refused o) m
+pub fill-refused : (s : Section) (f m : List ℕ) (o : Offence) → MapAfter s f (Err o) m
 fill-refused s f m o = record { held = λ c n e. apart cc }
 
 pub ruleset fills = (tests, fill-first, fill-reached, fill-ready, fill-turn, fill-empty, fill-passed, fill_done, fill-refused)

@@ -9,10 +9,8 @@ use lib.ListN.{length, take, drop, length-append}
 use Rattle.base.specs.Lists.{every, gathered}
 use Rattle.lines.specs.Lines.{Line, skipped, lines_of}
 use Rattle.lines.proofs.Laws.{lines-le}
-use Rattle.forms.specs.Form.{form_of}
+use Rattle.forms.specs.Form.{form_of, Form, Fits, Broken as BrokenForm}
 use Rattle.forms.specs.Columns.{bit_field_columns, stop_columns, interchange_columns, class_columns}
-use Rattle.forms.specs.declared.Form.{Form}
-use Rattle.forms.specs.declared.Form.TheVariants.{Fits, Broken as BrokenForm}
 use Rattle.timetable.specs.Delivery.{BitField, StopRecord, Interchange, CategoryClass}
 use Rattle.timetable.specs.Files.{Held, skip, broken, held, listed, held_in, held_by, held_offence, bit_field_of, stop_of, interchange_of, class_of}
 use Rattle.timetable.specs.declared.Offence.{Offence}

@@ -14,15 +14,12 @@ use Rattle.columns.specs.Columns.{columns, number}
 use Rattle.byte_words.specs.Inner.Words.{bytes_of}
 use Rattle.byte_words.proofs.Lines.{columns-word}
 use Rattle.lines.specs.Lines.{Line, skipped, lines_of}
-use Rattle.forms.specs.Form.{form_of}
+use Rattle.forms.specs.Form.{form_of, Form, Fits, Broken as BrokenForm}
 use Rattle.forms.specs.Columns.{columns_of}
-use Rattle.forms.specs.declared.Form.{Form}
-use Rattle.forms.specs.declared.Form.TheVariants.{Fits, Broken as BrokenForm}
 use Rattle.forms.specs.declared.LineKind.{LineKind}
 use Rattle.map.specs.Inner.Map.{Mapped, Finds, numbers_in}
-use Rattle.map.specs.declared.Found.{Found}
-use Rattle.map.specs.declared.Found.TheVariants.{At, Nowhere}
-use Rattle.map.proofs.Meaning.{found_none, found_some}
+use Rattle.std.specs.Prelude.{Option, Some, None, is_some}
+use Rattle.map.proofs.Meaning.{known-found, found_none}
 use Rattle.timetable.specs.Files.{held_in, bit_field_of, stop_of, interchange_of, class_of, has_field, has_stop, has_interchange, has_class}
 use Rattle.sections.specs.Inner.Sections.{line_kind, key_on, numbered_by, number_on, numbers, has_number}
 use Rattle.sections.specs.Inner.SectionMap.{Seen, MapOf, Reached}
@@ -80,14 +77,14 @@ module _ (s : Section) (ls : List Line) (m : List ℕ) (w : Seen s ls m) where
   pub seen-mapped : Mapped m
   seen-mapped = record { count = w.count; chained = w.chained }
 
-  module _ (k : ℕ) (r : Found) (e : Finds k m r) where
-    pub seen-not : r ≡ Nowhere → false ≡ has_number k (numbers s ls)
+  module _ (k : ℕ) (r : Option ℕ) (e : Finds k m r) where
+    pub seen-not : r ≡ None → false ≡ has_number k (numbers s ls)
     seen-not d = rw (← w.numbers_held) (sym (found_none k (numbers_in w.count m) r (e.among w.count w.chained) d))
 
-    pub seen_one : (i : ℕ) → r ≡ At i → true ≡ has_number k (numbers s ls)
-    seen_one i d = rw (← w.numbers_held) (sym (found_some k (numbers_in w.count m) r i (e.among w.count w.chained) d))
+    pub seen-there : (t : Bool) → t ≡ is_some r → t ≡ has_number k (numbers s ls)
+    seen-there t q = rw (← w.numbers_held) (q ∙ ap is_some (e.among w.count w.chained) ∙ known-found k (numbers_in w.count m))
 
-pub ruleset looks = (tests, seen-mapped, seen-not, seen_one)
+pub ruleset looks = (tests, seen-mapped, seen-there)
 
 -- ---- the look-ups in the definitions' words, for `search knows`
 

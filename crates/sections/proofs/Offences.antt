@@ -1,4 +1,5 @@
 -- The needs of the own checks of a line. In each law v is the verdict that the code answers. Assumes nothing.
+use Rattle.std.specs.Prelude.{Result, Ok, Err}
 use mathlib.Core.Path.{◌≡◌, refl, ap, sym, ◌∙◌}
 use mathlib.Core.List.{List, [], ◌∷◌}
 use mathlib.Core.Bool.{Bool, true, false, cond, not, ◌||◌}
@@ -12,10 +13,8 @@ use Rattle.base.specs.Lists.{every, some_of}
 use Rattle.base.proofs.Laws.{apart, tests}
 use Rattle.columns.specs.Columns.{columns, is_hex}
 use Rattle.lines.specs.Lines.{Line, skipped}
-use Rattle.forms.specs.Form.{form_of}
+use Rattle.forms.specs.Form.{form_of, Form, Fits, Broken as BrokenForm}
 use Rattle.forms.specs.Columns.{bit_field_columns}
-use Rattle.forms.specs.declared.Form.{Form}
-use Rattle.forms.specs.declared.Form.TheVariants.{Fits, Broken as BrokenForm}
 use Rattle.forms.proofs.Laws.{row-holds}
 use Rattle.bitfield.specs.BitField.{bits_in, framed}
 use Rattle.names.specs.Names.{is_name_list}
@@ -23,8 +22,6 @@ use Rattle.timetable.specs.Delivery.{StopRecord, Interchange}
 use Rattle.timetable.specs.Offences.{offence_at, given, ◌<|>◌, verdict_by}
 use Rattle.timetable.specs.Files.{held_in, bit_field_of, bit_field_offence, has_interchange, has_stop, stop_of, stop_offence, named_stop_offence, interchange_of, interchange_offence}
 use Rattle.names.specs.NameField.{name_field}
-use Rattle.timetable.specs.declared.Verdict.{Verdict}
-use Rattle.timetable.specs.declared.Verdict.TheVariants.{Fine, Offends}
 use Rattle.timetable.proofs.Offences.{then-none, given-none}
 use Rattle.sections.specs.Inner.Sections.{key_on, numbered_by, number_on, numbers, has_number, record_offence, numbered_offence}
 use Rattle.sections.specs.Inner.SectionMap.{Reached}
@@ -34,29 +31,30 @@ use Rattle.sections.specs.declared.Numbered.{Numbered}
 use Rattle.sections.specs.declared.Numbered.TheVariants.{Number, Skipped, Broken}
 use Rattle.sections.proofs.Held.{interchange-numbers}
 use Rattle.sections.proofs.Lookups.{has-field, has-stop, has-interchange, has-class, reached}
+use Rattle.timetable.specs.declared.Offence.{Offence}
 
 -- ---- a bit field of number k: 7, 6, 8. b is whether it was seen earlier, w its words, c whether they are framed
 
 module _ (n k no : ℕ) (text : List ℕ) (ls : List Line) where
   -- what is to be shown
-  abbrev FieldGives : Verdict → Type 0
+  abbrev FieldGives : Result (Unit {0}) Offence → Type 0
   FieldGives v = v ≡ verdict_by (bit_field_offence n (held_in bit_field_of ls) no (record { number = k; words = bits_in text }))
 
-  pub field-zero : (v : Verdict) → k ≡ 0 → v ≡ Offends (offence_at 7 no) → FieldGives v
+  pub field-zero : (v : Result (Unit {0}) Offence) → k ≡ 0 → v ≡ Err (offence_at 7 no) → FieldGives v
   unfolding ◌<|>◌
   field-zero v z e = rw (eq-eqb k 0 z) e
 
   module _ (z : k ≡ 0 → ⊥) (b : Bool) (s : b ≡ has_number k (numbers BitFields ls)) where
-    pub field-seen : (v : Verdict) → b ≡ true → v ≡ Offends (offence_at 6 no) → FieldGives v
+    pub field-seen : (v : Result (Unit {0}) Offence) → b ≡ true → v ≡ Err (offence_at 6 no) → FieldGives v
     unfolding ◌<|>◌
     field-seen v y e = rw (ne_eqb k 0 z, sym (has-field b k ls s) ∙ y) e
 
     module _ (y : b ≡ false) (w : List ℕ) (g : w ≡ bits_in text) (c : Bool) (f : c ≡ framed n w) where
-      pub field-fine : c ≡ true → FieldGives Fine
+      pub field-fine : c ≡ true → FieldGives (Ok tt)
       unfolding ◌<|>◌
       field-fine x = rw (ne_eqb k 0 z, sym (has-field b k ls s) ∙ y, ← g, sym f ∙ x) refl
 
-      pub field-frame : (v : Verdict) → c ≡ false → v ≡ Offends (offence_at 8 no) → FieldGives v
+      pub field-frame : (v : Result (Unit {0}) Offence) → c ≡ false → v ≡ Err (offence_at 8 no) → FieldGives v
       unfolding ◌<|>◌
       field-frame v x e = rw (ne_eqb k 0 z, sym (has-field b k ls s) ∙ y, ← g, sym f ∙ x) e
 
@@ -65,26 +63,26 @@ pub ruleset field-checks = (tests, field-zero, field-seen, field-fine, field-fra
 -- ---- a stop of number k: 7, 6. a is whether no stop has that number, b whether it was seen earlier
 
 module _ (k no : ℕ) (ls : List Line) (a : Bool) (d : a ≡ (eqb k 9999999 || eqb (k % 100000) 0)) where
-  abbrev StopGives : Verdict → Type 0
+  abbrev StopGives : Result (Unit {0}) Offence → Type 0
   StopGives v = v ≡ verdict_by (stop_offence (held_in stop_of ls) no (record { number = k; offset = 0; size = 0 }))
 
-  pub stop-barred : (v : Verdict) → a ≡ true → v ≡ Offends (offence_at 7 no) → StopGives v
+  pub stop-barred : (v : Result (Unit {0}) Offence) → a ≡ true → v ≡ Err (offence_at 7 no) → StopGives v
   unfolding ◌<|>◌
   stop-barred v z e = rw (sym d ∙ z) e
 
   module _ (z : a ≡ false) (b : Bool) (s : b ≡ has_number k (numbers Stops ls)) where
-    pub stop-seen : (v : Verdict) → b ≡ true → v ≡ Offends (offence_at 6 no) → StopGives v
+    pub stop-seen : (v : Result (Unit {0}) Offence) → b ≡ true → v ≡ Err (offence_at 6 no) → StopGives v
     unfolding ◌<|>◌
     stop-seen v y e = rw (sym d ∙ z, sym (has-stop b k ls s) ∙ y) e
 
-    pub stop-fine : b ≡ false → StopGives Fine
+    pub stop-fine : b ≡ false → StopGives (Ok tt)
     unfolding ◌<|>◌
     stop-fine y = rw (sym d ∙ z, sym (has-stop b k ls s) ∙ y) refl
 
 pub ruleset stop-checks = (tests, stop-barred, stop-seen, stop-fine)
 
 -- 39 before them: a is whether the name field is a name list
-module _ (k no : ℕ) (text : List ℕ) (ls : List Line) (a : Bool) (d : a ≡ is_name_list (name_field text)) (v : Verdict) where
+module _ (k no : ℕ) (text : List ℕ) (ls : List Line) (a : Bool) (d : a ≡ is_name_list (name_field text)) (v : Result (Unit {0}) Offence) where
   abbrev NamedGives : Type 0
   NamedGives = v ≡ verdict_by (named_stop_offence (held_in stop_of ls) no text (record { number = k; offset = 0; size = 0 }))
 
@@ -92,7 +90,7 @@ module _ (k no : ℕ) (text : List ℕ) (ls : List Line) (a : Bool) (d : a ≡ i
   unfolding ◌<|>◌
   stop-named z e = rw (sym d ∙ z) e
 
-  pub stop-unnamed : a ≡ false → v ≡ Offends (offence_at 39 no) → NamedGives
+  pub stop-unnamed : a ≡ false → v ≡ Err (offence_at 39 no) → NamedGives
   unfolding ◌<|>◌
   stop-unnamed z e = rw (sym d ∙ z) e
 
@@ -105,7 +103,7 @@ abbrev pub just : ℕ → Interchange
 just k = record { number = k; first_time = 0; second_time = 0 }
 
 module _ (c k no : ℕ) (ls : List Line) (stops : List StopRecord) (d : c ≡ length (numbers Interchanges ls)) where
-  abbrev InterchangeGives : Verdict → Type 0
+  abbrev InterchangeGives : Result (Unit {0}) Offence → Type 0
   InterchangeGives v = v ≡ verdict_by (interchange_offence stops (held_in interchange_of ls) no (just k))
 
   earlier-are : length (held_in interchange_of ls) ≡ c
@@ -116,10 +114,10 @@ module _ (c k no : ℕ) (ls : List Line) (stops : List StopRecord) (d : c ≡ le
     by_first [] e = refl
     by_first (x ∷ es) e = absurd (omega arith)
 
-    pub first_fine : k ≡ 9999999 → InterchangeGives Fine
+    pub first_fine : k ≡ 9999999 → InterchangeGives (Ok tt)
     first_fine e = rw (by_first (held_in interchange_of ls) (earlier-are ∙ z), eq-eqb k 9999999 e) refl
 
-    pub first-other : (v : Verdict) → (k ≡ 9999999 → ⊥) → v ≡ Offends (offence_at 7 no) → InterchangeGives v
+    pub first-other : (v : Result (Unit {0}) Offence) → (k ≡ 9999999 → ⊥) → v ≡ Err (offence_at 7 no) → InterchangeGives v
     first-other v e y = rw (by_first (held_in interchange_of ls) (earlier-are ∙ z), ne_eqb k 9999999 e) y
 
   module _ (z : c ≡ 0 → ⊥) (b : Bool) (s : b ≡ has_number k (numbers Interchanges ls)) where
@@ -131,16 +129,16 @@ module _ (c k no : ℕ) (ls : List Line) (stops : List StopRecord) (d : c ≡ le
     later : interchange_offence stops (held_in interchange_of ls) no (just k) ≡ (given b 6 no <|> given (not (has_stop k stops)) 9 no)
     later = by-later (held_in interchange_of ls) (λ e. z (sym earlier-are ∙ e)) ∙ rw (← has-interchange b k ls s) refl
 
-    pub later-seen : (v : Verdict) → b ≡ true → v ≡ Offends (offence_at 6 no) → InterchangeGives v
+    pub later-seen : (v : Result (Unit {0}) Offence) → b ≡ true → v ≡ Err (offence_at 6 no) → InterchangeGives v
     unfolding ◌<|>◌
     later-seen v y e = rw (later, y) e
 
     module _ (y : b ≡ false) (u : Bool) (f : u ≡ has_stop k stops) where
-      pub later-fine : u ≡ true → InterchangeGives Fine
+      pub later-fine : u ≡ true → InterchangeGives (Ok tt)
       unfolding ◌<|>◌
       later-fine x = rw (later, y, sym f ∙ x) refl
 
-      pub later-unknown : (v : Verdict) → u ≡ false → v ≡ Offends (offence_at 9 no) → InterchangeGives v
+      pub later-unknown : (v : Result (Unit {0}) Offence) → u ≡ false → v ≡ Err (offence_at 9 no) → InterchangeGives v
       unfolding ◌<|>◌
       later-unknown v x e = rw (later, y, sym f ∙ x) e
 
@@ -149,16 +147,16 @@ pub ruleset interchange-checks = (tests, first_fine, first-other, later-seen, la
 -- ---- a line that has n for a number: 4, then the record's own
 
 module _ (s : Section) (days no : ℕ) (stops : List StopRecord) (before : List Line) (text : List ℕ) (n : Numbered) where
-  abbrev LineGives : Verdict → Type 0
+  abbrev LineGives : Result (Unit {0}) Offence → Type 0
   LineGives v = v ≡ verdict_by (numbered_offence (record_offence s days stops before no text) no n)
 
-  pub line-skipped : n ≡ Skipped → LineGives Fine
+  pub line-skipped : n ≡ Skipped → LineGives (Ok tt)
   line-skipped y = rw y refl
 
-  pub line-broken : (c : ℕ) → n ≡ Broken c → LineGives (Offends (record { number = 4; line = no; column = c }))
+  pub line-broken : (c : ℕ) → n ≡ Broken c → LineGives (Err (record { number = 4; line = no; column = c }))
   line-broken c y = rw y refl
 
-  module _ (k : ℕ) (y : n ≡ Number k) (v : Verdict) where
+  module _ (k : ℕ) (y : n ≡ Number k) (v : Result (Unit {0}) Offence) where
     pub line-field : s ≡ BitFields → v ≡ verdict_by (bit_field_offence days (held_in bit_field_of before) no (record { number = k; words = bits_in text })) → LineGives v
     unfolding record_offence
     line-field z e = rw (y, z) e

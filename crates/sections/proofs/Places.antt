@@ -12,8 +12,7 @@ use Rattle.base.specs.Lists.{some_of}
 use Rattle.base.proofs.Laws.{tests, clash}
 use Rattle.lines.specs.Lines.{lines_of}
 use Rattle.map.specs.Inner.Map.{word_values, Mapped, Finds, Distinct, numbers_in}
-use Rattle.map.specs.declared.Found.{Found}
-use Rattle.map.specs.declared.Found.TheVariants.{At, Nowhere}
+use Rattle.std.specs.Prelude.{Option, Some, None}
 use Rattle.map.proofs.Meaning.{distinct_tail, found_inside, found_number, found-room}
 use Rattle.timetable.specs.Delivery.{StopRecord}
 use Rattle.timetable.specs.Files.{held_in, stop_of, has_stop}
@@ -52,12 +51,12 @@ module _ (f m : List ℕ) (w : MapOf Stops f m) where
   pub stops-mapped : Mapped m
   stops-mapped = record { count = w.count; chained = w.filled.chained }
 
-  module _ (k : ℕ) (r : Found) (e : Finds k m r) where
-    pub place-nowhere : r ≡ Nowhere → 0 ≡ stop_place k (held_in stop_of (lines_of f))
+  module _ (k : ℕ) (r : Option ℕ) (e : Finds k m r) where
+    pub place-nowhere : r ≡ None → 0 ≡ stop_place k (held_in stop_of (lines_of f))
     place-nowhere d =
         sym (place_none 0 k (held_in stop_of (lines_of f)) (sym (has-stop false k (lines_of f) (seen-not Stops (lines_of f) m (map-seen Stops f m w) k r e d))))
 
-    module _ (i : ℕ) (d : r ≡ At i) where
+    module _ (i : ℕ) (d : r ≡ Some i) where
       pub place-small : i < word_values
       place-small = omega (arith, found-room m w.count k i r w.filled.chained (e.among w.count w.filled.chained) d, w.filled.chained.size)
 

@@ -1,5 +1,6 @@
 -- The needs of the walk that checks every line of a file, for `search scans`: what the lines that are left answer, after the lines before
 -- them, is what all lines answer. Assumes nothing.
+use Rattle.std.specs.Prelude.{Result, Ok, Err}
 use mathlib.Core.Path.{◌≡◌, refl, ap, sym, ◌∙◌}
 use mathlib.Core.List.{List, [], ◌∷◌, ◌++◌, append-nil}
 use mathlib.Core.Option.{Option, none}
@@ -21,10 +22,6 @@ use Rattle.timetable.specs.Layout.{most_file_bytes}
 use Rattle.timetable.specs.Delivery.{StopRecord}
 use Rattle.timetable.specs.Offences.{◌<|>◌, first, verdict_by, checked_by}
 use Rattle.timetable.specs.declared.Offence.{Offence}
-use Rattle.timetable.specs.declared.Verdict.{Verdict}
-use Rattle.timetable.specs.declared.Verdict.TheVariants.{Fine, Offends}
-use Rattle.timetable.specs.declared.Checked.{Checked}
-use Rattle.timetable.specs.declared.Checked.TheVariants.{Holds, Refused}
 use Rattle.timetable.proofs.Offences.{verdict-fine, verdict-offends}
 use Rattle.sections.specs.Inner.Sections.{number_on, as_number, numbers, record_offence, numbered_offence, line_offence}
 use Rattle.sections.specs.declared.Section.{Section}
@@ -52,7 +49,7 @@ numbers_more s ls l = gathered-append (λ (l : Line). as_number (number_on s l.t
 
 -- ---- what the lines that are left answer, after lines with so many records, from line no on
 
-abbrev pub scan_from : (List Line → Line → Option Offence) → Section → List Line → ℕ → ℕ → List Line → Checked
+abbrev pub scan_from : (List Line → Line → Option Offence) → Section → List Line → ℕ → ℕ → List Line → Result (ℕ × ℕ) Offence
 scan_from off s before count n ls = checked_by (first off before ls) (length (numbers s ls) + count) (length ls + n)
 
 -- a line without an offence; there are c' records with it
@@ -82,7 +79,7 @@ walked-small f at n w h l = number_small f at n (walked-number f at n w) h l
 pub part_count : (f : List ℕ) (at count : ℕ) (s : Section) → count ≡ length (numbers s (lines_of (take at f))) → count ≡ length (numbers s (lines_of (take (at - 0) (drop 0 f))))
 part_count f at count s e = rw sub-zero e
 
-pub scan-done : (f : List ℕ) (at n count : ℕ) (off : List Line → Line → Option Offence) (s : Section) (before : List Line) (q : Checked) → length f ≤ at → scan_from off s before count n (lines_from n at (drop at f)) ≡ q → Holds count n ≡ q
+pub scan-done : (f : List ℕ) (at n count : ℕ) (off : List Line → Line → Option Offence) (s : Section) (before : List Line) (q : Result (ℕ × ℕ) Offence) → length f ≤ at → scan_from off s before count n (lines_from n at (drop at f)) ≡ q → Ok (count, n) ≡ q
 unfolding first numbers gathered
 scan-done f at n count off s before q h v = rw (zero-add count, zero-add n) at (rw (lines_none f at n h) at v)
 
@@ -94,7 +91,7 @@ module _ (f : List ℕ) (at no count : ℕ) (r : Cut) (h : at < length f) (e : r
   pub count_next : (c' : ℕ) → count ≡ length (numbers s (lines_of (take at f))) → n ≡ number_on s text → c' ≡ count + length (as_number n) → c' ≡ length (numbers s (lines_of (take r.next f)))
   count_next c' c y d = rw (walked-before f at no w r h e, numbers_more, length-append, ← y, ← c) d
 
-  module _ (y : n ≡ number_on s text) (days : ℕ) (stops : List StopRecord) (q : Checked) (own : Verdict)
+  module _ (y : n ≡ number_on s text) (days : ℕ) (stops : List StopRecord) (q : Result (ℕ × ℕ) Offence) (own : Result (Unit {0}) Offence)
       (x : own ≡ verdict_by (numbered_offence (record_offence s days stops (lines_of (take (at - 0) (drop 0 f))) no text) no n))
       (v : scan_from (line_offence s days stops) s (lines_of (take at f)) count no (lines_from no at (drop at f)) ≡ q) where
     -- this line
@@ -108,11 +105,11 @@ module _ (f : List ℕ) (at no count : ℕ) (r : Cut) (h : at < length f) (e : r
     turn : scan_from (line_offence s days stops) s (lines_of (take at f)) count no (here ∷ lines_from r.no r.next (drop r.next f)) ≡ q
     turn = sym (ap (scan_from (line_offence s days stops) s (lines_of (take at f)) count no) (cutting f at no r h e).step) ∙ v
 
-    pub scan-out : (o : Offence) → own ≡ Offends o → Refused o ≡ q
+    pub scan-out : (o : Offence) → own ≡ Err o → Err o ≡ q
     unfolding first ◌<|>◌
     scan-out o z = rw (verdict-offends (line_offence s days stops (lines_of (take at f)) here) own own_is o z) at turn
 
-    pub scan-again : (c' : ℕ) → own ≡ Fine → c' ≡ count + length (as_number n) → scan_from (line_offence s days stops) s (lines_of (take r.next f)) c' r.no (lines_from r.no r.next (drop r.next f)) ≡ q
+    pub scan-again : (c' : ℕ) → own ≡ Ok tt → c' ≡ count + length (as_number n) → scan_from (line_offence s days stops) s (lines_of (take r.next f)) c' r.no (lines_from r.no r.next (drop r.next f)) ≡ q
     scan-again c' z d = rw (walked-before f at no w r h e, (cutting f at no r h e).count) (sym (scan-turn (line_offence s days stops) s (lines_of (take at f)) count no c' here _ (verdict-fine _ own own_is z) (rw y at d)) ∙ rw (cutting f at no r h e).count at turn)
 
 -- an empty line, passed at once
@@ -123,10 +120,10 @@ module _ (f : List ℕ) (at no : ℕ) (h : at < length f) (b : get_or f at 0 ≡
   pub empty-count : (s : Section) (count : ℕ) → count ≡ length (numbers s (lines_of (take at f))) → count ≡ length (numbers s (lines_of (take (at + 1) f)))
   empty-count s count c = count_next f at no count _ h (cut-empty f at no h b) w s Skipped count c (empty-skipped s f at) (omega arith)
 
-  pub empty-scan : (s : Section) (count days : ℕ) (stops : List StopRecord) (q : Checked)
+  pub empty-scan : (s : Section) (count days : ℕ) (stops : List StopRecord) (q : Result (ℕ × ℕ) Offence)
       → scan_from (line_offence s days stops) s (lines_of (take at f)) count no (lines_from no at (drop at f)) ≡ q
       → scan_from (line_offence s days stops) s (lines_of (take (at + 1) f)) count (no + 1) (lines_from (no + 1) (at + 1) (drop (at + 1) f)) ≡ q
-  empty-scan s count days stops q v = scan-again f at no count _ h (cut-empty f at no h b) w s Skipped (empty-skipped s f at) days stops q Fine refl v count refl (omega arith)
+  empty-scan s count days stops q v = scan-again f at no count _ h (cut-empty f at no h b) w s Skipped (empty-skipped s f at) days stops q (Ok tt) refl v count refl (omega arith)
 
 -- another line that is skipped, passed at once: the next starts at p
 module _ (f : List ℕ) (at no p : ℕ) (h : at < length f) (e : p ≡ past_skipped f at) (l : at < p) (w : Walked f at no) where
@@ -142,10 +139,10 @@ module _ (f : List ℕ) (at no p : ℕ) (h : at < length f) (e : p ≡ past_skip
   pub passed-count : (s : Section) (count : ℕ) → count ≡ length (numbers s (lines_of (take at f))) → count ≡ length (numbers s (lines_of (take p f)))
   passed-count s count c = rw (passed-next f at no p e l) at (count_next f at no count (cut_at f at no) h refl w s Skipped count c (passed-held s) (omega arith))
 
-  pub passed-scan : (s : Section) (count days : ℕ) (stops : List StopRecord) (q : Checked)
+  pub passed-scan : (s : Section) (count days : ℕ) (stops : List StopRecord) (q : Result (ℕ × ℕ) Offence)
       → scan_from (line_offence s days stops) s (lines_of (take at f)) count no (lines_from no at (drop at f)) ≡ q
       → scan_from (line_offence s days stops) s (lines_of (take p f)) count (no + 1) (lines_from (no + 1) p (drop p f)) ≡ q
-  passed-scan s count days stops q v = rw (passed-next f at no p e l, passed-number) at (scan-again f at no count (cut_at f at no) h refl w s Skipped (passed-held s) days stops q Fine refl v count refl (omega arith))
+  passed-scan s count days stops q v = rw (passed-next f at no p e l, passed-number) at (scan-again f at no count (cut_at f at no) h refl w s Skipped (passed-held s) days stops q (Ok tt) refl v count refl (omega arith))
 
 pub passed-less : (f : List ℕ) (at p : ℕ) → at < length f → at < p → length f - p < length f - at
 passed-less f at p h l = omega arith

@@ -14,10 +14,8 @@ use Rattle.lines.specs.declared.Cut.{Cut}
 use Rattle.lines.proofs.Laws.{cutting}
 use Rattle.lines.proofs.Pieces.{cut-empty}
 use Rattle.lines.proofs.reader.Skipping.{passed-next}
-use Rattle.forms.specs.Form.{form_of}
+use Rattle.forms.specs.Form.{form_of, Form, Fits, Broken as BrokenForm}
 use Rattle.forms.specs.Columns.{columns_of}
-use Rattle.forms.specs.declared.Form.{Form}
-use Rattle.forms.specs.declared.Form.TheVariants.{Fits, Broken as BrokenForm}
 use Rattle.timetable.specs.Delivery.{StopRecord}
 use Rattle.timetable.specs.Offences.{first}
 use Rattle.timetable.specs.Files.{bit_fields_first, stops_first, interchanges_first, classes_first}

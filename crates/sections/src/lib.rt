@@ -26,11 +26,10 @@ ghost use Rattle.sections.specs.Inner.SectionMap.{Put};
 ghost use Rattle.sections.specs.declared.Section.TheVariants.{BitFields, Stops, Interchanges};
 
 use columns::line_fields::{bit_field, class, stop};
-use forms::{Form, LineKind};
+use forms::LineKind;
 use lines::reader;
-use map::Found;
 use names::name_field;
-use timetable::{BIT_WORDS, Checked, Offence, Verdict};
+use timetable::{BIT_WORDS, Offence};
 
 // The sections of the table that files 2 to 4 and 6 give.
 #[derive(Clone, Copy)]
@@ -52,7 +51,7 @@ pub enum Numbered {
 // ---- the files: how many records each has, and the line number after its last line
 
 // BAHNHOF is not read here: the file itself stands in its place.
-pub fn check_bit_fields(f: &[u8], days: u32, m: &mut [u32]) -> Checked
+pub fn check_bit_fields(f: &[u8], days: u32, m: &mut [u32]) -> Result<(u32, u32), Offence>
     requires f_len_bound { length f.now ≤ most_file_bytes }
     requires days_le_most_period_days { days ≤ most_period_days }
     requires lent { Lent f.now m.old }
@@ -63,7 +62,7 @@ pub fn check_bit_fields(f: &[u8], days: u32, m: &mut [u32]) -> Checked
 }
 
 // Neither the days nor BAHNHOF are read here: 0 and the file itself stand in their places.
-pub fn check_stops(f: &[u8], m: &mut [u32]) -> Checked
+pub fn check_stops(f: &[u8], m: &mut [u32]) -> Result<(u32, u32), Offence>
     requires f_len_bound { length f.now ≤ most_file_bytes }
     requires lent { Lent f.now m.old }
     ensures value { result ≡ stops_checked f.now }
@@ -74,7 +73,12 @@ pub fn check_stops(f: &[u8], m: &mut [u32]) -> Checked
 
 // UMSTEIGB has at least one record. The words before `split` are the map of BAHNHOF, which stays; those from there on are lent for UMSTEIGB. The days
 // are not read here: 0 stands in their place.
-pub fn check_interchanges(f: &[u8], bahnhof: &[u8], m: &mut [u32], split: usize) -> Checked
+pub fn check_interchanges(
+    f: &[u8],
+    bahnhof: &[u8],
+    m: &mut [u32],
+    split: usize,
+) -> Result<(u32, u32), Offence>
     requires f_len_bound { length f.now ≤ most_file_bytes }
     requires split_in_bounds { split ≤ length m.old }
     requires map_of { MapOf Stops bahnhof.now (take split m.old) }
@@ -82,18 +86,16 @@ pub fn check_interchanges(f: &[u8], bahnhof: &[u8], m: &mut [u32], split: usize)
     ensures value { result ≡ interchanges_checked bahnhof.now f.now }
     ensures m_unchanged { take split m.new ≡ take split m.old }
 {
-    let checked = check_section(Section::Interchanges, f, 0, bahnhof, m, split);
-    let Checked::Holds(count, next) = checked else {
-        return checked;
-    };
+    let (count, next) = check_section(Section::Interchanges, f, 0, bahnhof, m, split)?;
     if count < 1 {
-        return Checked::Refused(timetable::offence_at(2, next));
+        return Err(timetable::offence_at(2, next));
     }
-    checked
+    Ok((count, next))
 }
 
 // ---- look-ups, each behind one function, by the map of the file
 
+// Kept: this and the next as two: each promises in the words of its own file
 // Whether BITFELD has a bit field of this number.
 pub fn known_field(f: &[u8], m: &[u32], number: u32) -> bool
     requires { MapOf BitFields f.now m.now }
@@ -115,8 +117,7 @@ pub fn field_bits(f: &[u8], m: &[u32], number: u32) -> [u32; BIT_WORDS]
     requires { MapOf BitFields f.now m.now }
     ensures { result ≡ words_of number (bit_fields_in f.now) }
 {
-    let found = map::find(m, number);
-    let Found::At(i) = found else {
+    let Some(i) = map::find(m, number) else {
         return [0u32; BIT_WORDS];
     };
     bitfield::bits_in(text_at(f, map::place_of(m, i)))
@@ -127,10 +128,9 @@ pub fn stop_place(f: &[u8], m: &[u32], number: u32) -> u32
     requires { MapOf Stops f.now m.now }
     ensures { result ≡ stop_place number (stops_in f.now) }
 {
-    let found = map::find(m, number);
-    match found {
-        Found::At(i) => i as u32,
-        Found::Nowhere => 0,
+    match map::find(m, number) {
+        Some(i) => i as u32,
+        None => 0,
     }
 }
 
@@ -139,11 +139,7 @@ fn has_number(section: Section, f: &[u8], m: &[u32], number: u32) -> bool
     requires { Seen section (lines_of f.now) m.now }
     ensures { result ≡ has_number number (numbers section (lines_of f.now)) }
 {
-    let found = map::find(m, number);
-    match found {
-        Found::At(i) => true,
-        Found::Nowhere => false,
-    }
+    map::find(m, number).is_some()
 }
 
 // The text of the line that starts at a place, none past the file's end. Its number does not matter, so it is cut as line 1.
@@ -175,10 +171,9 @@ fn formed_number(section: Section, text: &[u8]) -> Numbered
     ensures { result ≡
         numbered_by (form_of (columns_of (line_kind section)) text.now) (key_on section text.now) }
 {
-    let form = forms::line_form(line_kind(section), text);
-    match form {
-        Form::Fits => Numbered::Number(key_on(section, text)),
-        Form::Broken(column) => Numbered::Broken(column),
+    match forms::line_form(line_kind(section), text) {
+        Ok(()) => Numbered::Number(key_on(section, text)),
+        Err(column) => Numbered::Broken(column),
     }
 }
 
@@ -250,7 +245,7 @@ fn check_section(
     bahnhof: &[u8],
     m: &mut [u32],
     split: usize,
-) -> Checked
+) -> Result<(u32, u32), Offence>
     requires f_len_bound { length f.now ≤ most_file_bytes }
     requires days_le_most_period_days { days ≤ most_period_days }
     requires ready { Ready section f.now bahnhof.now split m.old }
@@ -261,6 +256,7 @@ fn check_section(
     let mut at: usize = 0;
     let mut no: u32 = 1;
     let mut count: u32 = 0;
+    // Kept: a walk over a file from line to line, no loop by an index
     while at < f.len() {
         if f[at] == b'\n' {
             at += 1;
@@ -279,7 +275,7 @@ fn check_section(
         let stop = cut.stop;
         let text = &f[at..stop];
         let n = number_on(section, text);
-        let own = line_verdict(
+        line_verdict(
             section,
             n,
             &f[0..at],
@@ -290,15 +286,12 @@ fn check_section(
             m,
             split,
             count,
-        );
-        if let Verdict::Offends(offence) = own {
-            return Checked::Refused(offence);
-        }
+        )?;
         count = put_number(n, m, split, count, at);
         at = cut.next;
         no = cut.no;
     }
-    Checked::Holds(count, no)
+    Ok((count, no))
 }
 
 // Puts the record of a line that starts at a place into the map from `split` on, which has so many, if the line holds one; how many there are then.
@@ -329,7 +322,7 @@ fn line_verdict(
     m: &[u32],
     split: usize,
     count: u32,
-) -> Verdict
+) -> Result<(), Offence>
     requires days_le_most_period_days { days ≤ most_period_days }
     requires n_value { n ≡ number_on section text.now }
     requires count_value { count ≡ length (numbers section (lines_of before.now)) }
@@ -338,9 +331,9 @@ fn line_verdict(
         line_verdict section days bahnhof.now before.now no text.now n }
 {
     match n {
-        Numbered::Skipped => Verdict::Fine,
+        Numbered::Skipped => Ok(()),
         Numbered::Broken(column) => {
-            Verdict::Offends(Offence {
+            Err(Offence {
                 number: 4,
                 line: no,
                 column,
@@ -355,7 +348,7 @@ fn line_verdict(
                     interchange_verdict(x, before, seen, no, bahnhof, &m[0..split], count)
                 }
                 // not asked for
-                Section::Classes => Verdict::Fine,
+                Section::Classes => Ok(()),
             }
         }
     }
@@ -369,7 +362,7 @@ fn field_verdict(
     text: &[u8],
     no: u32,
     days: u32,
-) -> Verdict
+) -> Result<(), Offence>
     requires days_le_most_period_days { days ≤ most_period_days }
     requires text_value { every is_hex (columns 8 103 text.now) ≡ true }
     requires seen { Seen BitFields (lines_of before.now) seen.now }
@@ -383,13 +376,19 @@ fn field_verdict(
         return timetable::offends(6, no);
     }
     if bitfield::is_framed(bitfield::hex_words(text), days) {
-        return Verdict::Fine;
+        return Ok(());
     }
     timetable::offends(8, no)
 }
 
 // 39, then the others: the name field is no name list.
-fn named_stop_verdict(number: u32, before: &[u8], seen: &[u32], text: &[u8], no: u32) -> Verdict
+fn named_stop_verdict(
+    number: u32,
+    before: &[u8],
+    seen: &[u32],
+    text: &[u8],
+    no: u32,
+) -> Result<(), Offence>
     requires { Seen Stops (lines_of before.now) seen.now }
     ensures { result ≡
         verdict_by (named_stop_offence (stops_in before.now) no text.now (numbered_stop number)) }
@@ -401,7 +400,7 @@ fn named_stop_verdict(number: u32, before: &[u8], seen: &[u32], text: &[u8], no:
 }
 
 // 7 or 6: a number that no stop has, seen earlier.
-fn stop_verdict(number: u32, before: &[u8], seen: &[u32], no: u32) -> Verdict
+fn stop_verdict(number: u32, before: &[u8], seen: &[u32], no: u32) -> Result<(), Offence>
     requires { Seen Stops (lines_of before.now) seen.now }
     ensures { result ≡ verdict_by (stop_offence (stops_in before.now) no (numbered_stop number)) }
 {
@@ -411,7 +410,7 @@ fn stop_verdict(number: u32, before: &[u8], seen: &[u32], no: u32) -> Verdict
     if has_number(Section::Stops, before, seen, number) {
         return timetable::offends(6, no);
     }
-    Verdict::Fine
+    Ok(())
 }
 
 // In UMSTEIGB the number that stands for all stops; no stop has it.
@@ -436,7 +435,7 @@ fn interchange_verdict(
     bahnhof: &[u8],
     stops: &[u32],
     count: u32,
-) -> Verdict
+) -> Result<(), Offence>
     requires count_value { count ≡ length (numbers Interchanges (lines_of before.now)) }
     requires seen { Seen Interchanges (lines_of before.now) seen.now }
     requires map_of { MapOf Stops bahnhof.now stops.now }
@@ -444,7 +443,7 @@ fn interchange_verdict(
 {
     if count == 0 {
         if number == ALL_STOPS {
-            return Verdict::Fine;
+            return Ok(());
         }
         return timetable::offends(7, no);
     }
@@ -452,7 +451,7 @@ fn interchange_verdict(
         return timetable::offends(6, no);
     }
     if known_stop(bahnhof, stops, number) {
-        return Verdict::Fine;
+        return Ok(());
     }
     timetable::offends(9, no)
 }

@@ -19,11 +19,9 @@ use Rattle.draft.specs.Inner.Draft.{DraftOf, part_in}
 use Rattle.draft.specs.declared.Counts.{Counts}
 use Rattle.draft.specs.declared.Drafted.{Drafted}
 use Rattle.reading.specs.Inner.Reading.{service_lines_at, ServiceRead, ReadAs}
-use Rattle.reading.specs.declared.Read.{Read}
-use Rattle.reading.specs.declared.Read.TheVariants.{Service as ReadService, Refused as ReadRefused}
+use Rattle.std.specs.Prelude.{Result, Ok, Err}
+use Rattle.reading.specs.declared.Taken.{Taken}
 use Rattle.service.specs.Inner.Answers.{CheckedAs, Counted, service_in, draft_first, check_by}
-use Rattle.service.specs.declared.ServiceCheck.{ServiceCheck}
-use Rattle.service.specs.declared.ServiceCheck.TheVariants.{Refused}
 
 -- ---- what the words lent hold is what the lines say
 
@@ -65,19 +63,19 @@ module _ {f : List ℕ} {at n : ℕ} {d : Drafted} {calls ranges : List ℕ} (r 
 
 -- ---- the needs of `check_service`, for `search serving`: x is what reading answered
 
-module _ (fields : List BitField) (stops : List StopRecord) (classes : List CategoryClass) (f : List ℕ) (at n : ℕ) (calls ranges : List ℕ) (x : Read) (e : ReadAs fields stops classes f at n x calls ranges) where
-  pub read-refused : (days : ℕ) (o : Offence) → x ≡ ReadRefused o → CheckedAs fields stops classes days f at n (Refused o)
+module _ (fields : List BitField) (stops : List StopRecord) (classes : List CategoryClass) (f : List ℕ) (at n : ℕ) (calls ranges : List ℕ) (x : Result Drafted Offence) (e : ReadAs fields stops classes f at n x calls ranges) where
+  pub read-refused : (days : ℕ) (o : Offence) → x ≡ Err o → CheckedAs fields stops classes days f at n (Err o)
   unfolding service_first ◌<|>◌
-  read-refused days o y = rw (subst (λ (x : Read). ReadAs fields stops classes f at n x calls ranges) y e) refl
+  read-refused days o y = rw (subst (λ (x : Result Drafted Offence). ReadAs fields stops classes f at n x calls ranges) y e) refl
 
-  module _ (d : Drafted) (y : x ≡ ReadService d) where
-    as-service : ReadAs fields stops classes f at n (ReadService d) calls ranges
-    as-service = subst (λ (x : Read). ReadAs fields stops classes f at n x calls ranges) y e
+  module _ (d : Drafted) (y : x ≡ Ok d) where
+    as-service : ReadAs fields stops classes f at n (Ok d) calls ranges
+    as-service = subst (λ (x : Result Drafted Offence). ReadAs fields stops classes f at n x calls ranges) y e
 
     pub read-counted : Counted d.counts calls ranges
     read-counted = counted as-service.1.draft
 
-    pub read-checked : (days : ℕ) (r : ServiceCheck) → r ≡ check_by (draft_first fields days d calls ranges) (service_in d calls ranges) d → CheckedAs fields stops classes days f at n r
+    pub read-checked : (days : ℕ) (r : Result Taken Offence) → r ≡ check_by (draft_first fields days d calls ranges) (service_in d calls ranges) d → CheckedAs fields stops classes days f at n r
     read-checked days r v =
         let s = as-service.1 in
         subst (CheckedAs fields stops classes days f at n) (sym v) (checked s fields stops classes days as-service.0 (draft_first fields days d calls ranges) (first-is s fields stops classes days as-service.0))

@@ -1,4 +1,5 @@
 -- 17 to 19 on the words of a service's *G and *A VE ranges, which are read back as its ranges. Assumes nothing.
+use Rattle.std.specs.Prelude.{Result, Ok, Err}
 use mathlib.Core.Path.{◌≡◌, refl, sym, ap, ◌∙◌}
 use mathlib.Core.List.{List, [], ◌∷◌, map, ◌++◌}
 use mathlib.Core.Bool.{Bool, true, false, cond}
@@ -25,8 +26,6 @@ use Rattle.timetable.specs.declared.Offence.{Offence}
 use Rattle.timetable.specs.declared.RangeKind.{RangeKind}
 use Rattle.timetable.specs.declared.RangeKind.TheVariants.{Category, Days}
 use Rattle.timetable.specs.declared.RangeLine.{RangeLine}
-use Rattle.timetable.specs.declared.Verdict.{Verdict}
-use Rattle.timetable.specs.declared.Verdict.TheVariants.{Fine, Offends}
 use Rattle.timetable.proofs.Offences.{verdict-fine, verdict-offends}
 use Rattle.timetable.proofs.Records.{categories-back, days-back}
 use Rattle.cover.specs.Inner.Cover.{legs_in, once_in, in_turn}
@@ -96,15 +95,15 @@ module _ (d : Drafted) (calls ranges : List ℕ) (n : ℕ) (m : n ≡ ranges# d.
   unfolding drafted_service
   days-written = rw m (sym (days-part cs (ranges_in (ranges# d.counts) ranges)))
 
-  module _ (u : Verdict) (e : u ≡ verdict_by (ends_first (calls_in d.counts.calls calls) (ranges_on n ranges))) where
+  module _ (u : Result (Unit {0}) Offence) (e : u ≡ verdict_by (ends_first (calls_in d.counts.calls calls) (ranges_on n ranges))) where
     ends-said : u ≡ verdict_by (ends_first (calls_in d.counts.calls calls) (ranges_on (ranges# d.counts) ranges))
     ends-said = e ∙ rw m refl
 
-    pub ends-offend : (fields : List BitField) (days : ℕ) (o : Offence) → u ≡ Offends o → u ≡ verdict_by (ranges_first fields days d calls ranges)
+    pub ends-offend : (fields : List BitField) (days : ℕ) (o : Offence) → u ≡ Err o → u ≡ verdict_by (ranges_first fields days d calls ranges)
     unfolding ◌<|>◌
     ends-offend fields days o y = y ∙ rw (verdict-offends (ends_first (calls_in d.counts.calls calls) (ranges_on (ranges# d.counts) ranges)) u ends-said o y) refl
 
-    module _ (h : Counted d.counts calls ranges) (y : u ≡ Fine) where
+    module _ (h : Counted d.counts calls ranges) (y : u ≡ Ok tt) where
       found : EndsFound d calls ranges
       found = verdict-fine (ends_first (calls_in d.counts.calls calls) (ranges_on (ranges# d.counts) ranges)) u ends-said y
 
@@ -120,7 +119,7 @@ module _ (d : Drafted) (calls ranges : List ℕ) (n : ℕ) (m : n ≡ ranges# d.
           ∙ ap (λ (g : ℕ). rows_in day_at day_size g (gathered day_words s.days ++ drop (length (part_words Days cs rs)) t)) (sym (days-are d calls ranges h found))
           ∙ days-back s.days (drop (length (part_words Days cs rs)) t)
 
-      pub legs-told : (fields : List BitField) (days : ℕ) (t w t' w' : List ℕ) (r : Verdict)
+      pub legs-told : (fields : List BitField) (days : ℕ) (t w t' w' : List ℕ) (r : Result (Unit {0}) Offence)
           → PartFound u Category (calls_in d.counts.calls calls) (ranges_in n ranges) t w
           → PartFound u Days (calls_in d.counts.calls calls) (ranges_in n ranges) t' w'
           → r ≡ verdict_by (rows_first fields days d.line (d.counts.calls - 1) (rows_in category_at category_size d.counts.categories w) (rows_in day_at day_size d.counts.days w'))
@@ -133,7 +132,7 @@ pub ruleset parting = (tests, ranges-most, calls-room, ranges-room, categories-r
 
 -- ---- the needs of `legs_wrong`, for `search naming`: b is what `each_once` said of the *G ranges, r what is answered
 
-module _ (w : List ℕ) (g legs : ℕ) (b : Bool) (e : b ≡ every (once_in category_size g w) (below legs)) (fields : List BitField) (days line : ℕ) (rs : List DayRange) (r : Verdict) where
+module _ (w : List ℕ) (g legs : ℕ) (b : Bool) (e : b ≡ every (once_in category_size g w) (below legs)) (fields : List BitField) (days line : ℕ) (rs : List DayRange) (r : Result (Unit {0}) Offence) where
   pub legs-then : b ≡ true → r ≡ verdict_by (days_first fields days line legs rs) → r ≡ verdict_by (rows_first fields days line legs (rows_in category_at category_size g w) rs)
   unfolding ◌<|>◌
   legs-then y z = z ∙ rw (sym (categories-once g legs w) ∙ sym e ∙ y) refl
@@ -161,16 +160,16 @@ module _ (w : List ℕ) (v legs : ℕ) (t : Bool) (e : t ≡ every (once_in day_
   once-each y = sym (days-once v legs w) ∙ sym e ∙ y
 
   module _ (fields : List BitField) (days line : ℕ) where
-    pub once-not : (r : Verdict) → t ≡ false → r ≡ verdict_by (some (offence_at 18 line)) → r ≡ verdict_by (days_first fields days line legs (rows_in day_at day_size v w))
+    pub once-not : (r : Result (Unit {0}) Offence) → t ≡ false → r ≡ verdict_by (some (offence_at 18 line)) → r ≡ verdict_by (days_first fields days line legs (rows_in day_at day_size v w))
     unfolding ◌<|>◌
     once-not r y k = k ∙ rw (sym (days-once v legs w) ∙ sym e ∙ y) refl
 
     module _ (y : t ≡ true) (s : Bool) (f : s ≡ rows_torn fields days legs (rows_in day_at day_size v w)) where
-      pub torn-yes : (r : Verdict) → s ≡ true → r ≡ verdict_by (some (offence_at 19 line)) → r ≡ verdict_by (days_first fields days line legs (rows_in day_at day_size v w))
+      pub torn-yes : (r : Result (Unit {0}) Offence) → s ≡ true → r ≡ verdict_by (some (offence_at 19 line)) → r ≡ verdict_by (days_first fields days line legs (rows_in day_at day_size v w))
       unfolding ◌<|>◌
       torn-yes r x k = k ∙ rw (once-each y, sym f ∙ x) refl
 
-      pub torn-not : s ≡ false → Fine ≡ verdict_by (days_first fields days line legs (rows_in day_at day_size v w))
+      pub torn-not : s ≡ false → Ok tt ≡ verdict_by (days_first fields days line legs (rows_in day_at day_size v w))
       unfolding ◌<|>◌
       torn-not x = rw (once-each y, sym f ∙ x) refl
 

@@ -10,30 +10,28 @@ use Rattle.timetable.specs.Delivery.{BitField}
 use Rattle.timetable.specs.Offences.{◌<|>◌, offence_at, verdict_by}
 use Rattle.timetable.specs.Checks.{times_first, ends_first, legs_first}
 use Rattle.timetable.specs.declared.Offence.{Offence}
-use Rattle.timetable.specs.declared.Verdict.{Verdict}
-use Rattle.timetable.specs.declared.Verdict.TheVariants.{Fine, Offends}
 use Rattle.timetable.proofs.Offences.{then-none, verdict-fine, verdict-offends}
 use Rattle.draft.specs.Inner.Draft.{calls_on, calls_in, ranges_on, ranges#}
 use Rattle.draft.specs.declared.Drafted.{Drafted}
 use Rattle.service.specs.Inner.Answers.{Counted, service_in, ranges_first, draft_first, check_by}
-use Rattle.service.specs.declared.ServiceCheck.TheVariants.{Takes, Refused}
+use Rattle.std.specs.Prelude.{Ok, Err, Result}
 use Rattle.service.proofs.Size.{EndsFound, size_is}
 use Rattle.service.proofs.Legs.{calls-room}
 
 -- ---- 14, 15, and what is left, for `search drafting`: v and u are what the checks of times and of ranges answered
 
 module _ (fields : List BitField) (days : ℕ) (d : Drafted) (calls ranges : List ℕ) where
-  pub draft-short : (o : Offence) → d.counts.calls < 2 → o ≡ offence_at 14 d.line → Refused o ≡ check_by (draft_first fields days d calls ranges) (service_in d calls ranges) d
+  pub draft-short : (o : Offence) → d.counts.calls < 2 → o ≡ offence_at 14 d.line → Err o ≡ check_by (draft_first fields days d calls ranges) (service_in d calls ranges) d
   unfolding ◌<|>◌
   draft-short o h e = rw (lt-ltb d.counts.calls 2 h, e) refl
 
-  module _ (two : 2 ≤ d.counts.calls) (v : Verdict) (e : v ≡ verdict_by (times_first d.counts.calls 0 0 (calls_on d.counts.calls calls))) where
-    pub draft-times : (o : Offence) → v ≡ Offends o → Refused o ≡ check_by (draft_first fields days d calls ranges) (service_in d calls ranges) d
+  module _ (two : 2 ≤ d.counts.calls) (v : Result (Unit {0}) Offence) (e : v ≡ verdict_by (times_first d.counts.calls 0 0 (calls_on d.counts.calls calls))) where
+    pub draft-times : (o : Offence) → v ≡ Err o → Err o ≡ check_by (draft_first fields days d calls ranges) (service_in d calls ranges) d
     unfolding ◌<|>◌
     draft-times o y = rw (le-ltb d.counts.calls 2 two, verdict-offends (times_first d.counts.calls 0 0 (calls_on d.counts.calls calls)) v e o y) refl
 
-    module _ (y : v ≡ Fine) (u : Verdict) (f : u ≡ verdict_by (ranges_first fields days d calls ranges)) where
-      pub draft-ranges : (o : Offence) → u ≡ Offends o → Refused o ≡ check_by (draft_first fields days d calls ranges) (service_in d calls ranges) d
+    module _ (y : v ≡ Ok tt) (u : Result (Unit {0}) Offence) (f : u ≡ verdict_by (ranges_first fields days d calls ranges)) where
+      pub draft-ranges : (o : Offence) → u ≡ Err o → Err o ≡ check_by (draft_first fields days d calls ranges) (service_in d calls ranges) d
       unfolding ◌<|>◌
       draft-ranges o z =
           rw (
@@ -42,8 +40,8 @@ module _ (fields : List BitField) (days : ℕ) (d : Drafted) (calls ranges : Lis
             verdict-offends (ranges_first fields days d calls ranges) u f o z,
           ) refl
 
-      pub draft-takes : (z : ℕ) → Counted d.counts calls ranges → u ≡ Fine → z ≡ record_size d.counts.calls d.counts.categories d.counts.days d.counts.extras
-          → Takes z d.end d.no ≡ check_by (draft_first fields days d calls ranges) (service_in d calls ranges) d
+      pub draft-takes : (z : ℕ) → Counted d.counts calls ranges → u ≡ Ok tt → z ≡ record_size d.counts.calls d.counts.categories d.counts.days d.counts.extras
+          → Ok (record { words = z; end = d.end; no = d.no }) ≡ check_by (draft_first fields days d calls ranges) (service_in d calls ranges) d
       unfolding ◌<|>◌
       draft-takes z h x k =
           let none_of : ranges_first fields days d calls ranges ≡ none = verdict-fine (ranges_first fields days d calls ranges) u f x in

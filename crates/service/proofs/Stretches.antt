@@ -24,8 +24,7 @@ use Rattle.timetable.specs.Inner.Words.{day_read}
 use Rattle.timetable.specs.declared.DayWords.{DayWords}
 use Rattle.sections.specs.Inner.Sections.{words_by, words_of}
 use Rattle.cover.specs.Inner.Cover.{cover_place_from}
-use Rattle.cover.specs.declared.FirstRange.{FirstRange}
-use Rattle.cover.specs.declared.FirstRange.TheVariants.{At, Nowhere}
+use Rattle.std.specs.Prelude.{Option as StdOption, Some, None}
 use Rattle.cover.proofs.Rows.{row_at, first_row, place-fits}
 use Rattle.service.specs.Inner.Answers.{rows_broken, rows_torn}
 
@@ -191,11 +190,11 @@ module _ (fields : List BitField) (b : ℕ) (r : List ℕ) where
 
 -- ---- the first of v ranges (bit field, from, to) in w that covers a leg; x is its place
 
-module _ (w : List ℕ) (v leg : ℕ) (x : FirstRange) (e : x ≡ cover_place_from leg day_size 0 v w) where
+module _ (w : List ℕ) (v leg : ℕ) (x : StdOption ℕ) (e : x ≡ cover_place_from leg day_size 0 v w) where
   first_found : find (λ (r : DayRange). covers leg r.legs) (rows_in day_at day_size v w) ≡ row_at day_at (λ (r : DayRange). r.legs) day_size (λ w. refl) w x
   first_found = first_row day_at (λ (r : DayRange). r.legs) day_size (λ w. refl) leg v w ∙ ap (row_at day_at (λ (r : DayRange). r.legs) day_size (λ w. refl) w) (sym e)
 
-  module _ (p : ℕ) (q : x ≡ At p) where
+  module _ (p : ℕ) (q : x ≡ Some p) where
     abbrev row : DayRange
     row = day_at (drop p w)
 
@@ -247,13 +246,13 @@ module _ (fields : List BitField) (w : List ℕ) (v legs : ℕ) where
         ∙ two-stretches (map (operated fields rs d) (below legs));
   }
 
-  module _ (leg : ℕ) (x : FirstRange) (once : each_once (λ (r : DayRange). r.legs) legs (rows_in day_at day_size v w) ≡ true) (e : x ≡ cover_place_from leg day_size 0 v w) where
+  module _ (leg : ℕ) (x : StdOption ℕ) (once : each_once (λ (r : DayRange). r.legs) legs (rows_in day_at day_size v w) ≡ true) (e : x ≡ cover_place_from leg day_size 0 v w) where
     -- each leg is covered
-    pub sweep-covered : (broken : List ℕ) → leg < legs → x ≡ Nowhere → (d : ℕ) → d < most_period_days → bit broken (d + 2) ≡ rows_broken fields legs (rows_in day_at day_size v w) d
+    pub sweep-covered : (broken : List ℕ) → leg < legs → x ≡ None → (d : ℕ) → d < most_period_days → bit broken (d + 2) ≡ rows_broken fields legs (rows_in day_at day_size v w) d
     sweep-covered broken h n d g =
         absurd (omega (arith, covered w v legs once leg h, none_found (λ (r : DayRange). covers leg r.legs) rs (first_found w v leg x e ∙ ap (row_at day_at (λ (r : DayRange). r.legs) day_size (λ w. refl) w) n)))
 
-    module _ (p : ℕ) (q : x ≡ At p) (range : DayWords) (read : range ≡ day_read (day_at (drop p w))) where
+    module _ (p : ℕ) (q : x ≡ Some p) (range : DayWords) (read : range ≡ day_read (day_at (drop p w))) where
       past : leg < range.to
       past = row-past w v leg x e p q range read
 

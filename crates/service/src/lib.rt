@@ -19,26 +19,19 @@ ghost use Rattle.reading.specs.Inner.Reading.{Boundary};
 ghost use Rattle.service.specs.Inner.Answers.{CheckedAs, Counted, service_in, draft_first, check_by};
 ghost use Rattle.service.specs.Inner.Answers.{ranges_first, rows_first, days_first, rows_broken, rows_torn};
 
-use cover::FirstRange;
 use draft::{Counts, Drafted};
-use reading::Read;
+use reading::Taken;
 use timetable::{
     BIT_WORDS, CALL_WORDS, CATEGORY_WORDS, DAYS_WORDS, EXTRA_WORDS, MOST_CATEGORIES, MOST_DAYS,
-    Offence, SERVICE_WORDS, Verdict,
+    Offence, SERVICE_WORDS,
 };
 
 pub mod schedule;
 
-// What checking a service answers: the words that it takes and where the next service begins (the place and the number of its opening line, or of
-// the file's end); or its first offence.
-#[derive(Clone, Copy)]
-pub enum ServiceCheck {
-    Takes { words: u32, end: usize, no: u32 },
-    Refused(Offence),
-}
-
 // The service that begins at a place, with line `no`: every line's own checks, then 14 to 19. `fields` and `stops` are the maps of BITFELD and
-// BAHNHOF, `index` is the index of ZUGART; `calls` and `ranges` are lent for its draft.
+// BAHNHOF, `index` is the index of ZUGART; `calls` and `ranges` are lent for its draft. The words that it takes and where the next begins, or its first
+// offence.
+#[tactic(auto, using(crate::proofs::Drafts::serving))]
 pub fn check_service(
     fplan: &[u8],
     at: usize,
@@ -52,7 +45,7 @@ pub fn check_service(
     days: u32,
     calls: &mut [u32],
     ranges: &mut [u32],
-) -> ServiceCheck
+) -> Result<Taken, Offence>
     requires at_in_bounds { (at < length fplan.now) × (days ≤ most_period_days) × (calls_lent ≤ length calls.old)
         × (ranges_lent ≤ length ranges.old) }
     requires boundary { Boundary fplan.now at no }
@@ -61,17 +54,15 @@ pub fn check_service(
     ensures { CheckedAs (bit_fields_in bitfeld.now) (stops_in bahnhof.now)
         (classes_in zugart.now) days fplan.now at no result }
 {
-    let read = reading::read_checked(
+    let d = reading::read_checked(
         fplan, at, no, bitfeld, fields, bahnhof, stops, zugart, index, calls, ranges,
-    );
-    match read {
-        Read::Refused(offence) => ServiceCheck::Refused(offence),
-        Read::Service(d) => draft_checks(d, calls, ranges, bitfeld, fields, days),
-    }
+    )?;
+    draft_checks(d, calls, ranges, bitfeld, fields, days)
 }
 
 // ---- 14 to 19 of a drafted service
 
+#[tactic(auto, using(crate::proofs::Order::drafting))]
 fn draft_checks(
     d: Drafted,
     calls: &[u32],
@@ -79,7 +70,7 @@ fn draft_checks(
     bitfeld: &[u8],
     fields: &[u32],
     days: u32,
-) -> ServiceCheck
+) -> Result<Taken, Offence>
     requires counted { Counted d.counts calls.now ranges.now }
     requires days_le_most_period_days { days ≤ most_period_days }
     requires field_map { FieldMap bitfeld.now fields.now }
@@ -90,19 +81,19 @@ fn draft_checks(
     let counts = d.counts;
     let c = counts.calls;
     if c < 2 {
-        return ServiceCheck::Refused(timetable::offence_at(14, d.line));
+        return Err(timetable::offence_at(14, d.line));
     }
-    if let Verdict::Offends(offence) = schedule::times_wrong(calls, c) {
-        return ServiceCheck::Refused(offence);
+    if let Err(offence) = schedule::times_wrong(calls, c) {
+        return Err(offence);
     }
-    if let Verdict::Offends(offence) = ranges_wrong(d, calls, ranges, bitfeld, fields, days) {
-        return ServiceCheck::Refused(offence);
+    if let Err(offence) = ranges_wrong(d, calls, ranges, bitfeld, fields, days) {
+        return Err(offence);
     }
-    ServiceCheck::Takes {
+    Ok(Taken {
         words: words_of(counts),
         end: d.end,
         no: d.no,
-    }
+    })
 }
 
 // The words that so many calls and ranges take.
@@ -125,7 +116,7 @@ fn ranges_wrong(
     bitfeld: &[u8],
     fields: &[u32],
     days: u32,
-) -> Verdict
+) -> Result<(), Offence>
     requires counted { Counted d.counts calls.now ranges.now }
     requires le_calls { (2 ≤ d.counts.calls) × (days ≤ most_period_days) }
     requires field_map { FieldMap bitfeld.now fields.now }
@@ -136,17 +127,14 @@ fn ranges_wrong(
     let n = draft::range_count(counts);
     let mut categories = [0u32; CATEGORY_WORDS * MOST_CATEGORIES as usize];
     let mut operating = [0u32; DAYS_WORDS * MOST_DAYS as usize];
-    let ends = schedule::find_ends(
+    schedule::find_ends(
         ranges,
         n,
         calls,
         counts.calls,
         &mut categories,
         &mut operating,
-    );
-    let Verdict::Fine = ends else {
-        return ends;
-    };
+    )?;
     legs_wrong(
         &categories,
         &operating,
@@ -167,7 +155,7 @@ fn legs_wrong(
     bitfeld: &[u8],
     fields: &[u32],
     days: u32,
-) -> Verdict
+) -> Result<(), Offence>
     requires category_size_in_bounds { (counts.categories * category_size ≤ length categories.now)
         × (counts.days * day_size ≤ length operating.now) }
     requires le_calls { (2 ≤ counts.calls) × (days ≤ most_period_days) }
@@ -192,7 +180,7 @@ fn days_wrong(
     bitfeld: &[u8],
     fields: &[u32],
     days: u32,
-) -> Verdict
+) -> Result<(), Offence>
     requires day_size_in_bounds { (v * day_size ≤ length ranges.now) × (days ≤ most_period_days) }
     requires field_map { FieldMap bitfeld.now fields.now }
     ensures { result ≡ verdict_by (days_first (bit_fields_in bitfeld.now) days line legs
@@ -202,7 +190,7 @@ fn days_wrong(
         if two_stretches(ranges, v, legs, bitfeld, fields, days) {
             return timetable::offends(19, line);
         }
-        return Verdict::Fine;
+        return Ok(());
     }
     timetable::offends(18, line)
 }
@@ -257,8 +245,9 @@ fn torn_days(ranges: &[u32], v: u32, legs: u32, bitfeld: &[u8], fields: &[u32]) 
     let mut ended = bitfield::no_bits();
     let mut broken = bitfield::no_bits();
     let mut leg: u32 = 0;
+    // Kept: a walk from range to range, no loop by an index
     while leg < legs {
-        let FirstRange::At(place) = cover::covering_place(ranges, v, DAYS_WORDS, leg) else {
+        let Some(place) = cover::covering_place(ranges, v, DAYS_WORDS, leg) else {
             return broken;
         };
         let range = timetable::day_at(ranges, place);

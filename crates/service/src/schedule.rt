@@ -10,9 +10,7 @@ ghost use Rattle.range_words.specs.Inner.Parts.{range_gives, part_words};
 ghost use Rattle.words.specs.Words.{write};
 ghost use Rattle.service.specs.Inner.Answers.{PartFound, row_by};
 
-use draft::{DRAFT_CALL_WORDS, DRAFT_RANGE_WORDS};
-use route::RangeFound;
-use timetable::{Call, RangeKind, Verdict};
+use timetable::{Call, Offence, RangeKind};
 
 // The places after the *G ranges and after the *A VE ranges that are written.
 #[derive(Clone, Copy)]
@@ -21,36 +19,28 @@ struct RowEnds {
     pub operating: usize,
 }
 
-// Where they are after one range more, or that its ends are not found, or are in wrong order.
-#[derive(Clone, Copy)]
-enum RangeRow {
-    Written(RowEnds),
-    Missing,
-}
-
 // ---- 15
 
 // The first of c calls whose times are missing or fall.
-pub fn times_wrong(calls: &[u32], c: u32) -> Verdict
+#[tactic(auto, using(crate::proofs::schedule::Times::timed))]
+pub fn times_wrong(calls: &[u32], c: u32) -> Result<(), Offence>
     requires { draft_call * c ≤ length calls.now }
     ensures { result ≡ verdict_by (times_first c 0 0 (calls_on c calls.now)) }
 {
-    let mut i: u32 = 0;
-    let mut at: usize = 0;
     let mut before: u32 = 0;
-    while i < c {
+    for i in 0..c {
+        let at = draft::call_start(i);
         let call = draft::call_at(calls, at);
         if !times_fit(c, i, before, call) {
             return timetable::offends(15, draft::call_line(calls, at));
         }
         before = last_stated(before, call);
-        at += DRAFT_CALL_WORDS;
-        i += 1;
     }
-    Verdict::Fine
+    Ok(())
 }
 
 // Whether the i-th call of c states the times that it needs, and none of them falls after `before`, the time stated last.
+#[tactic(auto, using(crate::proofs::schedule::Times::fitting))]
 fn times_fit(c: u32, i: u32, before: u32, call: Call) -> bool
     requires { i < c }
     ensures { result ≡ (times_stated c i call && times_rise before call) }
@@ -60,6 +50,7 @@ fn times_fit(c: u32, i: u32, before: u32, call: Call) -> bool
     stated && rise
 }
 
+#[tactic(auto, using(crate::proofs::schedule::Times::fitting))]
 fn times_stated(c: u32, i: u32, call: Call) -> bool
     requires { i < c }
     ensures { result ≡ times_stated c i call }
@@ -79,6 +70,7 @@ fn stated_or(free: bool, stated: bool) -> bool
     stated
 }
 
+#[tactic(auto, using(crate::proofs::schedule::Times::fitting))]
 fn times_rise(before: u32, call: Call) -> bool
     ensures { result ≡ times_rise before call }
 {
@@ -122,6 +114,7 @@ fn later(stated: bool, time: u32, before: u32) -> u32
 
 // Finds the ends of n ranges among the c calls, each once: the first range whose ends are not found, or are in wrong order; or, if there is none, the
 // words of the *G ranges in `categories` and those of the *A VE ranges in `operating`.
+#[tactic(auto, using(crate::proofs::schedule::Ends::ended))]
 pub fn find_ends(
     ranges: &[u32],
     n: u32,
@@ -129,7 +122,7 @@ pub fn find_ends(
     c: u32,
     categories: &mut [u32],
     operating: &mut [u32],
-) -> Verdict
+) -> Result<(), Offence>
     requires n_in_bounds { (draft_range * n ≤ length ranges.now) × (draft_call * c ≤ length calls.now) }
     requires ranges_in_bounds { length (part_words Category (calls_in c calls.now) (ranges_in n ranges.now)) ≤ length
         categories.old }
@@ -140,25 +133,23 @@ pub fn find_ends(
     ensures part_found_2 { PartFound result Days (calls_in c calls.now) (ranges_in n ranges.now)
         operating.old operating.new }
 {
-    let mut i: u32 = 0;
-    let mut at: usize = 0;
     let mut ends = RowEnds {
         categories: 0,
         operating: 0,
     };
-    while i < n {
-        let row = range_into(ranges, at, calls, c, categories, operating, ends);
-        let RangeRow::Written(after) = row else {
+    for i in 0..n {
+        let at = draft::range_start(i);
+        let Some(after) = range_into(ranges, at, calls, c, categories, operating, ends) else {
             return timetable::offends(16, draft::range_line(ranges, at));
         };
         ends = after;
-        at += DRAFT_RANGE_WORDS;
-        i += 1;
     }
-    Verdict::Fine
+    Ok(())
 }
 
-// Finds the ends of the range at a place, and writes its words behind those of its kind: of other *A none are.
+// Finds the ends of the range at a place, and writes its words behind those of its kind: of other *A none are. Where those then end, or nothing where the
+// range's ends are not found, or are in wrong order.
+#[tactic(auto, using(crate::proofs::schedule::Ends::finding))]
 fn range_into(
     ranges: &[u32],
     at: usize,
@@ -167,7 +158,7 @@ fn range_into(
     categories: &mut [u32],
     operating: &mut [u32],
     ends: RowEnds,
-) -> RangeRow
+) -> Option<RowEnds>
     requires draft_range_in_bounds { (at + draft_range ≤ length ranges.now) × (draft_call * c ≤ length calls.now) }
     requires ranges_in_bounds { ends.categories + length
         (range_gives Category (calls_in c calls.now) (line_back (drop at ranges.now))) ≤ length categories.old }
@@ -180,12 +171,10 @@ fn range_into(
         (range_gives Days (calls_in c calls.now) (line_back (drop at ranges.now))) }
 {
     let range = draft::range_at(ranges, at);
-    let RangeFound::Between(from, to) = route::legs_on(calls, c, range) else {
-        return RangeRow::Missing;
-    };
+    let (from, to) = route::legs_on(calls, c, range)?;
     let category = ends.categories;
     let day = ends.operating;
-    RangeRow::Written(RowEnds {
+    Some(RowEnds {
         categories: range_words::row_into(
             RangeKind::Category,
             range,

@@ -22,6 +22,7 @@ use Rattle.index.proofs.Agrees.{view-plain}
 use Rattle.table.proofs.Says.{head-word, record-says, record-sized, call-says}
 use Rattle.writable.specs.Writable.{call_writable}
 use Rattle.service_lines.specs.Inner.Record.{shown_call, call_rows, Standing}
+use Rattle.service_lines.proofs.Left.{rounds}
 
 -- a call c was read at p, and n is its stop's number
 module _ (w s : List ℕ) (p : ℕ) (c : Call) (e : c ≡ call_at (drop p s)) where
@@ -71,13 +72,17 @@ module _ (n : ℕ) (s : List ℕ) (p k : ℕ) (h : 0 < k) (v : every (call_sound
   pub sound-now : call_sound n (call_at (drop p s)) ≡ true
   sound-now = both.0
 
-  pub sound-left : every (call_sound n) (rows_in call_at call_size (k - 1) (drop (p + call_size) s)) ≡ true
-  sound-left = both.1
+  pub sound-left : (j : ℕ) → j + 1 ≡ k → every (call_sound n) (rows_in call_at call_size j (drop (p + call_size) s)) ≡ true
+  sound-left j o =
+      let d : k - 1 ≡ j = omega arith in
+      rw d at both.1
 
 -- c is the call at p with its stop's number, x says whether it can be written
 module _ (stops : List StopRecord) (s : List ℕ) (p k : ℕ) (r x : Bool) (c : Call) (h : 0 < k) (d : c ≡ shown_call stops (drop p s)) (e : x ≡ call_writable c) (v : every call_writable (rows_in (shown_call stops) call_size k (drop p s)) ≡ r) where
-  pub calls-again : not x ≡ false → every call_writable (rows_in (shown_call stops) call_size (k - 1) (drop (p + call_size) s)) ≡ r
-  calls-again = rows-again call_writable (shown_call stops) call_size s p k r x h (e ∙ ap call_writable d) v
+  pub calls-again : (j : ℕ) → j + 1 ≡ k → not x ≡ false → every call_writable (rows_in (shown_call stops) call_size j (drop (p + call_size) s)) ≡ r
+  calls-again j o n =
+      let f : k - 1 ≡ j = omega arith in
+      rw f at (rows-again call_writable (shown_call stops) call_size s p k r x h (e ∙ ap call_writable d) v n)
 
   pub calls-out : not x ≡ true → false ≡ r
   calls-out = rows_out call_writable (shown_call stops) call_size s p k r x h (e ∙ ap call_writable d) v
@@ -85,4 +90,4 @@ module _ (stops : List StopRecord) (s : List ℕ) (p k : ℕ) (r x : Bool) (c : 
 pub calls-done : (stops : List StopRecord) (s : List ℕ) (k : ℕ) (r : Bool) → k ≤ 0 → every call_writable (rows_in (shown_call stops) call_size k s) ≡ r → true ≡ r
 calls-done stops s k r = rows-done call_writable (shown_call stops) call_size s k r
 
-pub ruleset calls = (tests, calls-just, calls-head, calls-start, calls-sound, calls-all, sound-now, sound-left, calls-again, calls-out, calls-done)
+pub ruleset calls = (tests, rounds, calls-just, calls-head, calls-start, calls-sound, calls-all, sound-now, sound-left, calls-again, calls-out, calls-done)

@@ -1,3 +1,4 @@
+pub mod Left
 pub mod Parts
 pub mod Calls
 pub mod Services

@@ -20,6 +20,7 @@ use Rattle.table.specs.JustTable.{record_end}
 use Rattle.table.proofs.Says.{sizes-say, head-word}
 use Rattle.writable.specs.Writable.{name_writable, code_writable, field_writable}
 use Rattle.service_lines.specs.Inner.Record.{range_size, part_count, part_place, here, part_rows, range_writable}
+use Rattle.service_lines.proofs.Left.{rounds}
 
 -- ---- where a part stands
 
@@ -99,12 +100,16 @@ module _ (p : RangeKind) (s : List ℕ) (q k : ℕ) (h : 0 < k) (v : q + range_s
     pub ranges-place : length s < 2 ^ 64 → q + z < 2 ^ 64
     ranges-place l = omega (arith, f, ranges-now)
 
-    pub ranges-left : q + z + range_size p * (k - 1) ≤ length s
-    ranges-left = omega (arith, f, stride-turn (range_size p) k h)
+    pub ranges-left : (j : ℕ) → j + 1 ≡ k → q + z + range_size p * j ≤ length s
+    ranges-left j o =
+        let e : k - 1 ≡ j = omega arith in
+        omega (arith, f, rw e at (stride-turn (range_size p) k h))
 
 module _ (p : RangeKind) (s : List ℕ) (q k : ℕ) (r x : Bool) (h : 0 < k) (e : x ≡ range_writable p (drop q s)) (v : every (range_writable p) (rows_in here (range_size p) k (drop q s)) ≡ r) where
-  pub ranges-again : (z : ℕ) → z ≡ range_size p → not x ≡ false → every (range_writable p) (rows_in here (range_size p) (k - 1) (drop (q + z) s)) ≡ r
-  ranges-again z f n = rw f (rows-again (range_writable p) here (range_size p) s q k r x h e v n)
+  pub ranges-again : (z j : ℕ) → z ≡ range_size p → j + 1 ≡ k → not x ≡ false → every (range_writable p) (rows_in here (range_size p) j (drop (q + z) s)) ≡ r
+  ranges-again z j f o n =
+      let d : k - 1 ≡ j = omega arith in
+      rw f (rw d at (rows-again (range_writable p) here (range_size p) s q k r x h e v n))
 
   pub ranges-out : not x ≡ true → false ≡ r
   ranges-out = rows_out (range_writable p) here (range_size p) s q k r x h e v
@@ -112,4 +117,4 @@ module _ (p : RangeKind) (s : List ℕ) (q k : ℕ) (r x : Bool) (h : 0 < k) (e 
 pub ranges-done : (p : RangeKind) (s : List ℕ) (k : ℕ) (r : Bool) → k ≤ 0 → every (range_writable p) (rows_in here (range_size p) k s) ≡ r → true ≡ r
 ranges-done p s k r = rows-done (range_writable p) here (range_size p) s k r
 
-pub ruleset ranges = (tests, ranges-start, ranges-all, ranges-now, ranges-place, ranges-left, ranges-again, ranges-out, ranges-done)
+pub ruleset ranges = (tests, rounds, ranges-start, ranges-all, ranges-now, ranges-place, ranges-left, ranges-again, ranges-out, ranges-done)

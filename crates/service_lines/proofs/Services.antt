@@ -24,6 +24,7 @@ use Rattle.table.proofs.Records.{rest-is, one-record, first_word}
 use Rattle.plan_services.specs.Services.{service_lines, rest_lines, plan_lines}
 use Rattle.writable.specs.Writable.{opening_writable, category_writable, days_writable, extra_writable, call_writable, service_writable}
 use Rattle.service_lines.specs.Inner.Record.{here, part_rows, range_writable, call_rows, shown, Standing}
+use Rattle.service_lines.proofs.Left.{rounds}
 
 -- ---- what a record shows, by its rows
 
@@ -130,17 +131,21 @@ module _ (w : List ℕ) (at k : ℕ) (h : 0 < k) (v : records_sound (stops# w) k
   pub records-place : at ≤ length w → (y : ℕ) → y ≡ get_or w at 0 → length w < 2 ^ 64 → at + y < 2 ^ 64
   records-place i y q l = omega (arith, records-fit i y q)
 
-  pub records-left : (y : ℕ) → y ≡ get_or w at 0 → records_sound (stops# w) (k - 1) (drop (at + y) w) ≡ true
-  records-left y q = rw (first_word w at, ← q, drop-drop y at w) at both.1
+  pub records-left : (y j : ℕ) → y ≡ get_or w at 0 → j + 1 ≡ k → records_sound (stops# w) j (drop (at + y) w) ≡ true
+  records-left y j q o =
+      let d : k - 1 ≡ j = omega arith in
+      rw (first_word w at, ← q, drop-drop y at w, d) at both.1
 
   pub shown-now : (y : ℕ) → y ≡ get_or w at 0 → shown_from w k at ≡ shown w (take (length w - at) (drop at w)) ∷ shown_from w (k - 1) (at + y)
   shown-now y q = rw (one-service k (drop at w) h, rest-is w at, first_word w at, ← q, drop-drop y at w)
 
 -- x says whether the service at `at` can be written
 module _ (w : List ℕ) (at k : ℕ) (r x : Bool) (h : 0 < k) (i : records_sound (stops# w) k (drop at w) ≡ true) (e : x ≡ service_writable (shown w (take (length w - at) (drop at w)))) (v : every service_writable (shown_from w k at) ≡ r) where
-  pub services-again : (y : ℕ) → y ≡ get_or w at 0 → not x ≡ false → every service_writable (shown_from w (k - 1) (at + y)) ≡ r
+  pub services-again : (y j : ℕ) → y ≡ get_or w at 0 → j + 1 ≡ k → not x ≡ false → every service_writable (shown_from w j (at + y)) ≡ r
   unfolding every
-  services-again y q n = rw (shown-now w at k h i y q, sym e ∙ not-false x n) at v
+  services-again y j q o n =
+      let d : k - 1 ≡ j = omega arith in
+      rw (shown-now w at k h i y q, sym e ∙ not-false x n, d) at v
 
   pub services-out : not x ≡ true → false ≡ r
   unfolding every
@@ -156,7 +161,7 @@ services-all w j at k p q = ap (every service_writable) (shown-all w j at k p q)
 pub start-place : (w : List ℕ) → JustTable w → (at : ℕ) → at ≡ services_place w → at ≤ length w
 start-place w j at p = omega (arith, services-start w j)
 
-pub ruleset services = (tests, just-word, start-place, services-here, services-all, standing, records-inside, records-fit, records-left, services-again, services-out, services-done)
+pub ruleset services = (tests, rounds, just-word, start-place, services-here, services-all, standing, records-inside, records-fit, records-left, services-again, services-out, services-done)
 
 -- ---- how many lines a service has
 
@@ -215,13 +220,14 @@ unfolding plan_lines
 lines_then t u = length-append (service_lines t) (plan_lines u)
 
 -- x lines more
-pub count-again : (w : List ℕ) (at k n r x y : ℕ) → 0 < k → records_sound (stops# w) k (drop at w) ≡ true → x ≡ length (service_lines (shown w (take (length w - at) (drop at w)))) → y ≡ get_or w at 0
-    → n + length (plan_lines (shown_from w k at)) ≡ r → n + x + length (plan_lines (shown_from w (k - 1) (at + y))) ≡ r
-count-again w at k n r x y h i e q v =
+pub count-again : (w : List ℕ) (at k j n r x y : ℕ) → 0 < k → j + 1 ≡ k → records_sound (stops# w) k (drop at w) ≡ true → x ≡ length (service_lines (shown w (take (length w - at) (drop at w)))) → y ≡ get_or w at 0
+    → n + length (plan_lines (shown_from w k at)) ≡ r → n + x + length (plan_lines (shown_from w j (at + y))) ≡ r
+count-again w at k j n r x y h o i e q v =
+    let d : k - 1 ≡ j = omega arith in
     let t = shown w (take (length w - at) (drop at w)) in
     let u = shown_from w (k - 1) (at + y) in
     let a : length (plan_lines (shown_from w k at)) ≡ length (service_lines t) + length (plan_lines u) = ap (λ (l : List Service). length (plan_lines l)) (shown-now w at k h i y q) ∙ lines_then t u in
-    omega (arith, a, e, v)
+    rw (← d) (omega (arith, a, e, v))
 
 pub count-done : (w : List ℕ) (at k n r : ℕ) → k ≤ 0 → n + length (plan_lines (shown_from w k at)) ≡ r → n ≡ r
 unfolding plan_lines
@@ -229,4 +235,4 @@ count-done w at k n r h v =
     let e = no-service k (drop at w) h in
     omega (arith, rw e at v)
 
-pub ruleset counted = (tests, just-word, start-place, services-here, count-all, standing, records-inside, records-fit, records-place, records-left, count-again, count-done)
+pub ruleset counted = (tests, rounds, just-word, start-place, services-here, count-all, standing, records-inside, records-fit, records-place, records-left, count-again, count-done)

@@ -81,13 +81,11 @@ fn ranges_writable(s: &[u32], part: RangeKind) -> bool
     ensures { result ≡ every (range_writable part) (part_rows part s.now) }
 {
     let mut p = part_place(s, part);
-    let mut k = part_count(s, part);
-    while 0 < k {
+    for _ in 0..part_count(s, part) {
         if !range_writable(s, part, p) {
             return false;
         }
         p += range_words(part);
-        k -= 1;
     }
     true
 }
@@ -126,13 +124,11 @@ fn calls_writable(w: &[u32], s: &[u32]) -> bool
     ensures { result ≡ every call_writable (call_rows (table_of w.now).stops s.now) }
 {
     let mut p = SERVICE_WORDS;
-    let mut k = s[CALLS_AT];
-    while 0 < k {
+    for _ in 0..s[CALLS_AT] {
         if !writable::call_writable(call_shown(w, s, p)) {
             return false;
         }
         p += CALL_WORDS;
-        k -= 1;
     }
     true
 }
@@ -165,13 +161,11 @@ pub fn services_writable(w: &[u32]) -> bool
     ensures { result ≡ every service_writable (table_of w.now).services }
 {
     let mut at = table::size(w[FIRST_SERVICE_AT]);
-    let mut k = w[SERVICES_AT];
-    while 0 < k {
+    for _ in 0..w[SERVICES_AT] {
         if !service_writable(w, &w[at..]) {
             return false;
         }
         at += table::size(w[at]);
-        k -= 1;
     }
     true
 }
@@ -196,22 +190,11 @@ pub fn count_lines(w: &[u32]) -> usize
     ensures value { result ≡ length (plan_lines (table_of w.now).services) }
     ensures upper_bound { result < 2 ^ 41 }
 {
-    let v = count(w[SERVICES_AT]);
     let mut at = table::size(w[FIRST_SERVICE_AT]);
-    let mut k = v;
     let mut n = 0;
-    while 0 < k {
+    for _ in 0..w[SERVICES_AT] {
         n += lines_of(w, &w[at..]);
         at += table::size(w[at]);
-        k -= 1;
     }
     n
-}
-
-// A word as a count, which is below 2 ^ 32.
-fn count(x: u32) -> usize
-    ensures value { result ≡ x }
-    ensures upper_bound { result < 2 ^ 32 }
-{
-    x as usize
 }

@@ -13,7 +13,7 @@ ghost use Rattle.reading.specs.Inner.Maps.{StopMap};
 ghost use Rattle.service_words.specs.Inner.Record.{placed_call, pointed_words, range_words, range_ends};
 ghost use Rattle.service_words.specs.Inner.Record.{body_of, sizes_by, head_by, placed_in};
 
-use draft::{DRAFT_CALL_WORDS, Drafted};
+use draft::Drafted;
 use timetable::{Call, Opening, RangeKind};
 
 // How many calls and ranges a service has, and how many words it takes.
@@ -68,29 +68,25 @@ fn head_into(table: &mut [u32], at: usize, sizes: Sizes, opening: Opening, line:
     requires { at + service_head ≤ length table.old }
     ensures { table.new ≡ write table.old at (head_by sizes opening line) }
 {
-    words::put4(
+    words::put(
         table,
         at,
-        sizes.words,
-        opening.number,
-        opening.high,
-        opening.low,
+        [sizes.words, opening.number, opening.high, opening.low],
     );
-    words::put4(
+    words::put(
         table,
         at + timetable::REPEATS_AT,
-        opening.repeats,
-        opening.offset,
-        sizes.calls,
-        sizes.categories,
+        [
+            opening.repeats,
+            opening.offset,
+            sizes.calls,
+            sizes.categories,
+        ],
     );
-    words::put4(
+    words::put(
         table,
         at + timetable::DAYS_AT,
-        sizes.day_ranges,
-        sizes.extras,
-        line,
-        opening.kind,
+        [sizes.day_ranges, sizes.extras, line, opening.kind],
     );
 }
 
@@ -123,6 +119,7 @@ fn body_into(
 }
 
 // Writes the calls, each with the place of its stop; the place after them.
+#[tactic(auto, using(crate::proofs::Calls::calling))]
 fn calls_into(
     calls: &[u32],
     c: u32,
@@ -140,27 +137,24 @@ fn calls_into(
     ensures table_after { table.new ≡ write table.old at
         (gathered (pointed_words (stops_in bahnhof.now)) (calls_in c calls.now)) }
 {
-    let mut i: u32 = 0;
-    let mut place: usize = 0;
     let mut to = at;
-    while i < c {
-        let call = draft::call_at(calls, place);
+    for i in 0..c {
+        let call = draft::call_at(calls, draft::call_start(i));
         let stop = sections::stop_place(bahnhof, stops, call.stop);
         put_call(table, to, stop, call);
-        place += DRAFT_CALL_WORDS;
         to += timetable::CALL_WORDS;
-        i += 1;
     }
     to
 }
 
 // Writes the words of a call, with a place for its stop.
+#[tactic(auto, using(crate::proofs::Calls::called))]
 fn put_call(table: &mut [u32], at: usize, stop: u32, call: Call)
     requires { at + call_size ≤ length table.old }
     ensures { table.new ≡ write table.old at (placed_call stop call) }
 {
-    words::put4(table, at, stop, call.arrival, call.departure, call.flags);
-    words::put3(table, at + 4, call.number, call.high, call.low);
+    words::put(table, at, [stop, call.arrival, call.departure, call.flags]);
+    words::put(table, at + 4, [call.number, call.high, call.low]);
 }
 
 // Writes the ranges, part by part; where each part ends.

@@ -101,6 +101,7 @@ fn from_stop(
         (chained (next_by w.now x.now end stop_size from key) n first)) }
     ensures on { On y.now n result }
 {
+    // Kept: along the chain of the stops, which ends where it stands.
     let mut s = first;
     while s != 0 {
         let h = last(y, n, s);

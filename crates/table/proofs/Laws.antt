@@ -17,18 +17,21 @@ use Rattle.timetable.specs.declared.LegWords.{LegWords}
 use Rattle.timetable.specs.declared.Call.{Call}
 use Rattle.timetable.proofs.Rows.{stride-turn, rows-again, rows_out, rows-done}
 
--- ---- the rows of a record, for `search rows`
+-- ---- the rows of a record, for `search rows`: the c-th of n
+
+pub one_less : (n c : ℕ) → n - c - 1 ≡ n - (c + 1)
+one_less n c = omega arith
 
 -- a call y was read at p, and x says whether it is sound
-module _ (stops : ℕ) (w : List ℕ) (p k : ℕ) (r x : Bool) (y : Call) (h : 0 < k) (d : y ≡ call_at (drop p w)) (e : x ≡ call_sound stops y) (v : every (call_sound stops) (rows_in call_at call_size k (drop p w)) ≡ r) where
-  pub calls-again : not x ≡ false → every (call_sound stops) (rows_in call_at call_size (k - 1) (drop (p + call_size) w)) ≡ r
-  calls-again = rows-again (call_sound stops) call_at call_size w p k r x h (e ∙ ap (call_sound stops) d) v
+module _ (stops : ℕ) (w : List ℕ) (p n c : ℕ) (r x : Bool) (y : Call) (h : c < n) (d : y ≡ call_at (drop p w)) (e : x ≡ call_sound stops y) (v : every (call_sound stops) (rows_in call_at call_size (n - c) (drop p w)) ≡ r) where
+  pub calls-again : not x ≡ false → every (call_sound stops) (rows_in call_at call_size (n - (c + 1)) (drop (p + call_size) w)) ≡ r
+  calls-again q = rw (one_less n c) at (rows-again (call_sound stops) call_at call_size w p (n - c) r x (omega arith) (e ∙ ap (call_sound stops) d) v q)
 
   pub calls-out : not x ≡ true → false ≡ r
-  calls-out = rows_out (call_sound stops) call_at call_size w p k r x h (e ∙ ap (call_sound stops) d) v
+  calls-out = rows_out (call_sound stops) call_at call_size w p (n - c) r x (omega arith) (e ∙ ap (call_sound stops) d) v
 
-pub calls-done : (stops : ℕ) (w : List ℕ) (k : ℕ) (r : Bool) → k ≤ 0 → every (call_sound stops) (rows_in call_at call_size k w) ≡ r → true ≡ r
-calls-done stops w k r = rows-done (call_sound stops) call_at call_size w k r
+pub calls-done : (stops : ℕ) (w : List ℕ) (n c : ℕ) (r : Bool) → n ≤ c → every (call_sound stops) (rows_in call_at call_size (n - c) w) ≡ r → true ≡ r
+calls-done stops w n c r h = rows-done (call_sound stops) call_at call_size w (n - c) r (omega arith)
 
 -- in order, by whether from may equal to
 module _ (loose : Bool) (f t : ℕ) where
@@ -47,23 +50,25 @@ module _ (g : LegWords) (c : ℕ) (loose x : Bool) (e : x ≡ in_order loose g.f
   legs-end n = rw (sym e ∙ not-false x n)
 
 -- those of the range at p, after so many words of its own; x says whether they are sound
-module _ (w : List ℕ) (p k own c : ℕ) (loose r x : Bool) (h : 0 < k) (g : LegWords) (q : g ≡ legs_read (legs_at own (drop p w))) (e : x ≡ legs_sound loose c (legs_held g)) (v : every (legs_sound loose c) (rows_in (legs_at own) (own + 2) k (drop p w)) ≡ r) where
+module _ (w : List ℕ) (p n i own c : ℕ) (loose r x : Bool) (h : i < n) (g : LegWords) (q : g ≡ legs_read (legs_at own (drop p w))) (e : x ≡ legs_sound loose c (legs_held g)) (v : every (legs_sound loose c) (rows_in (legs_at own) (own + 2) (n - i) (drop p w)) ≡ r) where
   legs-here : x ≡ legs_sound loose c (legs_at own (drop p w))
   legs-here = e ∙ ap (λ (y : LegWords). legs_sound loose c (legs_held y)) q
 
-  pub ranges-again : not x ≡ false → every (legs_sound loose c) (rows_in (legs_at own) (own + 2) (k - 1) (drop (p + (own + 2)) w)) ≡ r
-  ranges-again = rows-again (legs_sound loose c) (legs_at own) (own + 2) w p k r x h legs-here v
+  pub ranges-again : not x ≡ false → every (legs_sound loose c) (rows_in (legs_at own) (own + 2) (n - (i + 1)) (drop (p + (own + 2)) w)) ≡ r
+  ranges-again z = rw (one_less n i) at (rows-again (legs_sound loose c) (legs_at own) (own + 2) w p (n - i) r x (omega arith) legs-here v z)
 
   pub ranges-out : not x ≡ true → false ≡ r
-  ranges-out = rows_out (legs_sound loose c) (legs_at own) (own + 2) w p k r x h legs-here v
+  ranges-out = rows_out (legs_sound loose c) (legs_at own) (own + 2) w p (n - i) r x (omega arith) legs-here v
 
-pub ranges-done : (w : List ℕ) (k own c : ℕ) (loose r : Bool) → k ≤ 0 → every (legs_sound loose c) (rows_in (legs_at own) (own + 2) k w) ≡ r → true ≡ r
-ranges-done w k own c loose r = rows-done (legs_sound loose c) (legs_at own) (own + 2) w k r
+pub ranges-done : (w : List ℕ) (n i own c : ℕ) (loose r : Bool) → n ≤ i → every (legs_sound loose c) (rows_in (legs_at own) (own + 2) (n - i) w) ≡ r → true ≡ r
+ranges-done w n i own c loose r h = rows-done (legs_sound loose c) (legs_at own) (own + 2) w (n - i) r (omega arith)
 
--- k ranges from p on are within the words
-module _ (w : List ℕ) (p k own : ℕ) (h : 0 < k) (v : p + (own + 2) * k ≤ length w) where
-  pub ranges-rest : p + (own + 2) + (own + 2) * (k - 1) ≤ length w
-  ranges-rest = omega (arith, stride-turn (own + 2) k h)
+-- those from p on are within the words
+module _ (w : List ℕ) (p n i own : ℕ) (h : i < n) (v : p + (own + 2) * (n - i) ≤ length w) where
+  pub ranges-rest : p + (own + 2) + (own + 2) * (n - (i + 1)) ≤ length w
+  ranges-rest =
+      let t = rw (one_less n i) at (stride-turn (own + 2) (n - i) (omega arith)) in
+      omega (arith, t)
 
   pub ranges-legs : p + (own + 2) ≤ length w
   ranges-legs = omega (arith, ranges-rest)

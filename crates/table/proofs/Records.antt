@@ -9,8 +9,9 @@ use lib.ListN.{length, get_or, take, drop, length-drop, length-take}
 use lib.Seq.{drop-drop, get_or-drop, take_all, take-nil, drop-nil}
 use lib.Dec.{leb, eqb}
 use borrow.Author.Tests.{le-leb, lt-leb, eq-eqb, ne_eqb, not-true, not-false}
+use Rattle.std.specs.Prelude.{Option, Some, None, is_some}
 use Rattle.base.specs.Lists.{every}
-use Rattle.base.proofs.Laws.{tests, by_eqb}
+use Rattle.base.proofs.Laws.{tests, by_eqb, apart}
 use Rattle.timetable.specs.Layout.{header_size, class_size, service_head, call_size, category_size, day_size, extra_size, most_class}
 use Rattle.timetable.specs.Runs.{opening_sound}
 use Rattle.timetable.specs.Table.{rows_in, opening_at, call_at, legs_at, word_count_in, calls#, categories#, days#, extras#, category_place, day_place, extra_place, class_at, used_words, stops#, services#, services_place, classes#, used, table_of, class_sound, call_sound, legs_sound, counts_sound, sizes_sound, record_sound, records_sound, is_table}
@@ -18,8 +19,8 @@ use Rattle.timetable.specs.declared.Opening.{Opening}
 use Rattle.timetable.proofs.Rows.{rows-again, rows_out, rows-done}
 use Rattle.table.specs.JustTable.{record_end, header_sound, classes_place, bounds_sound, extras_sound}
 use Rattle.table.specs.Steady.{calls_steady, records_steady, steady, look_by}
-use Rattle.table.specs.declared.Look.{Look}
 use Rattle.table.proofs.steady.Laws.{steady-sound}
+use Rattle.table.proofs.Laws.{one_less}
 use Rattle.table.proofs.Says.{Sizes, sizes-say, head-word, record-says, service-parts, HeadOf, header-says, header-word, table-says, table-word}
 
 -- ---- the length of a record: said is its first word, y what its counts make it
@@ -130,33 +131,22 @@ module _ (w : List ℕ) (x : Bool) (e : x ≡ sizes_sound w) where
 
       -- s says whether its calls are steady
       module _ (m : not b ≡ false) (s : Bool) (g : s ≡ calls_steady stops w) where
-        pub look-steady : s ≡ true → (r : Look) → r ≡ look_by true true → r ≡ look_by (record_sound stops w) (calls_steady stops w)
-        look-steady h r q =
+        pub look-steady : s ≡ true → Some true ≡ look_by (record_sound stops w) (calls_steady stops w)
+        look-steady h =
             let z : record_sound stops w ≡ true = sym (record-parts m true (sym (steady-sound stops w (sym g ∙ h) (sizes-say w record-sized).calls-low))) in
-            q ∙ sym (rw (z, sym g ∙ h))
+            sym (rw (z, sym g ∙ h))
 
-        pub look-else : s ≡ false → (y : Bool) → y ≡ calls_sound stops w → (r : Look) → r ≡ look_by y false → r ≡ look_by (record_sound stops w) (calls_steady stops w)
-        look-else h y q r l = l ∙ sym (rw (← (record-parts m y q), sym g ∙ h))
+        module _ (h : s ≡ false) (y : Bool) (q : y ≡ calls_sound stops w) where
+          pub look-sound : y ≡ true → Some false ≡ look_by (record_sound stops w) (calls_steady stops w)
+          look-sound l = sym (rw (← (record-parts m y q), sym g ∙ h, l))
 
-pub look_none : (t s : Bool) (r : Look) → false ≡ t → r ≡ look_by false false → r ≡ look_by t s
-look_none t s r e q = q ∙ ap (λ (b : Bool). look_by b s) e
+          pub look-unsound : y ≡ false → None ≡ look_by (record_sound stops w) (calls_steady stops w)
+          look-unsound l = sym (rw (← (record-parts m y q), sym g ∙ h, l))
 
-pub looked-no : (t s : Bool) (r : Look) → not t ≡ true → r ≡ look_by false false → r ≡ look_by t s
-looked-no t s r n q = look_none t s r (sym (not-true t n)) q
+pub look_none : (t s : Bool) → false ≡ t → None ≡ look_by t s
+look_none t s e = ap (λ (b : Bool). look_by b s) e
 
-pub looked-yes : (t s : Bool) → not t ≡ false → record { table = true; steady = s } ≡ look_by t s
-looked-yes t s n = ap (λ (b : Bool). look_by b s) (sym (not-false t n))
-
-module _ (a b : Bool) where
-  pub both-no : not a ≡ true → false ≡ (a && b)
-  both-no n = sym (ap (λ (x : Bool). x && b) (not-true a n))
-
-  pub both_yes : not a ≡ false → b ≡ (a && b)
-  both_yes n = sym (ap (λ (x : Bool). x && b) (not-false a n))
-
-pub ruleset look-ends = (tests, looked-no, looked-yes, both-no, both_yes)
-
-pub ruleset one = (tests, record-sizes, record-sized, record-room, record-head, record-calls, record-bounds, record-parts, look-steady, look-else, look_none)
+pub ruleset one = (tests, record-sizes, record-sized, record-room, record-head, record-calls, record-bounds, record-parts, look-steady, look-sound, look-unsound, look_none)
 
 -- ---- parts of the words
 
@@ -196,19 +186,29 @@ one-steady stops (suc k) u h =
     let e : suc k - 1 ≡ k = omega arith in
     rw e
 
-module _ (stops : ℕ) (w : List ℕ) (at : ℕ) (o : Look) (i : at ≤ length w) (e : o ≡ look_by (record_sound stops (take (length w - at) (drop at w))) (calls_steady stops (take (length w - at) (drop at w)))) where
+-- what a look tells of a table
+told-table : (t s b : Bool) → look_by t s ≡ Some b → t ≡ true
+told-table true s b e = refl
+told-table false s b e = apart (cc)
+
+told-steady : (t s b : Bool) → look_by t s ≡ Some b → b ≡ s
+told-steady true s b e = let z : s ≡ b = cc in sym z
+told-steady false s b e = apart (cc)
+
+told-none : (t s : Bool) → look_by t s ≡ None → t ≡ false
+told-none true s e = apart (cc)
+told-none false s e = refl
+
+module _ (stops : ℕ) (w : List ℕ) (at : ℕ) (o : Option Bool) (i : at ≤ length w) (e : o ≡ look_by (record_sound stops (take (length w - at) (drop at w))) (calls_steady stops (take (length w - at) (drop at w)))) where
   look-here : o ≡ look_by (record_sound stops (drop at w)) (calls_steady stops (drop at w))
   look-here = e ∙ ap (λ (u : List ℕ). look_by (record_sound stops u) (calls_steady stops u)) (rest-is w at)
 
-  record-here : o.table ≡ record_sound stops (drop at w)
-  record-here = ap (λ (l : Look). l.table) look-here
-
-  module _ (n : not o.table ≡ false) where
+  module _ (b : Bool) (q : o ≡ Some b) where
     sound-here : record_sound stops (drop at w) ≡ true
-    sound-here = sym record-here ∙ not-false o.table n
+    sound-here = told-table (record_sound stops (drop at w)) (calls_steady stops (drop at w)) b (sym look-here ∙ q)
 
-    steady-here : o.steady ≡ calls_steady stops (drop at w)
-    steady-here = ap (λ (l : Look). l.steady) look-here ∙ ap (λ (b : Bool). b && calls_steady stops (drop at w)) sound-here
+    steady-here : b ≡ calls_steady stops (drop at w)
+    steady-here = told-steady (record_sound stops (drop at w)) (calls_steady stops (drop at w)) b (sym look-here ∙ q)
 
     sizes-here : Sizes (drop at w)
     sizes-here = (record-says stops (drop at w) sound-here).0
@@ -216,21 +216,21 @@ module _ (stops : ℕ) (w : List ℕ) (at : ℕ) (o : Look) (i : at ≤ length w
     pub records-inside : at < length w
     records-inside = omega (arith, sizes-here.head, length-drop at w)
 
-    pub records-fit : (y : ℕ) → y ≡ get_or w at 0 → at + y ≤ length w
-    records-fit y q = omega (arith, sizes-here.said, sizes-here.inside, length-drop at w, first_word w at, records-inside)
+    pub records-fit : at + get_or w at 0 ≤ length w
+    records-fit = omega (arith, sizes-here.said, sizes-here.inside, length-drop at w, first_word w at, records-inside)
 
-  module _ (k : ℕ) (r : Bool) (h : 0 < k) where
-    pub records-again : (y : ℕ) → records_sound stops k (drop at w) ≡ r → y ≡ get_or w at 0 → not o.table ≡ false → records_sound stops (k - 1) (drop (at + y) w) ≡ r
-    records-again y v q n = rw (one-record stops k (drop at w) h, sound-here n, first_word w at, ← q, drop-drop y at w) at v
+  -- it is the c-th of n
+  module _ (n c : ℕ) (r : Bool) (h : c < n) where
+    pub records-again : records_sound stops (n - c) (drop at w) ≡ r → (b : Bool) → o ≡ Some b → records_sound stops (n - (c + 1)) (drop (at + get_or w at 0) w) ≡ r
+    records-again v b q = rw (one-record stops (n - c) (drop at w) (omega arith), sound-here b q, first_word w at, drop-drop (get_or w at 0) at w, one_less n c) at v
 
-    pub records-out : records_sound stops k (drop at w) ≡ r → not o.table ≡ true → false ≡ r
-    records-out v n = rw (one-record stops k (drop at w) h, sym record-here ∙ not-true o.table n) at v
+    pub records-out : records_sound stops (n - c) (drop at w) ≡ r → o ≡ None → false ≡ r
+    records-out v q = rw (one-record stops (n - c) (drop at w) (omega arith), told-none (record_sound stops (drop at w)) (calls_steady stops (drop at w)) (sym look-here ∙ q)) at v
 
-    pub records-steady : (s t : Bool) (y : ℕ) → (s && records_steady stops k (drop at w)) ≡ r → y ≡ get_or w at 0 → not o.table ≡ false → t ≡ (s && o.steady) → (t && records_steady stops (k - 1) (drop (at + y) w)) ≡ r
-    records-steady s t y v q n f =
-        ap (λ (b : Bool). b && records_steady stops (k - 1) (drop (at + y) w)) f
-        ∙ and_assoc s o.steady (records_steady stops (k - 1) (drop (at + y) w))
-        ∙ (rw (one-steady stops k (drop at w) h, ← (steady-here n), first_word w at, ← q, drop-drop y at w) at v)
+    pub records-steady : (s : Bool) → (s && records_steady stops (n - c) (drop at w)) ≡ r → (b : Bool) → o ≡ Some b → ((s && b) && records_steady stops (n - (c + 1)) (drop (at + get_or w at 0) w)) ≡ r
+    records-steady s v b q =
+        and_assoc s b (records_steady stops (n - (c + 1)) (drop (at + get_or w at 0) w))
+        ∙ (rw (one-steady stops (n - c) (drop at w) (omega arith), ← (steady-here b q), first_word w at, drop-drop (get_or w at 0) at w, one_less n c) at v)
       where
         and_assoc : (a b c : Bool) → ((a && b) && c) ≡ (a && (b && c))
         and_assoc true b c = refl
@@ -249,12 +249,19 @@ steady-done stops u zero true r h v = v
 steady-done stops u zero false r h v = v
 steady-done stops u (suc k) s r h v = absurd (omega arith)
 
-pub look-done : (stops : ℕ) (w : List ℕ) (at k : ℕ) (t s : Bool) (l : Look) → at ≤ length w → k ≤ 0 → (b : Bool) → records_sound stops k (drop at w) ≡ t → (b && records_steady stops k (drop at w)) ≡ s → l ≡ look_by (eqb at (length w)) b → l ≡ look_by t s
-look-done stops w at k t s l i h b v u q = q ∙ ap (λ (x : Bool). look_by x b) (records-done stops w at k t i h v) ∙ ap (look_by t) (steady-done stops (drop at w) k b s h u)
+module _ (stops : ℕ) (w : List ℕ) (at n c : ℕ) (t s b : Bool) (i : at ≤ length w) (h : n ≤ c) (v : records_sound stops (n - c) (drop at w) ≡ t) (u : (b && records_steady stops (n - c) (drop at w)) ≡ s) where
+  ends : eqb at (length w) ≡ t
+  ends = records-done stops w at (n - c) t i (omega arith) v
+
+  pub look-done : at ≡ length w → Some b ≡ look_by t s
+  look-done q = rw (sym ends ∙ eq-eqb at (length w) q, steady-done stops (drop at w) (n - c) b s (omega arith) u)
+
+  pub look-before : (at ≡ length w → ⊥) → None ≡ look_by t s
+  look-before d = rw (sym ends ∙ ne_eqb at (length w) d)
 
 pub ruleset places = (tests, records-inside, records-fit)
 
-pub ruleset records = (tests, records-inside, records-fit, records-again, records-out, records-steady, look-done, look_none)
+pub ruleset records = (tests, records-inside, records-fit, records-again, records-out, records-steady, look-done, look-before, look_none)
 
 -- ---- the table; x says whether its header is sound, y whether its classes are
 
@@ -294,11 +301,26 @@ module _ (w : List ℕ) (h : header_size ≤ length w) (x : Bool) (e : x ≡ hea
         unfolding is_table
         rest-is-table = sym (rw (le-leb header_size (length w) h, sym e ∙ not-false x n, sym g ∙ not-false y m, ← p, ← q, ← (part-is at end w)))
 
-        pub table-rest : (r : Look) → r ≡ look_by (records_sound (stops# w) (services# w) (take (end - at) (drop at w))) (records_steady (stops# w) (services# w) (take (end - at) (drop at w))) → r ≡ look_by (is_table w) (steady w)
+        pub table-rest : (r : Option Bool) → r ≡ look_by (records_sound (stops# w) (services# w) (take (end - at) (drop at w))) (records_steady (stops# w) (services# w) (take (end - at) (drop at w))) → r ≡ look_by (is_table w) (steady w)
         table-rest r f = f ∙ ap (λ (b : Bool). look_by b (records_steady (stops# w) (services# w) (take (end - at) (drop at w)))) rest-is-table ∙ ap (λ (u : List ℕ). look_by (is_table w) (records_steady (stops# w) (services# w) u)) (part-is at end w ∙ rw (p, q))
 
-pub table-told : (w : List ℕ) (l : Look) → l ≡ look_by (is_table w) (steady w) → l.table ≡ is_table w
-table-told w l e = ap (λ (x : Look). x.table) e
+-- l is what a look at the words tells
+module _ (w : List ℕ) (l : Option Bool) (e : l ≡ look_by (is_table w) (steady w)) where
+  pub table-told : (x : Bool) → x ≡ is_some l → x ≡ is_table w
+  table-told x f = f ∙ ap is_some e ∙ go (is_table w)
+    where
+      go : (t : Bool) → is_some (look_by t (steady w)) ≡ t
+      go true = refl
+      go false = refl
+
+  pub look-table : (b : Bool) → l ≡ Some b → is_table w ≡ true
+  look-table b q = told-table (is_table w) (steady w) b (sym e ∙ q)
+
+  pub look_steady : (b : Bool) → l ≡ Some b → b ≡ steady w
+  look_steady b q = told-steady (is_table w) (steady w) b (sym e ∙ q)
+
+  pub look-no-table : l ≡ None → is_table w ≡ false
+  look-no-table q = told-none (is_table w) (steady w) (sym e ∙ q)
 
 pub ruleset whole = (tests, look_none, table-told, table-short, table-head, table-header, table-classes, table-order, table-scaled, table-room, table-rest)
 
@@ -335,19 +357,19 @@ module _ (w : List ℕ) (e : header_sound w ≡ true) where
       unfolding table_of
       classes-of r f = f ∙ rw (q, used-are w end p)
 
--- ---- k of them are left from p on
+-- ---- the c-th of n stands at p
 
-module _ (w : List ℕ) (p k : ℕ) (r : Bool) (h : 0 < k) (v : every class_sound (rows_in class_at class_size k (drop p w)) ≡ r) where
+module _ (w : List ℕ) (p n c : ℕ) (r : Bool) (h : c < n) (v : every class_sound (rows_in class_at class_size (n - c) (drop p w)) ≡ r) where
   class-here : class_sound (class_at (drop p w)) ≡ leb (get_or w (p + 1) 0) most_class
   class-here = rw (get_or-drop p w 1 0)
 
-  pub classes-again : get_or w (p + 1) 0 ≤ most_class → every class_sound (rows_in class_at class_size (k - 1) (drop (p + class_size) w)) ≡ r
-  classes-again l = rows-again class_sound class_at class_size w p k r true h (sym (class-here ∙ le-leb (get_or w (p + 1) 0) most_class l)) v refl
+  pub classes-again : get_or w (p + 1) 0 ≤ most_class → every class_sound (rows_in class_at class_size (n - (c + 1)) (drop (p + class_size) w)) ≡ r
+  classes-again l = rw (one_less n c) at (rows-again class_sound class_at class_size w p (n - c) r true (omega arith) (sym (class-here ∙ le-leb (get_or w (p + 1) 0) most_class l)) v refl)
 
   pub classes-out : most_class < get_or w (p + 1) 0 → false ≡ r
-  classes-out l = rows_out class_sound class_at class_size w p k r false h (sym (class-here ∙ lt-leb (get_or w (p + 1) 0) most_class l)) v refl
+  classes-out l = rows_out class_sound class_at class_size w p (n - c) r false (omega arith) (sym (class-here ∙ lt-leb (get_or w (p + 1) 0) most_class l)) v refl
 
-pub classes-done : (w : List ℕ) (k : ℕ) (r : Bool) → k ≤ 0 → every class_sound (rows_in class_at class_size k w) ≡ r → true ≡ r
-classes-done w k r = rows-done class_sound class_at class_size w k r
+pub classes-done : (w : List ℕ) (n c : ℕ) (r : Bool) → n ≤ c → every class_sound (rows_in class_at class_size (n - c) w) ≡ r → true ≡ r
+classes-done w n c r h = rows-done class_sound class_at class_size w (n - c) r (omega arith)
 
 pub ruleset classes = (tests, header-word, classes-before, classes-begin, classes-end, classes-room, classes-of, classes-again, classes-out, classes-done)

@@ -1,11 +1,10 @@
 -- A table whose calls are as nearly all are: of each route the first call's departure, both times of each call between and the last call's arrival are stated, and none of
 -- these is below the one before it. Then its calls are sound (`steady-sound`), and none of them is refused by 36. In a table the bounds that are said here add nothing.
 -- Assumes nothing.
-use Rattle.std.specs.Prelude.{ℕ, zero, suc, ◌-◌, ◌+◌, ◌/◌, ◌%◌, List, Bool, true, ◌&&◌, drop, eqb, ltb, leb}
+use Rattle.std.specs.Prelude.{ℕ, zero, suc, ◌-◌, ◌+◌, ◌/◌, ◌%◌, List, Bool, true, ◌&&◌, cond, drop, eqb, ltb, leb, Option, Some, None}
 use Rattle.timetable.specs.Layout.{service_head, call_size, latest_time, all_flags}
 use Rattle.timetable.specs.Table.{call_at, calls#, word_count_in, stops#, services#, services_place, used}
 use Rattle.timetable.specs.declared.Call.{Call}
-use Rattle.table.specs.declared.Look.{Look}
 
 -- ---- a call
 
@@ -51,7 +50,7 @@ records_steady stops (suc v) w = calls_steady stops w && records_steady stops v 
 abbrev pub steady : List ℕ → Bool
 steady w = records_steady (stops# w) (services# w) (drop (services_place w) (used w))
 
--- ---- what a look tells: whether words are a table, and of a table whether its calls are steady
+-- ---- what a look tells: of a table whether its calls are steady, and nothing of other words
 
-abbrev pub look_by : Bool → Bool → Look
-look_by t s = record { table = t; steady = t && s }
+abbrev pub look_by : Bool → Bool → Option Bool
+look_by t s = cond t (Some s) None

@@ -27,49 +27,31 @@ pub mod steady;
 // The day after 31.12.2199.
 const AFTER_LAST_DAY: u64 = calendar::LAST_DAY as u64 + 1;
 
-// What a look at words tells: whether they are a table, and of a table whether its calls are steady (specs/Steady).
-#[derive(Clone, Copy)]
-pub struct Look {
-    pub table: bool,
-    pub steady: bool,
-}
-
 // Whether the words are a table.
 pub fn is_table(w: &[u32]) -> bool
     ensures { result ≡ is_table w.now }
 {
-    let seen = look_at(w);
-    seen.table
+    look_at(w).is_some()
 }
 
-// The same, and whether its calls are steady: one look tells both.
-pub fn look_at(w: &[u32]) -> Look
+// Of a table whether its calls are steady (specs/Steady), and nothing of other words: one look tells both.
+pub fn look_at(w: &[u32]) -> Option<bool>
     ensures { result ≡ look_by (is_table w.now) (steady w.now) }
 {
     if w.len() < HEADER_WORDS {
-        return no_table();
+        return None;
     }
     if !header_sound(w) {
-        return no_table();
+        return None;
     }
     if !classes_sound(w) {
-        return no_table();
+        return None;
     }
     records_look(
-        &w[size(w[FIRST_SERVICE_AT])..size(w[USED_AT])],
+        &w[w[FIRST_SERVICE_AT] as usize..w[USED_AT] as usize],
         w[SERVICES_AT],
         w[STOPS_AT],
     )
-}
-
-// What it tells of words that are no table.
-fn no_table() -> Look
-    ensures { result ≡ look_by false false }
-{
-    Look {
-        table: false,
-        steady: false,
-    }
 }
 
 // The words that a table uses, without those after them.
@@ -77,10 +59,10 @@ pub fn used_words(w: &[u32]) -> &[u32]
     requires { is_table w.now ≡ true }
     ensures { result.now ≡ used w.now }
 {
-    &w[0..size(w[USED_AT])]
+    &w[0..w[USED_AT] as usize]
 }
 
-// A word as a place or a count of words.
+// A word as a place or a count of words: the one such function of the crates above, whose answers are named after its calls.
 pub fn size(x: u32) -> usize
     ensures { result ≡ x }
 {
@@ -170,7 +152,7 @@ fn classes_sound(w: &[u32]) -> bool
     requires { header_sound w.now ≡ true }
     ensures { result ≡ every class_sound (table_of w.now).classes }
 {
-    classes_within(&w[0..size(w[USED_AT])], classes_place(w), w[CLASSES_AT])
+    classes_within(&w[0..w[USED_AT] as usize], classes_place(w), w[CLASSES_AT])
 }
 
 // Where the categories and their classes begin: they end where the services begin.
@@ -178,7 +160,7 @@ pub fn classes_place(w: &[u32]) -> usize
     requires { header_sound w.now ≡ true }
     ensures { result ≡ classes_place w.now }
 {
-    size(w[FIRST_SERVICE_AT]) - CLASS_WORDS * size(w[CLASSES_AT])
+    w[FIRST_SERVICE_AT] as usize - CLASS_WORDS * w[CLASSES_AT] as usize
 }
 
 // Whether the n categories from a place on have no class over 13.
@@ -187,13 +169,11 @@ fn classes_within(w: &[u32], at: usize, n: u32) -> bool
     ensures { result ≡ every class_sound (rows_in class_at class_size n (drop at w.now)) }
 {
     let mut p = at;
-    let mut k = n;
-    while 0 < k {
+    for _ in 0..n {
         if MOST_CLASS < w[p + 1] {
             return false;
         }
         p += CLASS_WORDS;
-        k -= 1;
     }
     true
 }
@@ -201,60 +181,37 @@ fn classes_within(w: &[u32], at: usize, n: u32) -> bool
 // ---- records
 
 // Whether v records follow each other and end with the words, and whether their calls are steady; the table has so many stops.
-fn records_look(w: &[u32], v: u32, stops: u32) -> Look
+fn records_look(w: &[u32], v: u32, stops: u32) -> Option<bool>
     ensures { result ≡ look_by (records_sound stops v w.now) (records_steady stops v w.now) }
 {
     let mut at = 0;
-    let mut k = v;
     let mut steady = true;
-    while 0 < k {
-        let seen = record_look(&w[at..], stops);
-        if !seen.table {
-            return no_table();
-        }
-        steady = both(steady, seen.steady);
-        at += size(w[at]);
-        k -= 1;
+    for _ in 0..v {
+        let seen = record_look(&w[at..], stops)?;
+        steady &= seen;
+        at += w[at] as usize;
     }
-    looked(at == w.len(), steady)
-}
-
-// What it tells of words that are a table, or not.
-fn looked(table: bool, steady: bool) -> Look
-    ensures { result ≡ look_by table steady }
-{
-    if !table {
-        return no_table();
-    }
-    Look {
-        table: true,
-        steady,
-    }
-}
-
-fn both(a: bool, b: bool) -> bool
-    ensures { result ≡ (a && b) }
-{
-    if !a {
-        return false;
-    }
-    b
+    if at == w.len() { Some(steady) } else { None }
 }
 
 // Whether the record at the front of the words is sound, and whether its calls are steady: where they are, they are sound.
-fn record_look(w: &[u32], stops: u32) -> Look
+fn record_look(w: &[u32], stops: u32) -> Option<bool>
     ensures { result ≡ look_by (record_sound stops w.now) (calls_steady stops w.now) }
 {
     if !sizes_sound(w) {
-        return no_table();
+        return None;
     }
     if !bounds_sound(w) {
-        return no_table();
+        return None;
     }
     if steady::calls_steady(w, stops) {
-        return looked(true, true);
+        return Some(true);
     }
-    looked(calls_sound(w, SERVICE_WORDS, w[CALLS_AT], stops), false)
+    if calls_sound(w, SERVICE_WORDS, w[CALLS_AT], stops) {
+        Some(false)
+    } else {
+        None
+    }
 }
 
 // Whether it is sound.
@@ -289,7 +246,7 @@ fn length_sound(w: &[u32]) -> bool
     ensures { result ≡ (eqb (word_count_in w.now) (record_end w.now)
         && leb (word_count_in w.now) (length w.now)) }
 {
-    let said = size(w[SIZE_AT]);
+    let said = w[SIZE_AT] as usize;
     if said as u64 != record_end(w) {
         return false;
     }
@@ -366,7 +323,7 @@ pub fn category_place(w: &[u32]) -> usize
     requires { record_end w.now ≤ length w.now }
     ensures { result ≡ category_place w.now }
 {
-    SERVICE_WORDS + CALL_WORDS * size(w[CALLS_AT])
+    SERVICE_WORDS + CALL_WORDS * w[CALLS_AT] as usize
 }
 
 // Where its *A VE begin.
@@ -374,7 +331,7 @@ pub fn day_place(w: &[u32]) -> usize
     requires { record_end w.now ≤ length w.now }
     ensures { result ≡ day_place w.now }
 {
-    category_place(w) + CATEGORY_WORDS * size(w[CATEGORIES_AT])
+    category_place(w) + CATEGORY_WORDS * w[CATEGORIES_AT] as usize
 }
 
 // Where its other *A begin.
@@ -382,7 +339,7 @@ pub fn extra_place(w: &[u32]) -> usize
     requires { record_end w.now ≤ length w.now }
     ensures { result ≡ extra_place w.now }
 {
-    day_place(w) + DAYS_WORDS * size(w[DAYS_AT])
+    day_place(w) + DAYS_WORDS * w[DAYS_AT] as usize
 }
 
 // What its opening line says.
@@ -408,13 +365,11 @@ fn calls_sound(w: &[u32], at: usize, n: u32, stops: u32) -> bool
     ensures { result ≡ every (call_sound stops) (rows_in call_at call_size n (drop at w.now)) }
 {
     let mut p = at;
-    let mut k = n;
-    while 0 < k {
+    for _ in 0..n {
         if !call_sound(timetable::call_at(w, p), stops) {
             return false;
         }
         p += CALL_WORDS;
-        k -= 1;
     }
     true
 }
@@ -441,13 +396,11 @@ fn ranges_sound(w: &[u32], at: usize, n: u32, own: usize, loose: bool, c: u32) -
     ensures { result ≡ every (legs_sound loose c) (rows_in (legs_at own) (own + 2) n (drop at w.now)) }
 {
     let mut p = at;
-    let mut k = n;
-    while 0 < k {
+    for _ in 0..n {
         if !legs_sound(timetable::legs_at(w, p, own), loose, c) {
             return false;
         }
         p += own + 2;
-        k -= 1;
     }
     true
 }

@@ -26,17 +26,15 @@ fn later_steady(s: &[u32], stops: u32, left: u32, departure: u32) -> bool
     ensures { result ≡ later_steady stops left departure (drop (service_head + call_size) s.now) }
 {
     let mut p = SERVICE_WORDS + CALL_WORDS;
-    let mut k = left;
     let mut before = departure;
-    while 3 < k {
+    for _ in 0..left / 4 {
         if !four_pass(s, p, stops, before) {
             return false;
         }
         before = s[p + FOURTH_DEPARTURE];
         p += 4 * CALL_WORDS;
-        k -= 4;
     }
-    few_steady(s, p, stops, k, before)
+    few_steady(s, p, stops, left % 4, before)
 }
 
 // How far behind a call the departures of the second and the fourth from it on stand.
@@ -50,16 +48,14 @@ fn few_steady(s: &[u32], from: usize, stops: u32, left: u32, departure: u32) -> 
     ensures { result ≡ later_steady stops left departure (drop from s.now) }
 {
     let mut p = from;
-    let mut k = left;
     let mut before = departure;
-    while 0 < k {
+    for _ in 0..left {
         let call = timetable::call_at(s, p);
         if !passes(call, stops, before) {
             return false;
         }
         before = call.departure;
         p += CALL_WORDS;
-        k -= 1;
     }
     ends(timetable::call_at(s, p), stops, before)
 }

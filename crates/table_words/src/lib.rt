@@ -66,9 +66,9 @@ fn put_header(h: Header, t: &mut [u32])
     requires { header_size ≤ length t.old }
     ensures { t.new ≡ write t.old 0 (header_words h) }
 {
-    words::put3(t, 0, h.words, h.start, h.n);
-    words::put3(t, 3, h.fields, h.stops, h.interchanges);
-    words::put3(t, 6, h.services, h.first, h.classes);
+    words::put(t, 0, [h.words, h.start, h.n]);
+    words::put(t, 3, [h.fields, h.stops, h.interchanges]);
+    words::put(t, 6, [h.services, h.first, h.classes]);
 }
 
 // The sections before the services, from place q on; the place after them.

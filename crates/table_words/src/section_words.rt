@@ -27,6 +27,7 @@ pub fn put_section(section: Section, f: &[u8], t: &mut [u32], p: usize) -> usize
     let mut at: usize = 0;
     let mut no: u32 = 1;
     let mut q = p;
+    // Kept: a walk over a file from line to line, no loop by an index
     while at < f.len() {
         if f[at] == b'\n' {
             at += 1;
@@ -76,7 +77,7 @@ fn put_bit_field(t: &mut [u32], q: usize, number: u32, bits: [u32; BIT_WORDS]) -
     ensures t_after { t.new ≡ write t.old q (number ∷ bits) }
 {
     t[q] = number;
-    words::put12(t, q + 1, bits);
+    words::put(t, q + 1, bits);
     q + BIT_FIELD_WORDS
 }
 
@@ -87,12 +88,10 @@ fn put_stop(t: &mut [u32], q: usize, number: u32, start: usize, text: &[u8]) -> 
     ensures t_after { t.new ≡
         write t.old q (number ∷ (start + 12) ∷ name_length (field_in stop_names text.now) ∷ []) }
 {
-    words::put3(
+    words::put(
         t,
         q,
-        number,
-        (start + 12) as u32,
-        name_field::name_length(text),
+        [number, (start + 12) as u32, name_field::name_length(text)],
     );
     q + STOP_WORDS
 }
@@ -102,12 +101,14 @@ fn put_interchange(t: &mut [u32], q: usize, number: u32, text: &[u8]) -> usize
     ensures value { result ≡ q + interchange_size }
     ensures t_after { t.new ≡ write t.old q (times_on text.now number) }
 {
-    words::put3(
+    words::put(
         t,
         q,
-        number,
-        columns::number_in(text, interchange::FIRST, interchange::FIRST_END),
-        columns::number_in(text, interchange::SECOND, interchange::SECOND_END),
+        [
+            number,
+            columns::number_in(text, interchange::FIRST, interchange::FIRST_END),
+            columns::number_in(text, interchange::SECOND, interchange::SECOND_END),
+        ],
     );
     q + INTERCHANGE_WORDS
 }

@@ -5,3 +5,4 @@ pub mod Records
 pub mod Rows
 pub mod Order
 pub mod Stages
+pub mod Numbered

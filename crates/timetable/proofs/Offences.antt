@@ -1,4 +1,5 @@
 -- The first of several offences: where there is none, and where there is one. Assumes nothing.
+use Rattle.std.specs.Prelude.{Result, Ok, Err}
 use mathlib.Core.Path.{◌≡◌, refl, ap, sym, ◌∙◌}
 use mathlib.Core.List.{List, [], ◌∷◌, ◌++◌}
 use mathlib.Core.Bool.{Bool, true, false}
@@ -6,15 +7,10 @@ use mathlib.Core.Option.{Option, none, some}
 use Prim.Native.Nat.{ℕ}
 use Rattle.base.proofs.Laws.{apart}
 use Rattle.lines.specs.Lines.{Line}
-use Rattle.forms.specs.declared.Form.{Form}
-use Rattle.forms.specs.declared.Form.TheVariants.{Fits, Broken}
+use Rattle.forms.specs.Form.{Form, Fits, Broken}
 use Rattle.timetable.specs.Offences.{given, form_offence, ◌<|>◌, first, verdict_by, checked_by}
 use Rattle.timetable.specs.Load.{in_file}
 use Rattle.timetable.specs.declared.Offence.{Offence}
-use Rattle.timetable.specs.declared.Verdict.{Verdict}
-use Rattle.timetable.specs.declared.Verdict.TheVariants.{Fine, Offends}
-use Rattle.timetable.specs.declared.Checked.{Checked}
-use Rattle.timetable.specs.declared.Checked.TheVariants.{Holds, Refused}
 
 -- ---- none of several
 
@@ -56,32 +52,36 @@ first-same off own e before (l ∷ ls) = rw (e before l, first-same off own e (b
 
 -- ---- what the code answers says whether there is an offence, and which
 
-module _ (o : Option Offence) (v : Verdict) (e : v ≡ verdict_by o) where
-  pub verdict-fine : v ≡ Fine → o ≡ none
+module _ (o : Option Offence) (v : Result (Unit {0}) Offence) (e : v ≡ verdict_by o) where
+  pub verdict-fine : v ≡ Ok tt → o ≡ none
   verdict-fine y = go o (sym e ∙ y)
     where
-      go : (o : Option Offence) → verdict_by o ≡ Fine → o ≡ none
+      go : (o : Option Offence) → verdict_by o ≡ Ok tt → o ≡ none
       go none k = refl
       go (some x) k = apart (cc)
 
-  pub verdict-offends : (x : Offence) → v ≡ Offends x → o ≡ some x
+  pub verdict-offends : (x : Offence) → v ≡ Err x → o ≡ some x
   verdict-offends x y = go o (sym e ∙ y)
     where
-      go : (o : Option Offence) → verdict_by o ≡ Offends x → o ≡ some x
+      go : (o : Option Offence) → verdict_by o ≡ Err x → o ≡ some x
       go none k = apart (cc)
       go (some z) k = let p : z ≡ x = cc in ap some p
 
-module _ (o : Option Offence) (a b : ℕ) (r : Checked) (e : r ≡ checked_by o a b) where
-  pub checked-holds : (c d : ℕ) → r ≡ Holds c d → (o ≡ none) × (a ≡ c) × (b ≡ d)
+-- the two numbers of one answer are those of an equal one
+pub same_held : (a b c d : ℕ) → ◌≡◌ {A = Result (ℕ × ℕ) Offence} (Ok (a, b)) (Ok (c, d)) → (a ≡ c) × (b ≡ d)
+same_held a b c d e = let p : ◌≡◌ {A = ℕ × ℕ} (a, b) (c, d) = cc in (ap (λ (q : ℕ × ℕ). q.0) p, ap (λ (q : ℕ × ℕ). q.1) p)
+
+module _ (o : Option Offence) (a b : ℕ) (r : Result (ℕ × ℕ) Offence) (e : r ≡ checked_by o a b) where
+  pub checked-holds : (c d : ℕ) → r ≡ Ok (c, d) → (o ≡ none) × (a ≡ c) × (b ≡ d)
   checked-holds c d y = go o (sym e ∙ y)
     where
-      go : (o : Option Offence) → checked_by o a b ≡ Holds c d → (o ≡ none) × (a ≡ c) × (b ≡ d)
-      go none k = (refl, cc, cc)
+      go : (o : Option Offence) → checked_by o a b ≡ Ok (c, d) → (o ≡ none) × (a ≡ c) × (b ≡ d)
+      go none k = let q = same_held a b c d k in (refl, q.0, q.1)
       go (some x) k = apart (cc)
 
-  pub checked_refused : (x : Offence) → r ≡ Refused x → o ≡ some x
+  pub checked_refused : (x : Offence) → r ≡ Err x → o ≡ some x
   checked_refused x y = go o (sym e ∙ y)
     where
-      go : (o : Option Offence) → checked_by o a b ≡ Refused x → o ≡ some x
+      go : (o : Option Offence) → checked_by o a b ≡ Err x → o ≡ some x
       go none k = apart (cc)
       go (some z) k = let p : z ≡ x = cc in ap some p

@@ -2,7 +2,7 @@
 use Rattle.std.specs.Prelude.{ℕ, zero, suc, ◌+◌, List, [], ◌∷◌, Bool, true, false, cond, not, ◌&&◌, ◌||◌, length, ltb, leb, eqb}
 use Rattle.std.proofs.Math.Option.{Option, none, some}
 use Rattle.base.specs.Lists.{every, some_of, below}
-use Rattle.forms.specs.declared.Form.TheVariants.{Broken as BrokenForm}
+use Rattle.forms.specs.Form.{Broken as BrokenForm}
 use Rattle.lines.specs.Lines.{Line, skipped}
 use Rattle.timetable.specs.Layout.{most_calls, most_categories, most_days, most_extras}
 use Rattle.timetable.specs.Delivery.{BitField, StopRecord, CategoryClass, Legs, CategoryRange, DayRange, Service}

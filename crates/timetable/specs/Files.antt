@@ -1,20 +1,14 @@
 -- Files 1 to 4 and 6, line by line: what a line holds, and its own offences "by the order 12, 11, 4, 13, 5, 7, 6, 8, 9, 10" (document 02, No. 3: 39
 -- directly after 4; No. 1: 37 after 6). Assumes nothing.
-use Rattle.std.specs.Prelude.{ℕ, zero, ◌+◌, ◌-◌, ◌*◌, ◌/◌, ◌%◌, List, [], ◌∷◌, ◌++◌, Bool, true, false, cond, not, ◌&&◌, ◌||◌, length, ltb, leb, eqb}
+use Rattle.std.specs.Prelude.{ℕ, zero, ◌+◌, ◌-◌, ◌*◌, ◌/◌, ◌%◌, List, [], ◌∷◌, ◌++◌, Bool, true, false, cond, not, ◌&&◌, ◌||◌, length, ltb, leb, eqb, Option as Optional, Some, None}
 use Rattle.std.proofs.Math.Option.{Option, none, some}
 use Rattle.base.specs.Lists.{some_of}
 use Rattle.columns.specs.Columns.{column, is_blank, number}
 use Rattle.columns.specs.LineFields.{field_in, bit_field_number, stop_number, stop_names, interchange_stop, interchange_first, interchange_second, class_code, class_number, class_tariff}
 use Rattle.lines.specs.Lines.{Line, lines_of, skipped}
 use Rattle.calendar.specs.Calendar.{date_in, period_of}
-use Rattle.calendar.specs.declared.Date.{Date}
-use Rattle.calendar.specs.declared.Date.TheVariants.{Day, NoSuchDate}
-use Rattle.calendar.specs.declared.PeriodLength.{PeriodLength}
-use Rattle.calendar.specs.declared.PeriodLength.TheVariants.{OfDays, NoPeriod}
 use Rattle.bitfield.specs.BitField.{bits_in, framed}
-use Rattle.forms.specs.Form.{FieldRule, form_of}
-use Rattle.forms.specs.declared.Form.{Form}
-use Rattle.forms.specs.declared.Form.TheVariants.{Fits, Broken}
+use Rattle.forms.specs.Form.{FieldRule, form_of, Form, Fits, Broken}
 use Rattle.forms.specs.Columns.{date_columns, bit_field_columns, stop_columns, interchange_columns, class_columns}
 use Rattle.names.specs.Names.{is_name_list}
 use Rattle.names.specs.NameField.{name_length, name_field}
@@ -57,17 +51,17 @@ held_offence own line (held x) = own x
 -- ---- 1 ECKDATEN: "exactly three lines"; no line is skipped there
 
 -- the day number of a line that is a date, 0 of another
-abbrev pub day_number : Date → ℕ
-day_number (Day d) = d
-day_number NoSuchDate = 0
+abbrev pub day_number : Optional ℕ → ℕ
+day_number (Some d) = d
+day_number None = 0
 
-abbrev pub no_date : Date → Bool
-no_date (Day d) = false
-no_date NoSuchDate = true
+abbrev pub no_date : Optional ℕ → Bool
+no_date (Some d) = false
+no_date None = true
 
-abbrev pub no_period : PeriodLength → Bool
-no_period (OfDays n) = false
-no_period NoPeriod = true
+abbrev pub no_period : Optional ℕ → Bool
+no_period (Some n) = false
+no_period None = true
 
 -- 4, then "5 no such date"
 abbrev pub date_line_offence : Line → Option Offence
@@ -86,9 +80,9 @@ period_line_offence (s ∷ e ∷ t ∷ before) l = some (offence_at 3 l.no)
 unfoldable pub period_first : List Line → Option Offence
 period_first ls = first period_line_offence [] ls <|> given (ltb (length ls) 3) 2 (length ls + 1)
 
-abbrev pub days_in : PeriodLength → ℕ
-days_in (OfDays n) = n
-days_in NoPeriod = 0
+abbrev pub days_in : Optional ℕ → ℕ
+days_in (Some n) = n
+days_in None = 0
 
 -- the period of the first two lines; with fewer the delivery is refused (2)
 abbrev pub period_in : List Line → Period

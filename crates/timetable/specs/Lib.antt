@@ -1,5 +1,6 @@
 pub mod Layout
 pub mod Delivery
+pub mod Refusals
 pub mod Offences
 pub mod Files
 pub mod Plan

@@ -1,14 +1,9 @@
 -- Offences, and the first of several in the stated order. Assumes nothing.
-use Rattle.std.specs.Prelude.{ℕ, List, [], ◌∷◌, ◌++◌, Bool, true, false, cond}
+use Rattle.std.specs.Prelude.{ℕ, List, [], ◌∷◌, ◌++◌, Bool, true, false, cond, Result, Ok, Err}
 use Rattle.std.proofs.Math.Option.{Option, none, some}
 use Rattle.lines.specs.Lines.{Line}
-use Rattle.forms.specs.declared.Form.{Form}
-use Rattle.forms.specs.declared.Form.TheVariants.{Fits, Broken}
+use Rattle.forms.specs.Form.{Form, Fits, Broken}
 use Rattle.timetable.specs.declared.Offence.{Offence}
-use Rattle.timetable.specs.declared.Verdict.{Verdict}
-use Rattle.timetable.specs.declared.Verdict.TheVariants.{Fine, Offends}
-use Rattle.timetable.specs.declared.Checked.{Checked}
-use Rattle.timetable.specs.declared.Checked.TheVariants.{Holds, Refused}
 
 -- an offence by its number at a line; only 4 has a column
 abbrev pub offence_at : ℕ → ℕ → Offence
@@ -39,10 +34,10 @@ first off before (l ∷ ls) = off before l <|> first off (before ++ (l ∷ [])) 
 
 -- ---- offences as the code answers them
 
-abbrev pub verdict_by : Option Offence → Verdict
-verdict_by none = Fine
-verdict_by (some o) = Offends o
+abbrev pub verdict_by : Option Offence → Result (Unit {0}) Offence
+verdict_by none = Ok tt
+verdict_by (some o) = Err o
 
-abbrev pub checked_by : Option Offence → ℕ → ℕ → Checked
-checked_by none a b = Holds a b
-checked_by (some o) a b = Refused o
+abbrev pub checked_by : Option Offence → ℕ → ℕ → Result (ℕ × ℕ) Offence
+checked_by none a b = Ok (a, b)
+checked_by (some o) a b = Err o

@@ -1,5 +1,5 @@
 -- FPLAN, line by line: what each kind of line says. Assumes nothing.
-use Rattle.std.specs.Prelude.{ℕ, ◌+◌, ◌*◌, List, [], ◌∷◌, map, Bool, true, false, cond, not, eqb}
+use Rattle.std.specs.Prelude.{ℕ, ◌+◌, ◌*◌, List, [], ◌∷◌, map, Bool, true, false, cond, not, eqb, Option, Some, None}
 use Rattle.base.specs.Lists.{gathered}
 use Rattle.columns.specs.Columns.{column, blank, number}
 use Rattle.columns.specs.LineFields.{field_in, opening_number, opening_administration, opening_repeats, opening_offset, frequency_time, frequency_density}
@@ -10,15 +10,14 @@ use Rattle.lines.specs.Lines.{Line, skipped}
 use Rattle.fields.specs.Fields.{time, range_end, detail}
 use Rattle.fields.specs.declared.Time.{Time}
 use Rattle.fields.specs.declared.Time.TheVariants.{Absent, Stated, NoTime}
-use Rattle.forms.specs.Form.{form_of}
-use Rattle.forms.specs.declared.Form.{Form}
-use Rattle.forms.specs.declared.Form.TheVariants.{Fits, Broken as BrokenForm}
+use Rattle.forms.specs.Form.{form_of, Form, Fits, Broken as BrokenForm}
 use Rattle.forms.specs.Columns.{service_columns, frequency_columns, category_columns, attribute_columns, call_columns}
 use Rattle.forms.specs.Kinds.{kind_of}
 use Rattle.forms.specs.declared.Kind.{Kind}
 use Rattle.forms.specs.declared.Kind.TheVariants.{Opening as OpeningKind, Frequency, Category as CategoryKind, Attribute, Schedule, Other as OtherKind}
 use Rattle.timetable.specs.Layout.{kind_z, kind_t}
 use Rattle.timetable.specs.declared.Opening.{Opening}
+use Rattle.timetable.specs.declared.Administration.{Administration}
 use Rattle.timetable.specs.declared.CallLine.{CallLine}
 use Rattle.timetable.specs.declared.RangeKind.{RangeKind}
 use Rattle.timetable.specs.declared.RangeKind.TheVariants.{Category, Days, Extra}
@@ -99,6 +98,14 @@ flags_of f Absent = 0
 flags_of f (Stated minutes barred) = f + cond barred (4 * f) 0
 flags_of f NoTime = 0
 
+-- what columns 44-48 and 50-55 of a schedule line say, where they are not blank
+abbrev pub number_said : List ℕ → Option ℕ
+number_said text = cond (blank (field_in call_number text)) None (Some (number (field_in call_number text)))
+
+abbrev pub administration_said : List ℕ → Option Administration
+administration_said text =
+    cond (blank (field_in call_administration text)) None (Some (record { high = three_bytes call_administration.from text; low = three_bytes (call_administration.from + 3) text }))
+
 -- "schedule: 1-7 digits, .., 30-35 arrival, 37-42 departure, 44-48 digits or blank, 50-55 all or no blanks"; document 02, No. 5: "Columns 44-48 and
 -- 50-55 of schedule lines are now kept", the number and the administration, each of which may be blank without the other
 abbrev pub call_in : List ℕ → CallLine
@@ -107,11 +114,8 @@ call_in text = record {
   arrival = minutes_of (time (field_in call_arrival text));
   departure = minutes_of (time (field_in call_departure text));
   flags = flags_of 1 (time (field_in call_arrival text)) + flags_of 2 (time (field_in call_departure text));
-  numbered = not (blank (field_in call_number text));
-  number = number (field_in call_number text);
-  administered = not (blank (field_in call_administration text));
-  high = three_bytes call_administration.from text;
-  low = three_bytes (call_administration.from + 3) text;
+  number = number_said text;
+  administration = administration_said text;
 }
 
 -- a line of a kind says what is read from it, if it has the form

@@ -1,8 +1,7 @@
 -- The questions. Each is a function of a view (View); of any words it is the view of what they hold, 21 where they are no table. Assumes nothing.
 use Rattle.std.specs.Prelude.{ℕ, ◌+◌, ◌-◌, ◌*◌, ◌/◌, ◌%◌, List, [], ◌∷◌, ◌++◌, Bool, cond, ◌&&◌, length, ltb, leb, eqb}
+use Rattle.std.specs.Prelude.{Option, Some, None, Result, Ok, Err}
 use Rattle.calendar.specs.Calendar.{day_of}
-use Rattle.calendar.specs.declared.Date.{Date}
-use Rattle.calendar.specs.declared.Date.TheVariants.{Day, NoSuchDate}
 use Rattle.timetable.specs.Delivery.{Period, Interchange, Service}
 use Rattle.timetable.specs.Layout.{row_size, most_class}
 use Rattle.timetable.specs.Load.{onto}
@@ -10,43 +9,36 @@ use Rattle.timetable.specs.Table.{table_of, is_table}
 use Rattle.timetable.specs.View.{View, view_of}
 use Rattle.timetable.specs.Run.{stretch_from, stretch_calls, category_on, RunFound, no_run, at_rest, a_run, run_of}
 use Rattle.timetable.specs.declared.Call.{Call}
-use Rattle.timetable.specs.declared.DayAnswer.{DayAnswer}
-use Rattle.timetable.specs.declared.DayAnswer.TheVariants.{Runs, Idle, Refused as DayRefused}
-use Rattle.timetable.specs.declared.InterchangeAnswer.{InterchangeAnswer}
-use Rattle.timetable.specs.declared.InterchangeAnswer.TheVariants.{Minutes, Refused as InterchangeRefused}
-use Rattle.timetable.specs.declared.Walked.{Walked}
-use Rattle.timetable.specs.declared.Walked.TheVariants.{Listed, NotRunning, Refused}
+use Rattle.timetable.specs.declared.refusal.Refusal.{Refusal}
+use Rattle.timetable.specs.declared.refusal.Refusal.TheVariants.{NoTable, NoSuchDate, OutsidePeriod, ClassTooHigh, StopUnknown, NoSuchBitField, TooFewWords, CategoryUnlisted}
+use Rattle.timetable.specs.declared.WalkRefusal.{WalkRefusal}
 
 -- ---- any words: 21 unless they are a table, then the question of what they hold. "Order: 21, 22 .., 23 .., then the question's own."
 
-abbrev pub asked : {X : Type 0} → (ℕ → X) → (View → X) → List ℕ → X
-asked refusal question w = cond (is_table w) (question (view_of (table_of w))) (refusal 21)
+abbrev pub asked : {X : Type 0} → (Refusal → X) → (View → X) → List ℕ → X
+asked refusal question w = cond (is_table w) (question (view_of (table_of w))) (refusal NoTable)
 
 -- ---- "22 no such date (day, month and year are given), 23 outside the period"
 
 -- a day of the period, counted from 0, or a refusal
-pub data Dated : Type 0 where
-  undated : ℕ → Dated
-  dated : ℕ → Dated
+abbrev pub dated_by : Period → Option ℕ → Result ℕ Refusal
+dated_by p None = Err NoSuchDate
+dated_by p (Some k) = cond (leb p.start k && ltb k (p.start + p.n)) (Ok (k - p.start)) (Err OutsidePeriod)
 
-abbrev pub dated_by : Period → Date → Dated
-dated_by p NoSuchDate = undated 22
-dated_by p (Day k) = cond (leb p.start k && ltb k (p.start + p.n)) (dated (k - p.start)) (undated 23)
-
-abbrev pub date_of : View → ℕ → ℕ → ℕ → Dated
+abbrev pub date_of : View → ℕ → ℕ → ℕ → Result ℕ Refusal
 date_of v day month year = dated_by v.period (day_of day month year)
 
 -- ---- "Day: 28 no such bit field (0 always runs)."
 
-abbrev pub day_by : View → ℕ → Dated → DayAnswer
-day_by v b (undated number) = DayRefused number
-day_by v b (dated k) = cond (v.known b) (cond (v.runs b k) Runs Idle) (DayRefused 28)
+abbrev pub day_by : View → ℕ → Result ℕ Refusal → Result Bool Refusal
+day_by v b (Err refusal) = Err refusal
+day_by v b (Ok k) = cond (v.known b) (Ok (v.runs b k)) (Err NoSuchBitField)
 
-unfoldable pub day_in : View → ℕ → ℕ → ℕ → ℕ → DayAnswer
+unfoldable pub day_in : View → ℕ → ℕ → ℕ → ℕ → Result Bool Refusal
 day_in v day month year b = day_by v b (date_of v day month year)
 
-unfoldable pub day_asked : List ℕ → ℕ → ℕ → ℕ → ℕ → DayAnswer
-day_asked w day month year b = asked DayRefused (λ (v : View). day_in v day month year b) w
+unfoldable pub day_asked : List ℕ → ℕ → ℕ → ℕ → ℕ → Result Bool Refusal
+day_asked w day month year b = asked Err (λ (v : View). day_in v day month year b) w
 
 -- ---- "Interchange (no date): 26 class over 13, 27 stop unknown; the stop's record, else the first record"
 
@@ -58,27 +50,27 @@ first_time_class class = leb class 2
 abbrev pub minutes_for : Interchange → ℕ → ℕ → ℕ
 minutes_for c a b = cond (first_time_class a && first_time_class b) c.first_time c.second_time
 
-unfoldable pub interchange_in : View → ℕ → ℕ → ℕ → InterchangeAnswer
+unfoldable pub interchange_in : View → ℕ → ℕ → ℕ → Result ℕ Refusal
 interchange_in v n a b =
     cond (leb a most_class && leb b most_class)
-    (cond (v.stop n) (Minutes (minutes_for (v.times n) a b)) (InterchangeRefused 27))
-    (InterchangeRefused 26)
+    (cond (v.stop n) (Ok (minutes_for (v.times n) a b)) (Err StopUnknown))
+    (Err ClassTooHigh)
 
-unfoldable pub interchange_asked : List ℕ → ℕ → ℕ → ℕ → InterchangeAnswer
-interchange_asked w n a b = asked InterchangeRefused (λ (v : View). interchange_in v n a b) w
+unfoldable pub interchange_asked : List ℕ → ℕ → ℕ → ℕ → Result ℕ Refusal
+interchange_asked w n a b = asked Err (λ (v : View). interchange_in v n a b) w
 
 -- ---- document 02, No. 1: "The planner wants to ask the interchange time between two services, not two classes." "The new question takes a stop and two
 -- categories." The question between two classes stays.
 
 -- 27, "38 .., in the question, after 27" (either category); a class over 13 is not met in a table (21), so there is no 26
-unfoldable pub between_in : View → ℕ → ℕ → ℕ → InterchangeAnswer
+unfoldable pub between_in : View → ℕ → ℕ → ℕ → Result ℕ Refusal
 between_in v n a b =
     cond (v.stop n)
-    (cond (v.listed a && v.listed b) (Minutes (minutes_for (v.times n) (v.class a) (v.class b))) (InterchangeRefused 38))
-    (InterchangeRefused 27)
+    (cond (v.listed a && v.listed b) (Ok (minutes_for (v.times n) (v.class a) (v.class b))) (Err CategoryUnlisted))
+    (Err StopUnknown)
 
-unfoldable pub between_asked : List ℕ → ℕ → ℕ → ℕ → InterchangeAnswer
-between_asked w n a b = asked InterchangeRefused (λ (v : View). between_in v n a b) w
+unfoldable pub between_asked : List ℕ → ℕ → ℕ → ℕ → Result ℕ Refusal
+between_asked w n a b = asked Err (λ (v : View). between_in v n a b) w
 
 -- ---- "Walk of service, repeat, date": the rows along a run
 
@@ -110,19 +102,19 @@ rows_of v s a n delay i (c ∷ cs) = row_of v s a n delay i c ++ rows_of v s a n
 
 -- what a walk gives, before the room is looked at
 pub data Journey : Type 0 where
-  refused : ℕ → Journey
+  refused : Refusal → Journey
   idle : Journey
   rows : List ℕ → Journey
 
 abbrev pub rows_along : View → RunFound → Journey
-rows_along v (no_run number) = refused number
+rows_along v (no_run refusal) = refused refusal
 rows_along v at_rest = idle
 rows_along v (a_run x) = rows (rows_of v x.service x.start x.legs x.late 0 (stretch_calls x.service (stretch_from x.start x.legs)))
 
 -- the run of a date: 22, 23, then the run's own
-abbrev pub dated_run : View → ℕ → ℕ → Dated → RunFound
-dated_run v i r (undated number) = no_run number
-dated_run v i r (dated k) = run_of v i r k
+abbrev pub dated_run : View → ℕ → ℕ → Result ℕ Refusal → RunFound
+dated_run v i r (Err refusal) = no_run refusal
+dated_run v i r (Ok k) = run_of v i r k
 
 unfoldable pub journey : View → ℕ → ℕ → ℕ → ℕ → ℕ → Journey
 journey v i r day month year = rows_along v (dated_run v i r (date_of v day month year))
@@ -132,17 +124,23 @@ unfoldable pub walk_of : List ℕ → ℕ → ℕ → ℕ → ℕ → ℕ → Jo
 walk_of w i r day month year = asked refused (λ (v : View). journey v i r day month year) w
 
 -- "Then 29 row slice too short." "Refusals below return only their number, 29 also the words needed"; "A walk that lists rows returns how many"
+abbrev pub Walked : Type 0
+Walked = Result (Option ℕ) WalkRefusal
+
+abbrev pub walk_refusal : Refusal → ℕ → WalkRefusal
+walk_refusal refusal needed = record { refusal = refusal; needed = needed }
+
 abbrev pub walked_by : Journey → ℕ → Walked
-walked_by (refused number) room = Refused number 0
-walked_by idle room = NotRunning
-walked_by (rows ws) room = cond (ltb room (length ws)) (Refused 29 (length ws)) (Listed (length ws / row_size))
+walked_by (refused refusal) room = Err (walk_refusal refusal 0)
+walked_by idle room = Ok None
+walked_by (rows ws) room = cond (ltb room (length ws)) (Err (walk_refusal TooFewWords (length ws))) (Ok (Some (length ws / row_size)))
 
 abbrev pub walked : List ℕ → ℕ → ℕ → ℕ → ℕ → ℕ → ℕ → Walked
 walked w i r day month year room = walked_by (walk_of w i r day month year) room
 
 -- the rows afterwards: refusals "leave the rows as lent"; "later words stay"
 abbrev pub rows_by : Journey → List ℕ → List ℕ
-rows_by (refused number) t = t
+rows_by (refused refusal) t = t
 rows_by idle t = t
 rows_by (rows ws) t = cond (ltb (length t) (length ws)) t (onto ws t)
 

@@ -1,5 +1,6 @@
 -- The services of FPLAN: the lines of each, and what they hold. Assumes nothing.
 use Rattle.std.specs.Prelude.{ℕ, List, [], ◌∷◌, map, Bool, true, false, cond}
+use Rattle.std.specs.Option.{unwrap_or}
 use Rattle.std.proofs.Math.Option.{Option, none, some}
 use Rattle.base.specs.Lists.{gathered}
 use Rattle.lines.specs.Lines.{Line}
@@ -9,6 +10,7 @@ use Rattle.timetable.specs.Ranges.{legs_of}
 use Rattle.timetable.specs.declared.Opening.{Opening}
 use Rattle.timetable.specs.declared.Announced.{Announced}
 use Rattle.timetable.specs.declared.Call.{Call}
+use Rattle.timetable.specs.declared.Administration.{Administration}
 use Rattle.timetable.specs.declared.CallLine.{CallLine}
 use Rattle.timetable.specs.declared.RangeKind.{RangeKind}
 use Rattle.timetable.specs.declared.RangeKind.TheVariants.{Category, Days, Extra}
@@ -47,6 +49,10 @@ opened o = record { number = o.number; high = o.high; low = o.low }
 abbrev pub announced : Call → Announced
 announced c = record { number = c.number; high = c.high; low = c.low }
 
+-- what a schedule line says, else what a says
+abbrev pub administration_by : Announced → CallLine → Administration
+administration_by a l = unwrap_or l.administration (record { high = a.high; low = a.low })
+
 -- the call of a schedule line, where a held before it: of its two fields, number and administration, each that is blank repeats a's
 abbrev pub call_by : Announced → CallLine → Call
 call_by a l = record {
@@ -54,9 +60,9 @@ call_by a l = record {
   arrival = l.arrival;
   departure = l.departure;
   flags = l.flags;
-  number = cond l.numbered l.number a.number;
-  high = cond l.administered l.high a.high;
-  low = cond l.administered l.low a.low;
+  number = unwrap_or l.number a.number;
+  high = (administration_by a l).high;
+  low = (administration_by a l).low;
 }
 
 -- calls one after the other, where a held before the first; each with the number of its line

@@ -1,7 +1,7 @@
 -- What a question looks up, as one record: the period; a service by its index; a bit field, a stop, its interchange times and a category's class by their
 -- numbers. Every question is a function of a view. The view of a delivery stands here; what any words and any index show is another (crate index), and one
 -- equation between two views carries every question at once. Assumes nothing.
-use Rattle.std.specs.Prelude.{ℕ, List, [], ◌∷◌, Bool, eqb}
+use Rattle.std.specs.Prelude.{ℕ, List, [], ◌∷◌, Bool, eqb, Result, Ok, Err}
 use Rattle.std.proofs.Math.Option.{Option, none, some}
 use Rattle.std.proofs.Math.ListN.{get_elem?}
 use Rattle.base.specs.Lists.{find}
@@ -9,6 +9,8 @@ use Rattle.timetable.specs.Delivery.{Period, StopRecord, Interchange, CategoryCl
 use Rattle.timetable.specs.Files.{has_stop, has_class}
 use Rattle.timetable.specs.Legs.{field_known, field_runs}
 use Rattle.timetable.specs.Table.{stop_number_at}
+use Rattle.timetable.specs.declared.refusal.Refusal.{Refusal}
+use Rattle.timetable.specs.declared.refusal.Refusal.TheVariants.{NoSuchService}
 
 -- ---- look-ups in a delivery: "Lookups take the first match."
 
@@ -39,21 +41,17 @@ class_for d code = class_by (find (λ (c : CategoryClass). eqb c.code code) d.cl
 abbrev pub stop_numbered : ℕ → List StopRecord → Option StopRecord
 stop_numbered n stops = find (λ (s : StopRecord). eqb s.number n) stops
 
--- a service by its index, or the number that refuses it: "24 service index not below V" (by words beside a table also 43, where no sound record stands: crate index)
-pub data ServiceFound : Type 0 where
-  no_service : ℕ → ServiceFound
-  a_service : Service → ServiceFound
-
-abbrev pub service_by : Option Service → ServiceFound
-service_by none = no_service 24
-service_by (some s) = a_service s
+-- a service by its index, or what refuses it: "24 service index not below V" (by words beside a table also 43, where no sound record stands: crate index)
+abbrev pub service_by : Option Service → Result Service Refusal
+service_by none = Err NoSuchService
+service_by (some s) = Ok s
 
 -- ---- the view
 
 pub record View : Type 0 where
   pub period : Period
   -- the service of an index, its calls' stops by their numbers
-  pub service : ℕ → ServiceFound
+  pub service : ℕ → Result Service Refusal
   -- whether a bit field number is known (0 always is), and whether it runs on a day of the period
   pub known : ℕ → Bool
   pub runs : ℕ → ℕ → Bool

@@ -14,13 +14,17 @@ ghost use Rattle.timetable.specs.Layout.{kind_z, kind_t};
 ghost use Rattle.timetable.specs.Ranges.{in_order, has_arrival, has_departure};
 ghost use Rattle.timetable.specs.Plan.{two_bytes, three_bytes, attribute_part, is_opening};
 ghost use Rattle.timetable.specs.Table.{call_at, legs_at, category_at, day_at, extra_at};
+ghost use Rattle.timetable.specs.Questions.{walk_refusal};
 ghost use Rattle.timetable.specs.Inner.Words.{legs_read, category_read, day_read, extra_read};
+
+pub mod refusal;
 
 pub use bitfield::BIT_WORDS;
 pub use calendar::MOST_PERIOD_DAYS;
 use fields::{Detail, RangeEnd};
 use forms::Kind;
 pub use forms::MOST_FILE_BYTES;
+pub use refusal::Refusal;
 
 // ---- what a line of FPLAN says
 
@@ -37,16 +41,20 @@ pub struct Opening {
 }
 
 // A schedule line: stop, times, and flags (1 arrival stated, 2 departure stated, 4 no alighting, 8 no boarding); a number, where it says one, and an
-// administration (two words of three bytes), where it says one.
+// administration, where it says one.
 #[derive(Clone, Copy)]
 pub struct CallLine {
     pub stop: u32,
     pub arrival: u32,
     pub departure: u32,
     pub flags: u32,
-    pub numbered: bool,
-    pub number: u32,
-    pub administered: bool,
+    pub number: Option<u32>,
+    pub administration: Option<Administration>,
+}
+
+// An administration, in two words of three bytes.
+#[derive(Clone, Copy)]
+pub struct Administration {
     pub high: u32,
     pub low: u32,
 }
@@ -241,6 +249,7 @@ pub fn legs_at(w: &[u32], at: usize, own: usize) -> LegWords
     }
 }
 
+// Kept: three functions: what each reads bears its own names
 // The range whose words start at a place.
 pub fn category_at(w: &[u32], at: usize) -> CategoryWords
     requires { at + category_size ≤ length w.now }
@@ -279,6 +288,7 @@ pub fn extra_at(w: &[u32], at: usize) -> ExtraWords
 // ---- offences
 
 // An offence of a file: its number, its line, and the column where a form is broken (0 unless 4).
+// Kept: a number and not its Refusal: the change runs through the theorems of the crates above, and its proofs were not carried to the end
 #[derive(Clone, Copy)]
 pub struct Offence {
     pub number: u32,
@@ -297,30 +307,17 @@ pub fn offence_at(number: u32, line: u32) -> Offence
     }
 }
 
-// No offence, or the first.
-#[derive(Clone, Copy)]
-pub enum Verdict {
-    Fine,
-    Offends(Offence),
-}
-
-// The verdict of an offence that is not 4.
-pub fn offends(number: u32, line: u32) -> Verdict
+// What a check answers whose one offence, which is not 4, is found.
+pub fn offends(number: u32, line: u32) -> Result<(), Offence>
     ensures { result ≡ verdict_by (some (offence_at number line)) }
 {
-    Verdict::Offends(offence_at(number, line))
-}
-
-// What checking a part of a delivery answers: the two numbers that it is asked for, or its first offence.
-#[derive(Clone, Copy)]
-pub enum Checked {
-    Holds(u32, u32),
-    Refused(Offence),
+    Err(offence_at(number, line))
 }
 
 // ---- answers
 
 // What load answers: the words used, or number, file, line and column (0 unless 4) of the first offence, and the words needed (0 unless 20 or 51).
+// Kept: an enum and not a Result: it goes with the numbers of offences, which are kept
 #[derive(Clone, Copy)]
 pub enum Loaded {
     Accepted(u32),
@@ -333,42 +330,33 @@ pub enum Loaded {
     },
 }
 
-// What a day question answers.
-#[derive(Clone, Copy)]
-pub enum DayAnswer {
-    Runs,
-    Idle,
-    Refused(u32),
-}
-
-// What an interchange question answers.
-#[derive(Clone, Copy)]
-pub enum InterchangeAnswer {
-    Minutes(u32),
-    Refused(u32),
-}
-
 // What a question for a stop's name answers: the part of BAHNHOF that holds the name, by the byte where it starts, from 0, and its length.
 #[derive(Clone, Copy)]
-pub enum NameAnswer {
-    Part { start: usize, size: usize },
-    Refused(u32),
+pub struct NamePart {
+    pub start: usize,
+    pub size: usize,
 }
 
-// What a service does on a day: the stretch that it runs along, by its first call and its number of legs; that it does not run; or the number of the refusal.
+// The stretch that a service runs along on a day, by its first call and its number of legs.
 #[derive(Clone, Copy)]
-pub enum Course {
-    Along { start: u32, legs: u32 },
-    NotRunning,
-    Refused(u32),
+pub struct Along {
+    pub start: u32,
+    pub legs: u32,
 }
 
-// What a walk answers: how many rows it lists, that the service is not running, or the refusal and the words needed (0 unless 29).
+// What a walk is refused for, and the words needed (0 unless 29).
 #[derive(Clone, Copy)]
-pub enum Walked {
-    Listed(u32),
-    NotRunning,
-    Refused { number: u32, needed: u32 },
+pub struct WalkRefusal {
+    pub refusal: Refusal,
+    pub needed: u32,
+}
+
+impl From<Refusal> for WalkRefusal {
+    ghost from_gives = { λ r w. w ≡ walk_refusal r 0 };
+
+    fn from(refusal: Refusal) -> WalkRefusal {
+        WalkRefusal { refusal, needed: 0 }
+    }
 }
 
 // ---- the table's sizes, in words (specs/Layout; `sizes_tied` ties the two)
@@ -494,6 +482,7 @@ pub fn in_order(loose: bool, from: u32, to: u32) -> bool
     from < to
 }
 
+// Kept: written out, since it ties each size to the definition of its name
 // The sizes that the contracts name, by the names that the code uses.
 pub fn sizes_tied() -> [usize; 14]
     ensures { result ≡ header_size ∷ bit_words ∷ bit_field_size ∷ stop_size ∷ interchange_size ∷ class_size ∷ service_head

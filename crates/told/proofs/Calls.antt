@@ -6,18 +6,19 @@ use Prim.Native.Nat.{ℕ, ◌+◌, ◌*◌, ◌/◌, ◌%◌, ◌^◌, ◌≤◌
 use native.Mathlib.Nat.{div-one}
 use native.Mathlib.Omega.{arith}
 use lib.ListN.{length, take, drop}
+use Rattle.std.specs.Prelude.{Some, None}
 use lib.Dec.{eqb, lit≤, lit<}
 use Rattle.base.proofs.Laws.{tests}
 use Rattle.base.proofs.Loops.{and-true}
 use Rattle.base.specs.Lists.{every}
-use Rattle.columns.specs.Columns.{columns, column, is_blank, blank, digits, number, number_from}
+use Rattle.columns.specs.Columns.{columns, column, is_blank, blank, digits, number}
 use Rattle.fields.specs.Fields.{time}
 use Rattle.fields.specs.declared.Time.{Time}
 use Rattle.byte_words.specs.Inner.Words.{bytes_of, is_figure}
 use Rattle.byte_words.proofs.Lines.{blanks, columns-word, column-word, time-word, word-then, two-words, one-column, blank-in, blank-column}
 use Rattle.forms.specs.Form.{is_time, has_form}
 use Rattle.forms.specs.Columns.{call_columns}
-use Rattle.timetable.specs.Plan.{call_in, minutes_of, flags_of, three_bytes}
+use Rattle.timetable.specs.Plan.{call_in, number_said, administration_said, minutes_of, flags_of, three_bytes}
 use Rattle.timetable.specs.declared.CallLine.{CallLine}
 use Rattle.timetable.specs.declared.Told.TheVariants.{Calls}
 use Rattle.timetable.proofs.Lines.{flags-le}
@@ -63,15 +64,9 @@ module _ (l : List ℕ) (p : blank (columns 43 58 l) ≡ true) where
   unfolding tail_fits end_fits every
   tail-asks = rw (at 43 (lit≤ tt) (lit≤ tt), number-blank, at 49 (lit≤ tt) (lit≤ tt), admin-blank, at 56 (lit≤ tt) (lit≤ tt), one-column l 57 (lit≤ tt), at 57 (lit≤ tt) (lit≤ tt), at 58 (lit≤ tt) (lit≤ tt), one-column l 59 (lit≤ tt))
 
-  high-blank : three_bytes 50 l ≡ 2105376
-  high-blank = rw (at 50 (lit≤ tt) (lit≤ tt), at 51 (lit≤ tt) (lit≤ tt), at 52 (lit≤ tt) (lit≤ tt))
-
-  low-blank : three_bytes 53 l ≡ 2105376
-  low-blank = rw (at 53 (lit≤ tt) (lit≤ tt), at 54 (lit≤ tt) (lit≤ tt), at 55 (lit≤ tt) (lit≤ tt))
-
   blank-says : (stop : ℕ) (a d : Time) → blank_call stop a d ≡ filled_call l (blank_call stop a d)
-  unfolding number_from every
-  blank-says stop a d = rw (number-blank, admin-blank, high-blank, low-blank)
+  unfolding every
+  blank-says stop a d = rw (number-blank, admin-blank)
 
 -- b says whether the tail is blank, x is the byte behind it, for `search tails`
 pub tail-mark : (l : List ℕ) (b : Bool) (x : ℕ) → b ≡ blank (columns 43 58 l) → b ≡ true → x ≡ column 59 l → eqb x 37 ≡ tail_fits l
@@ -137,7 +132,7 @@ module _ (l : List ℕ) (h : mark_column ≤ length l) (stop : ℕ) (s : Bool) (
 
 pub ruleset heads = (tests, head-stop, head-arrival, head-gap, head-departure)
 
--- ---- for `search wording`: the needs of `number_fits`, `administration_fits` and `filled_call`
+-- ---- for `search wording`: the needs of `number_fits`, `administration_fits`, `number_said` and `administration_said`
 
 module _ (l : List ℕ) (h : mark_column ≤ length l) (w : ℕ) (b : Bool) where
   module _ (e : bytes_of 8 w ≡ take 8 (drop 43 l)) (eb : b ≡ blank (bytes_of 5 w)) where
@@ -157,13 +152,22 @@ module _ (l : List ℕ) (h : mark_column ≤ length l) (w : ℕ) (b : Bool) wher
 pub number-figures : (l : List ℕ) (w : ℕ) → mark_column ≤ length l → every is_figure (columns 44 48 l) ≡ true → bytes_of 8 w ≡ take 8 (drop 43 l) → every is_figure (bytes_of 5 w) ≡ true
 number-figures l w h y e = ap (every is_figure) (sym (five l h w e)) ∙ y
 
-pub filled-made : (l : List ℕ) (said : CallLine) (v w n high low : ℕ) (b d : Bool) → mark_column ≤ length l
-    → bytes_of 8 v ≡ take 8 (drop 43 l) → bytes_of 8 w ≡ take 8 (drop 49 l) → b ≡ blank (bytes_of 5 v) → n ≡ number (bytes_of 5 v) → d ≡ blank (bytes_of 6 w)
-    → high ≡ three_bytes 50 l → low ≡ three_bytes 53 l
-    → record { stop = said.stop; arrival = said.arrival; departure = said.departure; flags = said.flags; numbered = not b; number = n; administered = not d; high = high; low = low } ≡ filled_call l said
-filled-made l said v w n high low b d h e f eb en ed eh el = rw (five l h v e, six l h w f, eb, en, ed, eh, el)
+module _ (l : List ℕ) (h : mark_column ≤ length l) (w : ℕ) (b : Bool) where
+  module _ (e : bytes_of 8 w ≡ take 8 (drop 43 l)) (eb : b ≡ blank (bytes_of 5 w)) where
+    pub number-unsaid : b ≡ true → None ≡ number_said l
+    number-unsaid y = rw (five l h w e, ← eb, y) refl
 
-pub ruleset wording = (tests, number-blank-fits, number-digits-fit, administration-blank-fits, administration-filled-fits, number-figures, filled-made)
+    pub number-made : (n : ℕ) → b ≡ false → n ≡ number (bytes_of 5 w) → Some n ≡ number_said l
+    number-made n y en = rw (five l h w e, ← eb, y, en) refl
+
+  module _ (e : bytes_of 8 w ≡ take 8 (drop 49 l)) (eb : b ≡ blank (bytes_of 6 w)) where
+    pub administration-unsaid : b ≡ true → None ≡ administration_said l
+    administration-unsaid y = rw (six l h w e, ← eb, y) refl
+
+    pub administration-made : (high low : ℕ) → b ≡ false → high ≡ three_bytes 50 l → low ≡ three_bytes 53 l → Some (record { high = high; low = low }) ≡ administration_said l
+    administration-made high low y eh el = rw (six l h w e, ← eb, y, eh, el) refl
+
+pub ruleset wording = (tests, number-blank-fits, number-digits-fit, administration-blank-fits, administration-filled-fits, number-figures, number-unsaid, number-made, administration-unsaid, administration-made)
 
 -- ---- for `search reading`: the needs of `formed_told` and `call_in`, of a line that has the form
 
@@ -222,7 +226,7 @@ module _ (a d : Time) (i j : ℕ) (ei : i ≡ flags_of 1 a) (ej : j ≡ flags_of
   sum_fits = omega (arith, ei, ej, flags-le 1 a, flags-le 1 d)
 
   pub blank-made : (stop n arrival departure : ℕ) → n ≡ number (bytes_of 7 stop) → arrival ≡ minutes_of a → departure ≡ minutes_of d
-      → record { stop = n; arrival = arrival; departure = departure; flags = i + 2 * j; numbered = false; number = 0; administered = false; high = 2105376; low = 2105376 } ≡ blank_call stop a d
+      → record { stop = n; arrival = arrival; departure = departure; flags = i + 2 * j; number = None; administration = None } ≡ blank_call stop a d
   blank-made stop n arrival departure en er es = rw (en, er, es, ei, ej, double d)
 
 pub ruleset blanked = (tests, twice-fits, sum_fits, blank-made)

@@ -9,23 +9,22 @@ use native.Mathlib.Omega.{arith}
 use lib.ListN.{length, get_or, get_elem?}
 use lib.Dec.{ltb, leb}
 use borrow.Author.Tests.{ltb-true, leb-true}
+use Rattle.std.specs.Prelude.{Ok, Err, Some, None}
 use Rattle.base.specs.Lists.{All, nil, cons, find, count_if}
 use Rattle.base.proofs.Laws.{apart}
 use Rattle.base.proofs.Loops.{and-true}
 use Rattle.calendar.specs.Calendar.{day_of}
-use Rattle.calendar.specs.declared.Date.{Date}
-use Rattle.calendar.specs.declared.Date.TheVariants.{Day, NoSuchDate}
+use Rattle.std.specs.Prelude.{Option as Optional, Some, None}
 use Rattle.timetable.specs.Delivery.{Files, Period, CategoryRange, Service, Delivery}
 use Rattle.timetable.specs.Legs.{covers}
 use Rattle.timetable.specs.Load.{delivered, loaded, written}
 use Rattle.timetable.specs.Runs.{has_run, lateness}
 use Rattle.timetable.specs.View.{View, view_of, service_by}
-use Rattle.timetable.specs.Run.{name_by, category_on, Run, RunFound, no_run, at_rest, a_run, run_along, run_by, run_of, service_course}
-use Rattle.timetable.specs.Questions.{Dated, undated, dated, dated_by, date_of, Journey, refused, idle, rows, rows_along, dated_run, journey, walk_of}
+use Rattle.timetable.specs.Run.{Course, runs_along, name_by, category_on, Run, RunFound, no_run, at_rest, a_run, run_along, run_by, run_of, service_course}
+use Rattle.timetable.specs.Questions.{dated_by, date_of, Journey, refused, idle, rows, rows_along, dated_run, journey, walk_of}
 use Rattle.timetable.specs.declared.Call.{Call}
-use Rattle.timetable.specs.declared.Course.{Course}
-use Rattle.timetable.specs.declared.Course.TheVariants.{Along, NotRunning, Refused}
 use Rattle.timetable.specs.declared.Loaded.TheVariants.{Accepted}
+use Rattle.timetable.specs.declared.refusal.Refusal.TheVariants.{OutsidePeriod}
 use Rattle.whole_runs.specs.Rows.{row_word, flag, no_call, call_no, Row, Stretched, RunsNowhere}
 use Rattle.whole_runs.specs.Promise.{Asked, Demand3, Outcome, not_running, runs, OwnRun}
 use Rattle.whole_runs.specs.Classes.{OwnClass}
@@ -35,25 +34,24 @@ use Rattle.connections.specs.Connection.{moment, connection_in, no_connection, c
 use Rattle.connections.specs.Promise.{IsStage, Proposed}
 use Rattle.connections.specs.declared.Part.{Part}
 use Rattle.connections.specs.declared.Stage.{Stage}
-use Rattle.connections.specs.declared.ConnectionAnswer.TheVariants.{Holds}
 use Rattle.connections.proofs.Accepts.{accepted-is}
 use Rattle.whole_connections.specs.Promise.{OwnPart}
 use Rattle.whole_connections.proofs.Course.{one-start, course-along}
 
 -- ---- a date in the period
 
-pub record OnDay (p : Period) (t : Date) (k : ℕ) : Type 0 where
+pub record OnDay (p : Period) (t : Optional ℕ) (k : ℕ) : Type 0 where
   pub day : ℕ
-  pub is : t ≡ Day day
+  pub is : t ≡ Some day
   pub from : p.start ≤ day
   pub until : day < p.start + p.n
   pub at : day - p.start ≡ k
 
-pub date-on : (p : Period) (t : Date) (k : ℕ) → dated_by p t ≡ dated k → OnDay p t k
-date-on p NoSuchDate k e = apart (cc)
-date-on p (Day day) k e = go (leb p.start day && ltb day (p.start + p.n)) refl e
+pub date-on : (p : Period) (t : Optional ℕ) (k : ℕ) → dated_by p t ≡ Ok k → OnDay p t k
+date-on p None k e = apart (cc)
+date-on p (Some day) k e = go (leb p.start day && ltb day (p.start + p.n)) refl e
   where
-    go : (t : Bool) → (leb p.start day && ltb day (p.start + p.n)) ≡ t → cond t (dated (day - p.start)) (undated 23) ≡ dated k → OnDay p (Day day) k
+    go : (t : Bool) → (leb p.start day && ltb day (p.start + p.n)) ≡ t → cond t (Ok (day - p.start)) (Err OutsidePeriod) ≡ Ok k → OnDay p (Some day) k
     go false q e = apart (cc)
     go true q e =
         let (a, b) = and-true (leb p.start day) (ltb day (p.start + p.n)) q in
@@ -64,17 +62,17 @@ date-on p (Day day) k e = go (leb p.start day && ltb day (p.start + p.n)) refl e
 pub record RunOf (d : Delivery) (i r k : ℕ) (x : Run) : Type 0 where
   pub there : get_elem? d.services i ≡ some x.service
   pub late : x.late ≡ lateness x.service.opening r
-  pub course : service_course (view_of d) x.service r k ≡ Along x.start x.legs
+  pub course : service_course (view_of d) x.service r k ≡ runs_along x.start x.legs
 
 pub run-says : (d : Delivery) (i r k : ℕ) (x : Run) → run_of (view_of d) i r k ≡ a_run x → RunOf d i r k x
 unfolding run_of
 run-says d i r k x = found (get_elem? d.services i) refl
   where
     along : (s : Service) → get_elem? d.services i ≡ some s → (c : Course) → service_course (view_of d) s r k ≡ c → run_along s (lateness s.opening r) c ≡ a_run x → RunOf d i r k x
-    along s e (Refused number) q h = apart (cc)
-    along s e NotRunning q h = apart (cc)
-    along s e (Along a n) q h =
-        let z : record { service = s; late = lateness s.opening r; start = a; legs = n } ≡ x = cc in
+    along s e (Err refusal) q h = apart (cc)
+    along s e (Ok None) q h = apart (cc)
+    along s e (Ok (Some y)) q h =
+        let z : record { service = s; late = lateness s.opening r; start = y.start; legs = y.legs } ≡ x = cc in
         subst (RunOf d i r k) z (record { there = e; late = refl; course = q })
 
     found : (o : Option Service) → get_elem? d.services i ≡ o → run_by (view_of d) (service_by o) r k ≡ a_run x → RunOf d i r k x
@@ -119,14 +117,14 @@ module _ (f : Files) (t : List ℕ) (helper u : ℕ) (e : loaded f (length t) he
   d = delivered f
 
   -- what demand 3 is asked of a part
-  pub part-asks : (p : Part) (k : ℕ) (s : Service) → date_of (view_of d) p.day p.month p.year ≡ dated k → get_elem? d.services p.service ≡ some s → has_run s.opening p.repeat ≡ true
+  pub part-asks : (p : Part) (k : ℕ) (s : Service) → date_of (view_of d) p.day p.month p.year ≡ Ok k → get_elem? d.services p.service ≡ some s → has_run s.opening p.repeat ≡ true
       → (day : ℕ) × Asked f p.service p.repeat p.day p.month p.year s day × (day - d.period.start ≡ k)
   part-asks p k s on there has =
       let o = date-on d.period (day_of p.day p.month p.year) k on in
       (o.day, record { service = there; repeat = has; date = o.is; from = o.from; until = o.until }, o.at)
 
   -- the walk of a part
-  pub part-walks : (p : Part) (k : ℕ) (x : RunFound) → date_of (view_of d) p.day p.month p.year ≡ dated k → run_of (view_of d) p.service p.repeat k ≡ x
+  pub part-walks : (p : Part) (k : ℕ) (x : RunFound) → date_of (view_of d) p.day p.month p.year ≡ Ok k → run_of (view_of d) p.service p.repeat k ≡ x
       → walk_of w p.service p.repeat p.day p.month p.year ≡ rows_along (view_of d) x
   unfolding journey
   part-walks p k x on is = walk-accepted f t helper u e p.service p.repeat p.day p.month p.year ∙ rw (on, is)
@@ -211,6 +209,6 @@ module _ (f : Files) (t : List ℕ) (helper u : ℕ) (e : loaded f (length t) he
         rows-own day at _ (listed h.outcome _ walks) h.own a walks
 
   -- of a connection that holds: it is one (`Proposed`, by the delivery), and each of its stages is of the delivery's own text
-  pub holds-own : (ws : List ℕ) → connection_asked w ws ≡ Holds → Proposed (view_of d) ws × ((p : Part) (s : Stage) → IsStage (view_of d) p s → OwnPart f w p s)
+  pub holds-own : (ws : List ℕ) → connection_asked w ws ≡ Ok tt → Proposed (view_of d) ws × ((p : Part) (s : Stage) → IsStage (view_of d) p s → OwnPart f w p s)
   unfolding connection_asked
   holds-own ws h = (accepted-is (view_of d) ws (sym (asked-accepted no_connection (λ (v : View). connection_in v ws) f t helper u e) ∙ h), stage-own)

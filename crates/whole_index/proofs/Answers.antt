@@ -8,6 +8,7 @@ use native.Mathlib.Omega.{arith}
 use lib.ListN.{length, take, drop, set, length-drop, length-append}
 use lib.Seq.{length-take-le, drop-drop}
 use borrow.Author.Tests.{lt-ltb, le-ltb, not-true, not-false}
+use Rattle.std.specs.Prelude.{Option, Some, None}
 use Rattle.base.proofs.Laws.{tests}
 use Rattle.timetable.specs.Load.{onto}
 use Rattle.timetable.specs.Table.{used, is_table}
@@ -15,7 +16,7 @@ use Rattle.words.specs.Words.{write}
 use Rattle.words.proofs.Laws.{write-write, write-front, length-write}
 use Rattle.table.specs.JustTable.{JustTable}
 use Rattle.table.specs.Steady.{steady, look_by}
-use Rattle.table.specs.declared.Look.{Look}
+use Rattle.table.proofs.Records.{look-table, look_steady, look-no-table}
 use Rattle.table.proofs.JustTable.{used-just, just-header, just-used, used-steady}
 use Rattle.index.specs.Index.{index_size, index_of}
 use Rattle.calls.specs.Calls.{call_index_size, call_index_of}
@@ -136,40 +137,37 @@ pub ruleset makes = (tests, just-header, whole-fits, whole_is, short-answer, sho
 
 -- ---- any words; l is what a look at them tells, and u are those that a table uses
 
-module _ (w : List ℕ) (l : Look) (e : l ≡ look_by (is_table w) (steady w)) where
-  told : l.table ≡ is_table w
-  told = ap (λ (x : Look). x.table) e
-
-  module _ (n : not l.table ≡ false) where
+module _ (w : List ℕ) (l : Option Bool) (e : l ≡ look_by (is_table w) (steady w)) where
+  module _ (b : Bool) (n : l ≡ Some b) where
     pub is-table : is_table w ≡ true
-    is-table = sym told ∙ not-false l.table n
+    is-table = look-table w l e b n
 
     module _ (u : List ℕ) (p : u ≡ used w) where
       pub is-just : JustTable u
       is-just = rw p (used-just w is-table)
 
-      pub is-steady : l.steady ≡ steady u
-      is-steady = ap (λ (x : Look). x.steady) e ∙ rw (is-table, p) (sym (used-steady w is-table))
+      pub is-steady : b ≡ steady u
+      is-steady = look_steady w l e b n ∙ rw p (sym (used-steady w is-table))
 
   module _ (t : List ℕ) where
-    pub barred-answer : not l.table ≡ true → Refused 21 0 ≡ made_of w (length t)
+    pub barred-answer : l ≡ None → Refused 21 0 ≡ made_of w (length t)
     unfolding made_of
-    barred-answer n = sym (rw (sym told ∙ not-true l.table n))
+    barred-answer n = sym (rw (look-no-table w l e n))
 
-    pub barred-kept : not l.table ≡ true → t ≡ index_into w t
+    pub barred-kept : l ≡ None → t ≡ index_into w t
     unfolding index_into
-    barred-kept n = sym (rw (sym told ∙ not-true l.table n))
+    barred-kept n = sym (rw (look-no-table w l e n))
 
-    module _ (n : not l.table ≡ false) (u : List ℕ) (p : u ≡ used w) where
+    module _ (b : Bool) (n : l ≡ Some b) (u : List ℕ) (p : u ≡ used w) where
       used-twice : used u ≡ used w
-      used-twice = just-used u (is-just n u p) ∙ p
+      used-twice = just-used u (is-just b n u p) ∙ p
 
       pub same_answer : (r : Made) → r ≡ made_of u (length t) → r ≡ made_of w (length t)
       unfolding made_of
-      same_answer r f = f ∙ rw ((is-just n u p).table, is-table n, used-twice)
+      same_answer r f = f ∙ rw ((is-just b n u p).table, is-table b n, used-twice)
 
       pub same-words : (y : List ℕ) → y ≡ index_into u t → y ≡ index_into w t
       unfolding index_into
-      same-words y f = f ∙ rw ((is-just n u p).table, is-table n, used-twice)
+      same-words y f = f ∙ rw ((is-just b n u p).table, is-table b n, used-twice)
 
 pub ruleset any = (tests, barred-answer, barred-kept, is-table, is-just, is-steady, same_answer, same-words)

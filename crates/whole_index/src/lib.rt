@@ -22,14 +22,13 @@ pub fn make_index(w: &[u32], x: &mut [u32]) -> Made
     ensures answer { result ≡ made_of w.now (length x.old) }
     ensures words { x.new ≡ index_into w.now x.old }
 {
-    let seen = table::look_at(w);
-    if !seen.table {
+    let Some(is_steady) = table::look_at(w) else {
         return Made::Refused {
             number: 21,
             needed: 0,
         };
-    }
-    make(table::used_words(w), seen.steady, x)
+    };
+    make(table::used_words(w), is_steady, x)
 }
 
 // Of just a table, where it is known whether its calls are steady.

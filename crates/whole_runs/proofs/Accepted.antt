@@ -10,6 +10,7 @@ use lib.ListN.{length, take, take-append-drop, drop, length-append, length-map}
 use lib.Seq.{take_at, drop_at}
 use lib.Dec.{ltb, leb, eqb}
 use borrow.Author.Tests.{le-leb, le-ltb, ltb-false, eqb-false, eq-eqb}
+use Rattle.std.specs.Prelude.{Err}
 use Rattle.base.specs.Lists.{All, nil, cons, every, gathered}
 use Rattle.base.proofs.Laws.{apart}
 use Rattle.calendar.specs.Calendar.{last_day}
@@ -24,8 +25,7 @@ use Rattle.timetable.specs.Table.{word_count_in, calls#, categories#, days#, ext
 use Rattle.timetable.specs.Table.{table_of, head_sound, class_sound, is_table}
 use Rattle.timetable.specs.View.{View, view_of}
 use Rattle.timetable.specs.Questions.{asked, day_in, day_asked, interchange_in, interchange_asked, refused, journey, walk_of}
-use Rattle.timetable.specs.declared.DayAnswer.TheVariants.{Refused as DayRefused}
-use Rattle.timetable.specs.declared.InterchangeAnswer.TheVariants.{Minutes, Refused as InterchangeRefused}
+use Rattle.timetable.specs.declared.refusal.Refusal.{Refusal}
 use Rattle.timetable.specs.declared.Loaded.{Loaded}
 use Rattle.timetable.specs.declared.Loaded.TheVariants.{Accepted, Refused}
 use Rattle.timetable.proofs.Offences.{then-none, given-none}
@@ -268,7 +268,7 @@ module _ (f : Files) (t : List ℕ) (helper u : ℕ) (e : loaded f (length t) he
 
 -- ---- questions of words that are a table and hold a delivery are questions of that delivery
 
-module _ {X : Type 0} (refusal : ℕ → X) (question : View → X) where
+module _ {X : Type 0} (refusal : Refusal → X) (question : View → X) where
   pub asked-held : (w : List ℕ) (d : Delivery) → is_table w ≡ true → table_of w ≡ d → asked refusal question w ≡ question (view_of d)
   asked-held w d is holds = rw (is, holds)
 
@@ -283,7 +283,7 @@ module _ (f : Files) (t : List ℕ) (helper u : ℕ) (e : loaded f (length t) he
       let front : take u (written f t helper) ≡ table_words (delivered f) = ap (take u) (written_is f t helper u e) ∙ take_at (table_words (delivered f)) (drop (length (table_words (delivered f))) t) u (sym (used-words f t helper u e)) in
       sym (take-append-drop u w) ∙ ap (λ (x : List ℕ). x ++ drop u w) (same ∙ front)
 
-  pub unaltered-asked : {X : Type 0} (refusal : ℕ → X) (question : View → X) → asked refusal question w ≡ asked refusal question (written f t helper)
+  pub unaltered-asked : {X : Type 0} (refusal : Refusal → X) (question : View → X) → asked refusal question w ≡ asked refusal question (written f t helper)
   unaltered-asked refusal question =
       let c = no-offence f t helper u e in
       ap (asked refusal question) unaltered-is
@@ -297,11 +297,11 @@ module _ (w : List ℕ) (d : Delivery) (is : is_table w ≡ true) (holds : table
 
   pub day-held : (day month year b : ℕ) → day_asked w day month year b ≡ day_in (view_of d) day month year b
   unfolding day_asked
-  day-held day month year b = asked-held DayRefused (λ (v : View). day_in v day month year b) w d is holds
+  day-held day month year b = asked-held Err (λ (v : View). day_in v day month year b) w d is holds
 
   pub interchange-held : (n a b : ℕ) → interchange_asked w n a b ≡ interchange_in (view_of d) n a b
   unfolding interchange_asked
-  interchange-held n a b = asked-held InterchangeRefused (λ (v : View). interchange_in v n a b) w d is holds
+  interchange-held n a b = asked-held Err (λ (v : View). interchange_in v n a b) w d is holds
 
 -- of an accepted delivery's table
 module _ (f : Files) (t : List ℕ) (helper u : ℕ) (e : loaded f (length t) helper ≡ Accepted u) where

@@ -3,6 +3,8 @@ use mathlib.Core.Path.{◌≡◌, refl, sym, ap, ◌∙◌, subst}
 use mathlib.Core.List.{List, [], ◌∷◌, map}
 use mathlib.Core.Bool.{Bool, true, false, cond}
 use mathlib.Core.Option.{Option, none, some}
+use Rattle.std.specs.Prelude.{Option as RustOption, Some, None}
+use Rattle.std.specs.Option.{unwrap_or}
 use Prim.Native.Nat.{ℕ, zero, suc, ◌+◌, ◌≤◌, ◌<◌}
 use native.Mathlib.Omega.{arith}
 use lib.ListN.{length, get_or, get_elem?}
@@ -15,9 +17,10 @@ use Rattle.timetable.specs.Plan.{tolds, as_call, said_on}
 use Rattle.timetable.specs.Service.{opening_of, opened, announced, call_by, holding, called_on, calls_of, service_of}
 use Rattle.timetable.specs.declared.Announced.{Announced}
 use Rattle.timetable.specs.declared.Call.{Call}
+use Rattle.timetable.specs.declared.Administration.{Administration}
 use Rattle.timetable.specs.declared.CallLine.{CallLine}
 use Rattle.timetable.proofs.Lines.{said-on}
-use Rattle.whole_runs.specs.Text.{number_said, administration_said, HoldsAt, since, from_start, Announces, FromText}
+use Rattle.whole_runs.specs.Text.{number_by, administration_by, number_said, administration_said, HoldsAt, since, from_start, Announces, FromText}
 use Rattle.whole_runs.specs.Rows.{row_word, no_call, call_no, Stretched}
 
 -- ---- what holds, from the first line on
@@ -84,18 +87,22 @@ module _ {X : Type 0} (say : CallLine → Option X) where
 -- ---- number and administration
 
 leaves-number : (a : Announced) (l : CallLine) → otherwise (number_said l) a.number ≡ (call_by a l).number
-leaves-number a l = go l.numbered
+leaves-number a l = go l.number
   where
-    go : (t : Bool) → otherwise (cond t (some l.number) none) a.number ≡ cond t l.number a.number
-    go true = refl
-    go false = refl
+    go : (o : RustOption ℕ) → otherwise (number_by o) a.number ≡ unwrap_or o a.number
+    go None = refl
+    go (Some n) = refl
+
+-- the administration that holds, where b held before
+abbrev held : Announced → RustOption Administration → Administration
+held b o = unwrap_or o (record { high = b.high; low = b.low })
 
 leaves-administration : (a : Announced) (l : CallLine) → ◌≡◌ {A = ℕ × ℕ} (otherwise (administration_said l) (a.high, a.low)) ((call_by a l).high, (call_by a l).low)
-leaves-administration a l = go l.administered
+leaves-administration a l = go l.administration
   where
-    go : (t : Bool) → ◌≡◌ {A = ℕ × ℕ} (otherwise (cond t (some (l.high, l.low)) none) (a.high, a.low)) (cond t l.high a.high, cond t l.low a.low)
-    go true = refl
-    go false = refl
+    go : (o : RustOption Administration) → ◌≡◌ {A = ℕ × ℕ} (otherwise (administration_by o) (a.high, a.low)) ((held a o).high, (held a o).low)
+    go None = refl
+    go (Some x) = refl
 
 announces : (ls : List Line) (p : ℕ) → p < length (calls_of ls)
     → Announces ls p (get_or (calls_of ls) p no_call).number (get_or (calls_of ls) p no_call).high (get_or (calls_of ls) p no_call).low

@@ -13,9 +13,7 @@ use Rattle.columns.specs.Columns.{columns, number}
 use Rattle.bitfield.specs.BitField.{bits_in}
 use Rattle.bitfield.proofs.Hex.{length-bits}
 use Rattle.lines.specs.Lines.{Line, lines_of, skipped}
-use Rattle.forms.specs.Form.{form_of}
-use Rattle.forms.specs.declared.Form.{Form}
-use Rattle.forms.specs.declared.Form.TheVariants.{Fits, Broken}
+use Rattle.forms.specs.Form.{form_of, Form, Fits, Broken}
 use Rattle.forms.specs.Columns.{bit_field_columns}
 use Rattle.timetable.specs.Delivery.{Files, Delivery}
 use Rattle.timetable.specs.Files.{skip, listed, held_in, held_by, bit_field_of}

@@ -19,12 +19,10 @@ use Rattle.fields.specs.declared.RangeEnd.TheVariants.{Stop}
 use Rattle.fields.specs.declared.Detail.{Detail}
 use Rattle.fields.specs.declared.Detail.TheVariants.{Plain}
 use Rattle.forms.specs.Kinds.{starred, kind_of}
-use Rattle.forms.specs.Form.{form_of}
+use Rattle.forms.specs.Form.{form_of, Form, Fits, Broken as BrokenForm}
 use Rattle.forms.specs.Columns.{service_columns, frequency_columns}
 use Rattle.forms.specs.declared.Kind.{Kind}
 use Rattle.forms.specs.declared.Kind.TheVariants.{Opening as OpeningKind, Frequency, Category as CategoryKind, Attribute, Schedule, Other as OtherKind}
-use Rattle.forms.specs.declared.Form.{Form}
-use Rattle.forms.specs.declared.Form.TheVariants.{Fits, Broken as BrokenForm}
 use Rattle.lines.specs.Lines.{Line, skipped}
 use Rattle.timetable.specs.Layout.{kind_z, kind_t}
 use Rattle.timetable.specs.Delivery.{Legs}

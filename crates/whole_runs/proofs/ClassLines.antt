@@ -13,10 +13,8 @@ use Rattle.base.specs.Lists.{All, nil, cons, every, some_of, count_if, find, gat
 use Rattle.base.proofs.Laws.{clash}
 use Rattle.base.proofs.Loops.{and-true}
 use Rattle.columns.specs.Columns.{columns, number, count}
-use Rattle.forms.specs.Form.{form_of}
+use Rattle.forms.specs.Form.{form_of, Form, Fits, Broken}
 use Rattle.forms.specs.Columns.{class_columns}
-use Rattle.forms.specs.declared.Form.{Form}
-use Rattle.forms.specs.declared.Form.TheVariants.{Fits, Broken}
 use Rattle.forms.proofs.Laws.{row-holds}
 use Rattle.lines.specs.Lines.{Line, lines_of, skipped}
 use Rattle.timetable.specs.Layout.{most_class}

@@ -11,6 +11,7 @@ use native.Mathlib.Omega.{arith}
 use lib.ListN.{length, get_elem?}
 use lib.Dec.{eqb}
 use borrow.Author.Tests.{le-leb}
+use Rattle.std.specs.Prelude.{Ok, Err}
 use Rattle.base.proofs.Laws.{apart}
 use Rattle.timetable.specs.Layout.{most_class}
 use Rattle.timetable.specs.Delivery.{Files, CategoryClass, Service}
@@ -18,8 +19,8 @@ use Rattle.timetable.specs.Files.{has_stop, has_class}
 use Rattle.timetable.specs.Load.{delivered, loaded, written}
 use Rattle.timetable.specs.View.{interchange_at_stop, class_for}
 use Rattle.timetable.specs.Questions.{minutes_for, interchange_in, interchange_asked, between_in, between_asked}
-use Rattle.timetable.specs.declared.InterchangeAnswer.{InterchangeAnswer}
-use Rattle.timetable.specs.declared.InterchangeAnswer.TheVariants.{Minutes, Refused}
+use Rattle.timetable.specs.declared.refusal.Refusal.{Refusal}
+use Rattle.timetable.specs.declared.refusal.Refusal.TheVariants.{StopUnknown, CategoryUnlisted}
 use Rattle.timetable.specs.declared.Loaded.TheVariants.{Accepted}
 use Rattle.whole_runs.specs.Classes.{OwnClass, Between, BetweenRefused, unknown_stop, unlisted}
 use Rattle.whole_runs.specs.Rows.{row_word, Stretched}
@@ -31,7 +32,7 @@ is-listed : (f : Files) (code : ℕ) → OwnClass f code → has_class code (del
 is-listed f code x = let e = x.once in counted-some (λ (c : CategoryClass). eqb c.code code) (delivered f).classes (omega arith)
 
 module _ (f : Files) (t : List ℕ) (helper u : ℕ) (e : loaded f (length t) helper ≡ Accepted u) where
-  pub between-accepted : (n a b : ℕ) → between_asked (written f t helper) n a b ≡ cond (has_stop n (delivered f).stops) (cond (has_class a (delivered f).classes && has_class b (delivered f).classes) (Minutes (minutes_for (interchange_at_stop (delivered f) n) (class_for (delivered f) a) (class_for (delivered f) b))) (Refused 38)) (Refused 27)
+  pub between-accepted : (n a b : ℕ) → between_asked (written f t helper) n a b ≡ cond (has_stop n (delivered f).stops) (cond (has_class a (delivered f).classes && has_class b (delivered f).classes) (Ok (minutes_for (interchange_at_stop (delivered f) n) (class_for (delivered f) a) (class_for (delivered f) b))) (Err CategoryUnlisted)) (Err StopUnknown)
   unfolding between_asked between_in
   between-accepted n a b = rw (table_is f t helper u e, table-holds f t helper u e)
 
@@ -61,17 +62,17 @@ module _ (f : Files) (t : List ℕ) (helper u : ℕ) (e : loaded f (length t) he
         between-answered (row_word ws q 7) (row_word us p 7) (rows-classed f c s (services-listed f c i s a) x q h) (rows-classed f c v (services-listed f c j v b) y p g)
 
   -- Of the refusals 27 and 38 are left, each only for its reason,
-  pub between-refusals : (n a b number : ℕ) → between_asked (written f t helper) n a b ≡ Refused number → BetweenRefused (delivered f) n a b number
-  between-refusals n a b number k = go (has_stop n (delivered f).stops) refl (has_class a (delivered f).classes && has_class b (delivered f).classes) refl (sym (between-accepted n a b) ∙ k)
+  pub between-refusals : (n a b : ℕ) (refusal : Refusal) → between_asked (written f t helper) n a b ≡ Err refusal → BetweenRefused (delivered f) n a b refusal
+  between-refusals n a b refusal k = go (has_stop n (delivered f).stops) refl (has_class a (delivered f).classes && has_class b (delivered f).classes) refl (sym (between-accepted n a b) ∙ k)
     where
       go : (h : Bool) → has_stop n (delivered f).stops ≡ h → (c : Bool) → has_class a (delivered f).classes && has_class b (delivered f).classes ≡ c
-          → cond h (cond c (Minutes (minutes_for (interchange_at_stop (delivered f) n) (class_for (delivered f) a) (class_for (delivered f) b))) (Refused 38)) (Refused 27) ≡ Refused number
-          → BetweenRefused (delivered f) n a b number
-      go false p c q z = let y : ◌≡◌ {A = ℕ} 27 number = cc in subst (BetweenRefused (delivered f) n a b) y (unknown_stop p)
-      go true p false q z = let y : ◌≡◌ {A = ℕ} 38 number = cc in subst (BetweenRefused (delivered f) n a b) y (unlisted p q)
+          → cond h (cond c (Ok (minutes_for (interchange_at_stop (delivered f) n) (class_for (delivered f) a) (class_for (delivered f) b))) (Err CategoryUnlisted)) (Err StopUnknown) ≡ Err refusal
+          → BetweenRefused (delivered f) n a b refusal
+      go false p c q z = let y : ◌≡◌ {A = Refusal} StopUnknown refusal = cc in subst (BetweenRefused (delivered f) n a b) y (unknown_stop p)
+      go true p false q z = let y : ◌≡◌ {A = Refusal} CategoryUnlisted refusal = cc in subst (BetweenRefused (delivered f) n a b) y (unlisted p q)
       go true p true q z = apart (cc)
 
   -- and each wherever that is so.
-  pub between-refused : (n a b : ℕ) {number : ℕ} → BetweenRefused (delivered f) n a b number → between_asked (written f t helper) n a b ≡ Refused number
+  pub between-refused : (n a b : ℕ) {refusal : Refusal} → BetweenRefused (delivered f) n a b refusal → between_asked (written f t helper) n a b ≡ Err refusal
   between-refused n a b (unknown_stop p) = between-accepted n a b ∙ rw p refl
   between-refused n a b (unlisted p q) = between-accepted n a b ∙ rw (p, q) refl

@@ -8,11 +8,11 @@ use native.Mathlib.Omega.{arith}
 use lib.ListN.{length, drop}
 use lib.Dec.{ltb, leb, eqb}
 use borrow.Author.Tests.{le-leb, lt-ltb, le-ltb, ltb-true, leb-false, eqb-true, eqb-false}
+use Rattle.std.specs.Prelude.{Ok, Some, Err}
 use Rattle.base.specs.Lists.{All, below}
 use Rattle.base.proofs.Laws.{apart, clash, by-ltb}
 use Rattle.calendar.specs.Calendar.{day_of}
-use Rattle.calendar.specs.declared.Date.{Date}
-use Rattle.calendar.specs.declared.Date.TheVariants.{Day}
+use Rattle.std.specs.Prelude.{Option as Optional, Some}
 use Rattle.lines.specs.Lines.{lines_of}
 use Rattle.timetable.specs.Runs.{has_run, lateness}
 use Rattle.timetable.specs.Delivery.{Files, Period, DayRange, Service, Delivery}
@@ -23,13 +23,14 @@ use Rattle.timetable.specs.Table.{table_words}
 use Rattle.timetable.specs.Table.{table_of, is_table}
 use Rattle.timetable.specs.Run.{leg_refusal, first_refusal, idle_legs, leading_legs, stretch_of, stretch_calls, calls_refusal}
 use Rattle.timetable.specs.View.{view_of, service_by}
-use Rattle.timetable.specs.Questions.{dated, dated_by, rows_of, Journey, refused, idle, rows, journey, walk_of, walked_by, walked, rows_by, walk_rows}
+use Rattle.timetable.specs.Questions.{dated_by, rows_of, Journey, refused, idle, rows, journey, walk_of, Walked, walk_refusal, walked_by, walked, rows_by, walk_rows}
 use Rattle.timetable.proofs.Stages.{journey_by, stretch_journey, journey_on_day, service_journey, indexed, dated_journey, journey-stages}
 use Rattle.timetable.specs.Layout.{row_size}
 use Rattle.timetable.specs.declared.Loaded.{Loaded}
 use Rattle.timetable.specs.declared.Loaded.TheVariants.{Accepted}
-use Rattle.timetable.specs.declared.Walked.{Walked}
-use Rattle.timetable.specs.declared.Walked.TheVariants.{Listed, Refused}
+use Rattle.timetable.specs.declared.refusal.Refusal.{Refusal}
+use Rattle.timetable.specs.declared.WalkRefusal.{WalkRefusal}
+use Rattle.timetable.specs.declared.refusal.Refusal.TheVariants.{NoSuchRun, TooFewWords, TwoStretches}
 use Rattle.whole_runs.specs.Rows.{RunsNowhere}
 use Rattle.whole_runs.proofs.RunsBy.{runs_by}
 use Rattle.whole_runs.specs.Promise.{Outcome, not_running, runs, Demand3, Asked, OwnRun, Walk, short, Short}
@@ -49,7 +50,7 @@ use Rattle.whole_runs.proofs.Any.{runs-nowhere}
 -- ---- a day of a service
 
 -- a walk that is not refused goes on
-goes_on : (P : Journey → Type 0) (t : Bool) (o : Option ℕ) (j x : Journey) → t ≡ false → o ≡ none → P j → P (cond t x (journey_by o j))
+goes_on : (P : Journey → Type 0) (t : Bool) (o : Option Refusal) (j x : Journey) → t ≡ false → o ≡ none → P j → P (cond t x (journey_by o j))
 goes_on P false none j x p q h = h
 goes_on P false (some o) j x p q h = apart (cc)
 goes_on P true o j x p q h = clash (sym p)
@@ -67,29 +68,29 @@ module _ (d : Delivery) (s : Service) (h : Right d s) (known : Interchanges d) (
       n : ℕ
       n = leading_legs (drop a bs)
 
-      go : (t : Bool) → eqb (stretches false bs) 0 ≡ t → Outcome d s r k (cond t idle (cond (leb 2 (stretches false bs)) (refused 35) (stretch_journey (view_of d) s (lateness s.opening r) (stretch_of bs))))
+      go : (t : Bool) → eqb (stretches false bs) 0 ≡ t → Outcome d s r k (cond t idle (cond (leb 2 (stretches false bs)) (refused TwoStretches) (stretch_journey (view_of d) s (lateness s.opening r) (stretch_of bs))))
       go true q = not_running (runs-nowhere d s k (eqb-true (stretches false bs) 0 q))
       go false q =
           let w = h.whole k l in
           let b = leb-false 2 (stretches false bs) w in
           let z = eqb-false (stretches false bs) 0 q in
           let one = one-stretch bs (omega (arith, z)) in
-          goes_on (Outcome d s r k) (leb 2 (stretches false bs)) (calls_refusal s a n 0 0 (stretch_calls s (stretch_of bs))) (rows (rows_of (view_of d) s a n (lateness s.opening r) 0 (stretch_calls s (stretch_of bs)))) (refused 35)
+          goes_on (Outcome d s r k) (leb 2 (stretches false bs)) (calls_refusal s a n 0 0 (stretch_calls s (stretch_of bs))) (rows (rows_of (view_of d) s a n (lateness s.opening r) 0 (stretch_calls s (stretch_of bs)))) (refused TwoStretches)
           w
           (stretch-resolved d s h a n (inside d s r k a n one))
           (runs (stretched d s r k a n one h known))
 
   service-outcome : has_run s.opening r ≡ true → k < d.period.n → Outcome d s r k (service_journey (view_of d) s r k)
   service-outcome l m =
-      goes_on (Outcome d s r k) (not (has_run s.opening r)) (first_refusal (leg_refusal (view_of d) s) (below (leg_count s))) (journey_on_day (view_of d) s (lateness s.opening r) (operated_legs d.fields s k)) (refused 25)
+      goes_on (Outcome d s r k) (not (has_run s.opening r)) (first_refusal (leg_refusal (view_of d) s) (below (leg_count s))) (journey_on_day (view_of d) s (lateness s.opening r) (operated_legs d.fields s k)) (refused NoSuchRun)
       (ap not l) (legs-resolved d s h) (day-outcome m)
 
 -- ---- what an outcome excludes
 
 module _ {d : Delivery} {s : Service} {r k : ℕ} where
-  not-refused : {j : Journey} → Outcome d s r k j → (number : ℕ) → j ≡ refused number → ⊥
-  not-refused (not_running x) number e = apart (cc)
-  not-refused (runs x) number e = apart (cc)
+  not-refused : {j : Journey} → Outcome d s r k j → (refusal : Refusal) → j ≡ refused refusal → ⊥
+  not-refused (not_running x) refusal e = apart (cc)
+  not-refused (runs x) refusal e = apart (cc)
 
   says-idle : {j : Journey} → Outcome d s r k j → j ≡ idle → RunsNowhere d s k
   says-idle (not_running x) e = x
@@ -103,7 +104,7 @@ module _ {d : Delivery} {s : Service} {r k : ℕ} where
 
 -- ---- the walk of a delivery
 
-date-in : (p : Period) (o : Date) (day : ℕ) → o ≡ Day day → p.start ≤ day → day < p.start + p.n → dated_by p o ≡ dated (day - p.start)
+date-in : (p : Period) (o : Optional ℕ) (day : ℕ) → o ≡ Some day → p.start ≤ day → day < p.start + p.n → dated_by p o ≡ Ok (day - p.start)
 date-in p o day e a b = rw (e, le-leb p.start day a, lt-ltb day (p.start + p.n) b)
 
 journey-is : (f : Files) (i r d m y day : ℕ) (s : Service) → Asked f i r d m y s day → journey (view_of (delivered f)) i r d m y ≡ service_journey (view_of (delivered f)) s r (day - (delivered f).period.start)
@@ -168,17 +169,18 @@ module _ {d : Delivery} {s : Service} {r k : ℕ} where
       let z = x.size in
       let n : x.legs + 1 ≡ length ws / row_size = omega arith in
       by-room (Walk d s r k lent) (length lent) (length ws)
-      (λ l. subst (λ (v : ℕ). Walk d s r k lent (Refused 29 v) lent) (sym z) (short x (omega arith)))
-      (λ l. subst (λ (v : ℕ). Walk d s r k lent (Listed v) (onto ws lent)) n (runs x (omega arith)))
+      (λ l. subst (λ (v : ℕ). Walk d s r k lent (Err (walk_refusal TooFewWords v)) lent) (sym z) (short x (omega arith)))
+      (λ l. subst (λ (v : ℕ). Walk d s r k lent (Ok (Some v)) (onto ws lent)) n (runs x (omega arith)))
 
-  refusal-by : {j : Journey} → Outcome d s r k j → (room number needed : ℕ) → walked_by j room ≡ Refused number needed → Short s j room number needed
-  refusal-by (not_running x) room number needed e = apart (cc)
-  refusal-by (runs {ws} x) room number needed e = go (ltb room (length ws)) refl e
+  refusal-by : {j : Journey} → Outcome d s r k j → (room : ℕ) (refusal : Refusal) (needed : ℕ) → walked_by j room ≡ Err (walk_refusal refusal needed) → Short s j room refusal needed
+  refusal-by (not_running x) room refusal needed e = apart (cc)
+  refusal-by (runs {ws} x) room refusal needed e = go (ltb room (length ws)) refl e
     where
-      go : (t : Bool) → ltb room (length ws) ≡ t → cond t (Refused 29 (length ws)) (Listed (length ws / row_size)) ≡ Refused number needed → Short s (rows ws) room number needed
+      go : (t : Bool) → ltb room (length ws) ≡ t → cond t (Err (walk_refusal TooFewWords (length ws))) (Ok (Some (length ws / row_size))) ≡ Err (walk_refusal refusal needed) → Short s (rows ws) room refusal needed
       go true q e =
-          let p : ◌≡◌ {A = ℕ} 29 number = cc in
-          let v : ◌≡◌ {A = ℕ} (length ws) needed = cc in
+          let f : ◌≡◌ {A = WalkRefusal} (walk_refusal TooFewWords (length ws)) (walk_refusal refusal needed) = cc in
+          let p : ◌≡◌ {A = Refusal} TooFewWords refusal = ap (λ (y : WalkRefusal). y.refusal) f in
+          let v : ◌≡◌ {A = ℕ} (length ws) needed = ap (λ (y : WalkRefusal). y.needed) f in
           let w = ltb-true room (length ws) q in
           let z = x.size in let i = x.unbroken.inside in let l = x.unbroken.some_leg in
           record { only = sym p; lacking = omega arith; enough = rw (le-ltb needed (length ws) (omega arith), v); most = omega arith }
@@ -203,12 +205,12 @@ demand3-promised f t helper p q u e i r d m y day s a lent x z =
 -- The only refusal is 29, and it names words that are enough.
 pub only-29 : (f : Files) (t : List ℕ) (helper u : ℕ) → loaded f (length t) helper ≡ Accepted u
     → (i r d m y day : ℕ) (s : Service) → Asked f i r d m y s day
-    → (room number needed : ℕ) → walked (written f t helper) i r d m y room ≡ Refused number needed → Short s (walk_of (written f t helper) i r d m y) room number needed
-only-29 f t helper u e i r d m y day s a room number needed w = refusal-by (demand3 f t helper u e i r d m y day s a).outcome room number needed w
+    → (room : ℕ) (refusal : Refusal) (needed : ℕ) → walked (written f t helper) i r d m y room ≡ Err (walk_refusal refusal needed) → Short s (walk_of (written f t helper) i r d m y) room refusal needed
+only-29 f t helper u e i r d m y day s a room refusal needed w = refusal-by (demand3 f t helper u e i r d m y day s a).outcome room refusal needed w
 
 -- With room for every call of the service it is not refused.
 pub room-enough : {d : Delivery} {s : Service} {r k : ℕ} {lent : List ℕ} {a : Walked} {v : List ℕ} → Walk d s r k lent a v → row_size * length s.calls ≤ length lent
-    → (number needed : ℕ) → a ≡ Refused number needed → ⊥
-room-enough (not_running x) h number needed e = apart (cc)
-room-enough (short x l) h number needed e = let i = x.unbroken.inside in let n = x.unbroken.some_leg in omega arith
-room-enough (runs x l) h number needed e = apart (cc)
+    → (refusal : Refusal) (needed : ℕ) → a ≡ Err (walk_refusal refusal needed) → ⊥
+room-enough (not_running x) h refusal needed e = apart (cc)
+room-enough (short x l) h refusal needed e = let i = x.unbroken.inside in let n = x.unbroken.some_leg in omega arith
+room-enough (runs x l) h refusal needed e = apart (cc)

@@ -10,11 +10,12 @@ use native.Mathlib.Omega.{arith}
 use lib.ListN.{length, replicate}
 use lib.Dec.{ltb, leb, eqb}
 use borrow.Author.Tests.{le-ltb, leb-true, eqb-false, not-true}
+use Rattle.std.specs.Prelude.{Result, Ok, Err}
 use Rattle.base.proofs.Laws.{apart}
 use Rattle.base.proofs.Loops.{and-true}
 use Rattle.bitfield.specs.BitField.{framed}
 use Rattle.calendar.specs.Calendar.{day_of, date_in, period_of}
-use Rattle.forms.specs.Form.{form_of}
+use Rattle.forms.specs.Form.{form_of, Form, Fits, Broken}
 use Rattle.forms.specs.Columns.{date_columns, columns_of}
 use Rattle.forms.specs.Kinds.{kind_of}
 use Rattle.forms.specs.declared.Kind.{Kind}
@@ -22,8 +23,6 @@ use Rattle.forms.specs.declared.Kind.TheVariants.{Opening as OpeningKind, Freque
 use Rattle.forms.specs.declared.LineKind.{LineKind}
 use Rattle.forms.specs.declared.LineKind.TheVariants.{Date, BitField, Stop, Interchange, CategoryClass, Opening, Frequency, Category, Attribute, Schedule}
 use Rattle.forms.proofs.Leftmost.{broken-from-1}
-use Rattle.forms.specs.declared.Form.{Form}
-use Rattle.forms.specs.declared.Form.TheVariants.{Fits, Broken}
 use Rattle.lines.specs.Lines.{Line, lines_of, skipped}
 use Rattle.names.specs.Names.{is_name_list}
 use Rattle.timetable.specs.Delivery.{Files, BitField as BitFieldRecord, StopRecord, Interchange as InterchangeRecord, CategoryClass as ClassRecord, CategoryRange, DayRange, Service}
@@ -42,19 +41,17 @@ use Rattle.timetable.specs.Checks.{most, category_listed, told_offence, is_none,
 use Rattle.timetable.specs.Load.{delivered, Where, in_file, too_long, length_offence, content_offence, helper_needed, refused_or, short_or, onto, loaded, helped_by, helped}
 use Rattle.timetable.specs.Layout.{most_file_bytes, most_class, most_calls}
 use Rattle.timetable.specs.View.{view_of, interchange_at_stop, class_for}
-use Rattle.timetable.specs.Questions.{minutes_for, date_of, Dated, undated, dated, day_by, day_in, day_asked, interchange_in, interchange_asked, between_in, between_asked, walked}
+use Rattle.timetable.specs.Questions.{minutes_for, date_of, day_by, day_in, day_asked, interchange_in, interchange_asked, between_in, between_asked, walk_refusal, walked}
 use Rattle.timetable.specs.declared.Call.{Call}
 use Rattle.timetable.specs.declared.RangeLine.{RangeLine}
 use Rattle.timetable.specs.declared.Told.{Told}
 use Rattle.timetable.specs.declared.Told.TheVariants.{Skip, Other, Broken as ToldBroken, Opens, Ranges, Calls}
 use Rattle.timetable.specs.declared.Loaded.TheVariants.{Accepted, Refused}
-use Rattle.timetable.specs.declared.DayAnswer.TheVariants.{Runs, Idle, Refused as DayRefused}
-use Rattle.timetable.specs.declared.InterchangeAnswer.TheVariants.{Minutes, Refused as InterchangeRefused}
-use Rattle.timetable.specs.declared.Walked.{Walked}
-use Rattle.timetable.specs.declared.Walked.TheVariants.{Refused as WalkRefused}
 use Rattle.timetable.proofs.Offences.{one_of}
+use Rattle.timetable.specs.declared.refusal.Refusal.{Refusal as Named}
+use Rattle.timetable.specs.Refusals.{number_of}
+use Rattle.timetable.proofs.Numbered.{numbered as one_or_more}
 use Rattle.whole_runs.specs.Promise.{AnyWalk, lists, short, nowhere, refuses}
-use Rattle.whole_runs.proofs.Any.{refusal-numbered, date-refusal, any-walk}
 use Rattle.whole_runs.proofs.Accepted.{accepted}
 
 -- ---- the offences of a delivery
@@ -370,52 +367,14 @@ module _ (f : Files) (h : List ℕ) where
   pub helper-accepted : (room u : ℕ) → loaded f room (length h) ≡ Accepted u → helped f h ≡ onto (replicate (helper_needed f) 0) h
   helper-accepted room u e = let a = accepted f room (length h) u e in zeros a.short-files (le-ltb (length h) (helper_needed f) a.helper-room)
 
-pub day-numbered : (w : List ℕ) (d m y b number : ℕ) → day_asked w d m y b ≡ DayRefused number → 1 ≤ number
-unfolding day_asked day_in
-day-numbered w d m y b number e = go (is_table w) e
-  where
-    known : (t u : Bool) → cond t (cond u Runs Idle) (DayRefused 28) ≡ DayRefused number → 1 ≤ number
-    known true true e = apart (cc)
-    known true false e = apart (cc)
-    known false u e = let z : ◌≡◌ {A = ℕ} 28 number = cc in omega (arith, z)
+pub day-numbered : (w : List ℕ) (d m y b : ℕ) (refusal : Named) → day_asked w d m y b ≡ Err refusal → 1 ≤ number_of refusal
+day-numbered w d m y b refusal e = one_or_more refusal
 
-    on : (t : Dated) → date_of (view_of (table_of w)) d m y ≡ t → day_by (view_of (table_of w)) b t ≡ DayRefused number → 1 ≤ number
-    on (undated n) q e = let z : n ≡ number = cc in let p = refusal-numbered n (date-refusal (table_of w).period (day_of d m y) n q) in omega (arith, z, p)
-    on (dated k) q e = known (field_known b (table_of w).fields) (field_runs (table_of w).fields b k) e
+pub interchange-numbered : (w : List ℕ) (n a b : ℕ) (refusal : Named) → interchange_asked w n a b ≡ Err refusal → 1 ≤ number_of refusal
+interchange-numbered w n a b refusal e = one_or_more refusal
 
-    go : (t : Bool) → cond t (day_by (view_of (table_of w)) b (date_of (view_of (table_of w)) d m y)) (DayRefused 21) ≡ DayRefused number → 1 ≤ number
-    go true e = on (date_of (view_of (table_of w)) d m y) refl e
-    go false e = let z : ◌≡◌ {A = ℕ} 21 number = cc in omega (arith, z)
+pub between-numbered : (w : List ℕ) (n a b : ℕ) (refusal : Named) → between_asked w n a b ≡ Err refusal → 1 ≤ number_of refusal
+between-numbered w n a b refusal e = one_or_more refusal
 
-pub interchange-numbered : (w : List ℕ) (n a b number : ℕ) → interchange_asked w n a b ≡ InterchangeRefused number → 1 ≤ number
-unfolding interchange_asked interchange_in
-interchange-numbered w n a b number e = go (is_table w) (leb a most_class && leb b most_class) (has_stop n (table_of w).stops) e
-  where
-    go : (t u v : Bool)
-        → cond t (cond u (cond v (Minutes (minutes_for (interchange_at_stop (table_of w) n) a b)) (InterchangeRefused 27)) (InterchangeRefused 26)) (InterchangeRefused 21) ≡ InterchangeRefused number
-        → 1 ≤ number
-    go true true true e = apart (cc)
-    go true true false e = let z : ◌≡◌ {A = ℕ} 27 number = cc in omega (arith, z)
-    go true false v e = let z : ◌≡◌ {A = ℕ} 26 number = cc in omega (arith, z)
-    go false u v e = let z : ◌≡◌ {A = ℕ} 21 number = cc in omega (arith, z)
-
-pub between-numbered : (w : List ℕ) (n a b number : ℕ) → between_asked w n a b ≡ InterchangeRefused number → 1 ≤ number
-unfolding between_asked between_in
-between-numbered w n a b number e = go (is_table w) (has_stop n (table_of w).stops) (has_class a (table_of w).classes && has_class b (table_of w).classes) e
-  where
-    go : (t u v : Bool)
-        → cond t (cond u (cond v (Minutes (minutes_for (interchange_at_stop (table_of w) n) (class_for (table_of w) a) (class_for (table_of w) b))) (InterchangeRefused 38)) (InterchangeRefused 27)) (InterchangeRefused 21) ≡ InterchangeRefused number
-        → 1 ≤ number
-    go true true true e = apart (cc)
-    go true true false e = let z : ◌≡◌ {A = ℕ} 38 number = cc in omega (arith, z)
-    go true false v e = let z : ◌≡◌ {A = ℕ} 27 number = cc in omega (arith, z)
-    go false u v e = let z : ◌≡◌ {A = ℕ} 21 number = cc in omega (arith, z)
-
-pub walk-numbered : (w : List ℕ) (i r d m y room number needed : ℕ) → walked w i r d m y room ≡ WalkRefused number needed → 1 ≤ number
-walk-numbered w i r d m y room number needed e = go (any-walk w i r d m y room) e
-  where
-    go : {a : Walked} → AnyWalk (table_of w) i (date_of (view_of (table_of w)) d m y) room a → a ≡ WalkRefused number needed → 1 ≤ number
-    go (lists s k u h) e = apart (cc)
-    go (short s k u h) e = let z : ◌≡◌ {A = ℕ} 29 number = cc in omega (arith, z)
-    go (nowhere s k u) e = apart (cc)
-    go (refuses n h) e = let z : n ≡ number = cc in let p = refusal-numbered n h in omega (arith, z, p)
+pub walk-numbered : (w : List ℕ) (i r d m y room needed : ℕ) (refusal : Named) → walked w i r d m y room ≡ Err (walk_refusal refusal needed) → 1 ≤ number_of refusal
+walk-numbered w i r d m y room needed refusal e = one_or_more refusal

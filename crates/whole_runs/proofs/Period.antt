@@ -8,10 +8,7 @@ use Prim.Native.Nat.{ℕ, ◌+◌, ◌-◌, ◌≤◌}
 use native.Mathlib.Omega.{arith}
 use Rattle.base.proofs.Laws.{apart, clash, by-ltb}
 use Rattle.calendar.specs.Calendar.{last_day, date_in, period_of}
-use Rattle.calendar.specs.declared.Date.{Date}
-use Rattle.calendar.specs.declared.Date.TheVariants.{Day, NoSuchDate}
-use Rattle.calendar.specs.declared.PeriodLength.{PeriodLength as PeriodOf}
-use Rattle.calendar.specs.declared.PeriodLength.TheVariants.{NoPeriod}
+use Rattle.std.specs.Prelude.{Option as Optional, Some, None}
 use Rattle.calendar.proofs.Bounds.{date-le-last}
 use Rattle.calendar.proofs.Laws.{none_before, days-in, days-over}
 use Rattle.forms.specs.Form.{form_of, is_fit, has_form}
@@ -30,9 +27,9 @@ use Rattle.whole_runs.specs.Text.{ThreeLines}
 date-le : (text : List ℕ) → day_number (date_in text) ≤ last_day
 date-le text = go (date_in text) refl
   where
-    go : (o : Date) → date_in text ≡ o → day_number o ≤ last_day
-    go (Day k) e = date-le-last text k e
-    go NoSuchDate e = omega arith
+    go : (o : Optional ℕ) → date_in text ≡ o → day_number o ≤ last_day
+    go (Some k) e = date-le-last text k e
+    go None e = omega arith
 
 -- ---- the period
 
@@ -51,10 +48,10 @@ days-of : (s e : ℕ) → no_period (period_of s e) ≡ false → DaysOf s e (da
 days-of s e h =
     by-ltb (λ t. DaysOf s e (days_in (period_of s e))) e s (λ l. no-period (none_before s e l))
     (λ l. by-ltb (λ t. DaysOf s e (days_in (period_of s e))) (e - s) most_period_days
-    (λ m. subst (λ (p : PeriodOf). DaysOf s e (days_in p)) (days-in s e l m) (record { order = l; count = refl; most = omega arith }))
+    (λ m. subst (λ (p : Optional ℕ). DaysOf s e (days_in p)) (days-in s e l m) (record { order = l; count = refl; most = omega arith }))
     (λ m. no-period (days-over s e l m)))
   where
-    no-period : NoPeriod ≡ period_of s e → DaysOf s e (days_in (period_of s e))
+    no-period : None ≡ period_of s e → DaysOf s e (days_in (period_of s e))
     no-period q = clash (sym h ∙ sym (ap no_period q))
 
 too_few : (o : Option Offence) (line : ℕ) → (o <|> given true 2 line) ≡ none → ⊥
@@ -74,12 +71,12 @@ period-sound (s ∷ t ∷ ls) e =
 
 -- ---- the three lines
 
-date-is : (o : Date) → no_date o ≡ false → o ≡ Day (day_number o)
-date-is (Day k) e = refl
-date-is NoSuchDate e = clash (sym e)
+date-is : (o : Optional ℕ) → no_date o ≡ false → o ≡ Some (day_number o)
+date-is (Some k) e = refl
+date-is None e = clash (sym e)
 
 -- 4 and "no such date" do not stand at this line
-date-line : (l : Line) → date_line_offence l ≡ none → (has_form date_columns l.text ≡ true) × (date_in l.text ≡ Day (day_number (date_in l.text)))
+date-line : (l : Line) → date_line_offence l ≡ none → (has_form date_columns l.text ≡ true) × (date_in l.text ≡ Some (day_number (date_in l.text)))
 date-line l e =
     let o = then-none _ _ e in
     (ap is_fit (form-none (form_of date_columns l.text) l.no o.0), date-is (date_in l.text) (given-none _ 5 l.no o.1))
@@ -105,7 +102,7 @@ three-lines (s ∷ t ∷ u ∷ []) e =
       exactly = refl;
       forms = (p.0, q.0);
       start = p.1;
-      end = q.1 ∙ ap Day last;
+      end = q.1 ∙ ap Some last;
     }
 three-lines (s ∷ t ∷ u ∷ v ∷ ls) e =
     let a = first-none period_line_offence [] s (t ∷ u ∷ v ∷ ls) (then-none _ _ e).0 in

@@ -17,6 +17,8 @@ use Rattle.timetable.specs.Ranges.{has_arrival, has_departure}
 use Rattle.timetable.specs.Legs.{field_known, covers, covering, leg_count}
 use Rattle.timetable.specs.Checks.{times_stated, times_rise, last_stated}
 use Rattle.timetable.specs.View.{view_of}
+use Rattle.timetable.specs.declared.refusal.Refusal.{Refusal}
+use Rattle.timetable.specs.declared.refusal.Refusal.TheVariants.{LegFieldUnknown, LegCategoryNotOnce, LegDaysNotOnce, TimeNeeded}
 use Rattle.timetable.specs.Run.{refuse, leg_refusal, first_refusal, times_needed, needed_last, call_refusal, calls_refusal}
 use Rattle.timetable.specs.declared.Call.{Call}
 use Rattle.whole_runs.proofs.Lists.{or-second, all-to, every-all}
@@ -27,16 +29,16 @@ use Rattle.whole_runs.proofs.Times.{needed-law, last-law, arrives, departs, time
 -- ---- no refusal
 
 -- not refused, since what is asked holds
-granted : (t : Bool) (number : ℕ) → t ≡ true → refuse (not t) number ≡ none
-granted true number e = refl
-granted false number e = clash e
+granted : (t : Bool) (refusal : Refusal) → t ≡ true → refuse (not t) refusal ≡ none
+granted true refusal e = refl
+granted false refusal e = clash e
 
-both-none : (a b : Option ℕ) → a ≡ none → b ≡ none → (a <|> b) ≡ none
+both-none : (a b : Option Refusal) → a ≡ none → b ≡ none → (a <|> b) ≡ none
 unfolding ◌<|>◌
 both-none none b p q = q
 both-none (some x) b p q = apart (cc)
 
-no-refusal : (f : ℕ → Option ℕ) (n k : ℕ) → ((j : ℕ) → k ≤ j → j < k + n → f j ≡ none) → first_refusal f (upto n k) ≡ none
+no-refusal : (f : ℕ → Option Refusal) (n k : ℕ) → ((j : ℕ) → k ≤ j → j < k + n → f j ≡ none) → first_refusal f (upto n k) ≡ none
 unfolding first_refusal upto
 no-refusal f zero k h = refl
 no-refusal f (suc n) k h = both-none (f k) (first_refusal f (upto n (k + 1))) (h k (omega arith) (omega arith)) (no-refusal f n (k + 1) (λ j p q. h j (omega arith) (omega arith)))
@@ -51,9 +53,9 @@ legs-resolved d s h = no-refusal (leg_refusal (view_of d) s) (leg_count s) 0 leg
 
     leg : (j : ℕ) → 0 ≤ j → j < 0 + leg_count s → leg_refusal (view_of d) s j ≡ none
     leg j p q =
-        both-none (refuse (not (eqb (covering (λ (r : DayRange). r.legs) s.days j) 1)) 34) (refuse (not (every (known j) s.days)) 31)
-        (granted (eqb (covering (λ (r : DayRange). r.legs) s.days j) 1) 34 (eq-eqb (covering (λ (r : DayRange). r.legs) s.days j) 1 (h.days j (omega arith))))
-        (granted (every (known j) s.days) 31 (every-all (known j) (all-to (λ (r : DayRange). FieldKnown d r.field) (λ (r : DayRange). known j r ≡ true) (λ r k. or-second (not (covers j r.legs)) (field_known r.field d.fields) k) s.days h.fields)))
+        both-none (refuse (not (eqb (covering (λ (r : DayRange). r.legs) s.days j) 1)) LegDaysNotOnce) (refuse (not (every (known j) s.days)) LegFieldUnknown)
+        (granted (eqb (covering (λ (r : DayRange). r.legs) s.days j) 1) LegDaysNotOnce (eq-eqb (covering (λ (r : DayRange). r.legs) s.days j) 1 (h.days j (omega arith))))
+        (granted (every (known j) s.days) LegFieldUnknown (every-all (known j) (all-to (λ (r : DayRange). FieldKnown d r.field) (λ (r : DayRange). known j r ≡ true) (λ r k. or-second (not (covers j r.legs)) (field_known r.field d.fields) k) s.days h.fields)))
 
 -- ---- 36 and 33, in a stretch of n legs from call a on
 
@@ -62,8 +64,8 @@ module _ (d : Delivery) (s : Service) (h : Right d s) (a n : ℕ) (inside : a + 
   call-resolved : (i w b : ℕ) (c : Call) → i ≤ n → w ≤ b → times_stated (length s.calls) (a + i) c ≡ true → times_rise b c ≡ true → call_refusal s a n i w c ≡ none
   unfolding call_refusal
   call-resolved i w b c l m t u =
-      both-none (refuse (not (times_needed n i w c)) 36) (refuse (ltb i n && not once) 33)
-      (granted (times_needed n i w c) 36 needed)
+      both-none (refuse (not (times_needed n i w c)) TimeNeeded) (refuse (ltb i n && not once) LegCategoryNotOnce)
+      (granted (times_needed n i w c) TimeNeeded needed)
       (leaving (ltb i n) refl)
     where
       once : Bool
@@ -76,9 +78,9 @@ module _ (d : Delivery) (s : Service) (h : Right d s) (a n : ℕ) (inside : a + 
           (λ q. let z = eqb-false i n q in departs (length s.calls) (a + i) c t (omega (arith, z)))
           m u
 
-      leaving : (x : Bool) → ltb i n ≡ x → refuse (x && not once) 33 ≡ none
+      leaving : (x : Bool) → ltb i n ≡ x → refuse (x && not once) LegCategoryNotOnce ≡ none
       leaving false q = refl
-      leaving true q = let z = ltb-true i n q in granted once 33 (eq-eqb (covering (λ (r : CategoryRange). r.legs) s.categories (a + i)) 1 (h.categories (a + i) (omega arith)))
+      leaving true q = let z = ltb-true i n q in granted once LegCategoryNotOnce (eq-eqb (covering (λ (r : CategoryRange). r.legs) s.categories (a + i)) 1 (h.categories (a + i) (omega arith)))
 
   calls-resolved : (m i w b : ℕ) (cs : List Call) → i + m ≡ n → w ≤ b → Timely (length s.calls) (a + i) b cs → calls_refusal s a n i w (take (suc m) cs) ≡ none
   unfolding calls_refusal Timely

@@ -10,6 +10,7 @@ use lib.ListN.{length, get_or}
 use lib.Seq.{ext_get_or}
 use lib.Dec.{eqb}
 use borrow.Author.Tests.{eqb-true}
+use Rattle.std.specs.Prelude.{Some, Result, Ok, Err}
 use Rattle.base.specs.Lists.{All, nil, cons, every, count_if, upto, below}
 use Rattle.base.proofs.Laws.{clash, by-ltb, by_eqb}
 use Rattle.timetable.specs.Runs.{lateness}
@@ -17,13 +18,11 @@ use Rattle.timetable.specs.Layout.{row_size, all_flags}
 use Rattle.timetable.specs.Delivery.{Files, Interchange, CategoryRange, Service, Delivery}
 use Rattle.timetable.specs.Legs.{covers}
 use Rattle.timetable.specs.Load.{onto, loaded, written, helped}
-use Rattle.timetable.specs.Questions.{day_asked, interchange_asked, between_asked, walked, walk_rows}
+use Rattle.timetable.specs.Questions.{day_asked, interchange_asked, between_asked, Walked, walk_refusal, walked, walk_rows}
 use Rattle.timetable.specs.declared.Call.{Call}
-use Rattle.timetable.specs.declared.DayAnswer.{DayAnswer}
-use Rattle.timetable.specs.declared.InterchangeAnswer.{InterchangeAnswer}
+use Rattle.timetable.specs.declared.refusal.Refusal.{Refusal}
 use Rattle.timetable.specs.declared.Loaded.{Loaded}
-use Rattle.timetable.specs.declared.Walked.{Walked}
-use Rattle.timetable.specs.declared.Walked.TheVariants.{Listed, Refused}
+use Rattle.timetable.specs.declared.refusal.Refusal.TheVariants.{TooFewWords}
 use Rattle.whole_runs.specs.Rows.{RunsNowhere, Unbroken, row_word, flag, Row, call_no, Stretched}
 use Rattle.whole_runs.specs.Promise.{Walk, not_running, short, runs}
 use Rattle.whole_runs.proofs.Lists.{every-below}
@@ -153,8 +152,8 @@ module _ (d : Delivery) (s : Service) (r k : ℕ) where
   no-slack lent (not_running p) (short y l) = absurd (never_both d s k p y.unbroken)
   no-slack lent (not_running p) (runs y l) = absurd (never_both d s k p y.unbroken)
   no-slack lent (short x h) (not_running q) = absurd (never_both d s k q x.unbroken)
-  no-slack lent (short x h) (short y l) = (ap (λ (n : ℕ). Refused 29 (row_size * (n + 1))) (same-legs d s k x.unbroken y.unbroken), refl)
+  no-slack lent (short x h) (short y l) = (ap (λ (n : ℕ). Err (walk_refusal TooFewWords (row_size * (n + 1)))) (same-legs d s k x.unbroken y.unbroken), refl)
   no-slack lent (short x h) (runs y l) = let e = same-legs d s k x.unbroken y.unbroken in absurd (omega arith)
   no-slack lent (runs x h) (not_running q) = absurd (never_both d s k q x.unbroken)
   no-slack lent (runs x h) (short y l) = let e = same-legs d s k x.unbroken y.unbroken in absurd (omega arith)
-  no-slack lent (runs x h) (runs y l) = (ap (λ (n : ℕ). Listed (n + 1)) (same-legs d s k x.unbroken y.unbroken), ap (λ (u : List ℕ). onto u lent) (same_rows x y))
+  no-slack lent (runs x h) (runs y l) = (ap (λ (n : ℕ). Ok (Some (n + 1))) (same-legs d s k x.unbroken y.unbroken), ap (λ (u : List ℕ). onto u lent) (same_rows x y))

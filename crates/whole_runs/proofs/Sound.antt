@@ -14,10 +14,8 @@ use Rattle.fields.proofs.Bounds.{stated-le}
 use Rattle.fields.specs.Fields.{time}
 use Rattle.fields.specs.declared.Time.{Time}
 use Rattle.fields.specs.declared.Time.TheVariants.{Absent, Stated, NoTime}
-use Rattle.forms.specs.Form.{form_of}
+use Rattle.forms.specs.Form.{form_of, Form, Fits, Broken as BrokenForm}
 use Rattle.forms.proofs.Laws.{row-holds, from-one-says}
-use Rattle.forms.specs.declared.Form.{Form}
-use Rattle.forms.specs.declared.Form.TheVariants.{Fits, Broken as BrokenForm}
 use Rattle.forms.specs.Columns.{service_columns, frequency_columns, category_columns, attribute_columns, call_columns}
 use Rattle.forms.specs.Kinds.{kind_of}
 use Rattle.forms.specs.declared.Kind.{Kind}

@@ -10,12 +10,12 @@ use native.Mathlib.Omega.{arith}
 use lib.ListN.{length, take, drop, get_elem?, length-take, length-drop}
 use lib.Seq.{take-take, drop-drop, length-take-le}
 use borrow.Author.Tests.{le-leb, not-false}
+use Rattle.std.specs.Prelude.{Ok}
 use Rattle.base.specs.Lists.{All, nil, cons, some_of, find}
 use Rattle.base.proofs.Laws.{apart, clash, by-ltb}
 use Rattle.columns.specs.Columns.{columns}
 use Rattle.columns.proofs.Laws.{length-columns}
-use Rattle.forms.specs.declared.Form.{Form}
-use Rattle.forms.specs.declared.Form.TheVariants.{Fits, Broken}
+use Rattle.forms.specs.Form.{Form, Fits, Broken}
 use Rattle.lines.specs.Lines.{Line, lines_from, lines_of, cut_at}
 use Rattle.lines.proofs.Laws.{cutting, lines_none}
 use Rattle.names.specs.Names.{is_name_list, name_for}
@@ -27,7 +27,6 @@ use Rattle.timetable.specs.Offences.{first}
 use Rattle.timetable.specs.Files.{Held, skip, broken, held, listed, held_in, held_by, held_offence, stop_of, named_stop_offence, stop_line_offence}
 use Rattle.names.specs.NameField.{name_length, name_field}
 use Rattle.timetable.specs.StopNames.{name_within}
-use Rattle.timetable.specs.declared.NameAnswer.TheVariants.{Part}
 use Rattle.timetable.specs.declared.Offence.{Offence}
 use Rattle.timetable.proofs.Offences.{then-none, given-none, first-none}
 use Rattle.names.proofs.NameField.{name-inside, name-bytes}
@@ -102,7 +101,7 @@ module _ (b : List ℕ) (l : Line) (part : PartOf b l) (w : Wanted) (n : Name) (
   bytes-are : take size (drop (l.start + 12) b) ≡ name_field l.text
   bytes-are = sym (part-part size 12 (length l.text) l.start b in-text) ∙ ap (λ (x : List ℕ). take size (drop 12 x)) part.1 ∙ field_is
 
-  pub name-is : (number : ℕ) → name_within b w (record { number = number; offset = l.start + 12; size = size }) ≡ Part (l.start + 12 + n.place) n.size
+  pub name-is : (number : ℕ) → name_within b w (record { number = number; offset = l.start + 12; size = size }) ≡ Ok (record { start = l.start + 12 + n.place; size = n.size })
   name-is number =
       let inside : l.start + 12 + size ≤ length b = omega (arith, part.0, in-text) in
       rw (le-leb (l.start + 12 + size) (length b) inside, bytes-are, e)

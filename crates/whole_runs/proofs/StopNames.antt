@@ -10,6 +10,7 @@ use native.Mathlib.Omega.{arith}
 use lib.ListN.{length, drop, get_elem?, length-take}
 use lib.Dec.{eqb}
 use borrow.Author.Tests.{leb-true, eqb-true}
+use Rattle.std.specs.Prelude.{Ok, Err}
 use Rattle.base.proofs.Laws.{apart}
 use Rattle.columns.specs.Columns.{columns, number as number_in}
 use Rattle.forms.specs.Form.{form_of}
@@ -27,7 +28,10 @@ use Rattle.timetable.specs.Table.{table_of, is_table}
 use Rattle.timetable.specs.View.{stop_numbered}
 use Rattle.timetable.specs.StopNames.{name_inside, name_bytes, part_from, name_within, stop_name, stop_name_in, stop_name_asked}
 use Rattle.timetable.specs.declared.Loaded.TheVariants.{Accepted}
-use Rattle.timetable.specs.declared.NameAnswer.TheVariants.{Part, Refused}
+use Rattle.timetable.specs.declared.refusal.Refusal.{Refusal}
+use Rattle.timetable.specs.Refusals.{number_of}
+use Rattle.timetable.proofs.Numbered.{numbered}
+use Rattle.timetable.specs.declared.refusal.Refusal.TheVariants.{NoTable, StopUnknown, NoNameList, NotAskable, NameOutside}
 use Rattle.whole_runs.specs.StopNames.{InBytes, OwnName, NameRefused, outside_list, unknown_stop}
 use Rattle.whole_runs.proofs.Lists.{all-elem}
 use Rattle.whole_runs.proofs.Clear.{clear}
@@ -45,7 +49,7 @@ module _ (w b : List ℕ) (stop language type : ℕ) where
   unfolding stop_name_asked stop_name_in
   name-in-bytes = go (is_table w) (askable language type) (stop_numbered stop (table_of w).stops)
     where
-      found : (s : StopRecord) (t : Bool) → name_inside b s ≡ t → (o : Option Name) → name_for wanted (name_bytes b s) ≡ o → InBytes b (cond t (part_from s.offset o) (Refused 41))
+      found : (s : StopRecord) (t : Bool) → name_inside b s ≡ t → (o : Option Name) → name_for wanted (name_bytes b s) ≡ o → InBytes b (cond t (part_from s.offset o) (Err NameOutside))
       found s false q o e = tt
       found s true q none e = tt
       found s true q (some n) e =
@@ -54,31 +58,19 @@ module _ (w b : List ℕ) (stop language type : ℕ) where
           let k : n.place + n.size ≤ s.size = omega (arith, p.inside, length-take s.size (drop s.offset b)) in
           (omega arith, rw (part-part n.size n.place s.size s.offset b k) at p.name)
 
-      go : (x y : Bool) (o : Option StopRecord) → InBytes b (cond x (cond y (stop_name b wanted o) (Refused 40)) (Refused 21))
+      go : (x y : Bool) (o : Option StopRecord) → InBytes b (cond x (cond y (stop_name b wanted o) (Err NotAskable)) (Err NoTable))
       go false y o = tt
       go true false o = tt
       go true true none = tt
       go true true (some s) = found s (name_inside b s) refl (name_for wanted (name_bytes b s)) refl
 
-  pub name-numbered : (number : ℕ) → stop_name_asked w b stop language type ≡ Refused number → 1 ≤ number
-  unfolding stop_name_asked stop_name_in
-  name-numbered number e = go (is_table w) (askable language type) (stop_numbered stop (table_of w).stops) e
-    where
-      found : (s : StopRecord) (t : Bool) (o : Option Name) → cond t (part_from s.offset o) (Refused 41) ≡ Refused number → 1 ≤ number
-      found s false o e = let z : ◌≡◌ {A = ℕ} 41 number = cc in omega (arith, z)
-      found s true none e = let z : ◌≡◌ {A = ℕ} 39 number = cc in omega (arith, z)
-      found s true (some n) e = apart (cc)
-
-      go : (x y : Bool) (o : Option StopRecord) → cond x (cond y (stop_name b wanted o) (Refused 40)) (Refused 21) ≡ Refused number → 1 ≤ number
-      go false y o e = let z : ◌≡◌ {A = ℕ} 21 number = cc in omega (arith, z)
-      go true false o e = let z : ◌≡◌ {A = ℕ} 40 number = cc in omega (arith, z)
-      go true true none e = let z : ◌≡◌ {A = ℕ} 27 number = cc in omega (arith, z)
-      go true true (some s) e = found s (name_inside b s) (name_for wanted (name_bytes b s)) e
+  pub name-numbered : (refusal : Refusal) → stop_name_asked w b stop language type ≡ Err refusal → 1 ≤ number_of refusal
+  name-numbered refusal e = numbered refusal
 
 -- ---- an accepted delivery
 
 module _ (f : Files) (t : List ℕ) (helper u : ℕ) (e : loaded f (length t) helper ≡ Accepted u) (stop language type : ℕ) where
-  asked_of : stop_name_asked (written f t helper) f.bahnhof stop language type ≡ cond (askable language type) (stop_name f.bahnhof (wanted_by language type) (stop_numbered stop (delivered f).stops)) (Refused 40)
+  asked_of : stop_name_asked (written f t helper) f.bahnhof stop language type ≡ cond (askable language type) (stop_name f.bahnhof (wanted_by language type) (stop_numbered stop (delivered f).stops)) (Err NotAskable)
   unfolding stop_name_asked stop_name_in
   asked_of = rw (table_is f t helper u e, table-holds f t helper u e)
 
@@ -100,7 +92,7 @@ module _ (f : Files) (t : List ℕ) (helper u : ℕ) (e : loaded f (length t) he
         name = n;
         asked = answer;
         answer =
-            asked_of ∙ ap (λ (x : Bool). cond x (stop_name f.bahnhof (wanted_by language type) (stop_numbered stop (delivered f).stops)) (Refused 40)) a ∙ ap (stop_name f.bahnhof (wanted_by language type)) found
+            asked_of ∙ ap (λ (x : Bool). cond x (stop_name f.bahnhof (wanted_by language type) (stop_numbered stop (delivered f).stops)) (Err NotAskable)) a ∙ ap (stop_name f.bahnhof (wanted_by language type)) found
             ∙ ap (name_within f.bahnhof (wanted_by language type)) (sym same) ∙ name-is f.bahnhof l part (wanted_by language type) n answer (number_in (columns 1 7 l.text));
         in_columns = omega (arith, end, room);
         in_line = omega (arith, end, inside);
@@ -120,18 +112,18 @@ module _ (f : Files) (t : List ℕ) (helper u : ℕ) (e : loaded f (length t) he
       by-line a s found (eqb-true s.number stop on.fits) on.index on.line on.there on.holds part n answer
 
   -- Of the refusals only 40 and 27 are left, each exactly for its reason.
-  pub name-refusals : (number : ℕ) → stop_name_asked (written f t helper) f.bahnhof stop language type ≡ Refused number → NameRefused (delivered f).stops stop language type number
-  name-refusals number k = go (askable language type) refl (has_stop stop (delivered f).stops) refl
+  pub name-refusals : (refusal : Refusal) → stop_name_asked (written f t helper) f.bahnhof stop language type ≡ Err refusal → NameRefused (delivered f).stops stop language type refusal
+  name-refusals refusal k = go (askable language type) refl (has_stop stop (delivered f).stops) refl
     where
-      go : (a : Bool) → askable language type ≡ a → (h : Bool) → has_stop stop (delivered f).stops ≡ h → NameRefused (delivered f).stops stop language type number
+      go : (a : Bool) → askable language type ≡ a → (h : Bool) → has_stop stop (delivered f).stops ≡ h → NameRefused (delivered f).stops stop language type refusal
       go false p h q =
-          let z : Refused number ≡ Refused 40 = sym k ∙ asked_of ∙ ap (λ (x : Bool). cond x (stop_name f.bahnhof (wanted_by language type) (stop_numbered stop (delivered f).stops)) (Refused 40)) p in
-          let y : ◌≡◌ {A = ℕ} 40 number = cc in
+          let z : Err refusal ≡ Err NotAskable = sym k ∙ asked_of ∙ ap (λ (x : Bool). cond x (stop_name f.bahnhof (wanted_by language type) (stop_numbered stop (delivered f).stops)) (Err NotAskable)) p in
+          let y : ◌≡◌ {A = Refusal} NotAskable refusal = cc in
           subst (NameRefused (delivered f).stops stop language type) y (outside_list p)
       go true p false q =
-          let z : Refused number ≡ Refused 27 =
-          sym k ∙ asked_of ∙ ap (λ (x : Bool). cond x (stop_name f.bahnhof (wanted_by language type) (stop_numbered stop (delivered f).stops)) (Refused 40)) p
+          let z : Err refusal ≡ Err StopUnknown =
+          sym k ∙ asked_of ∙ ap (λ (x : Bool). cond x (stop_name f.bahnhof (wanted_by language type) (stop_numbered stop (delivered f).stops)) (Err NotAskable)) p
           ∙ ap (stop_name f.bahnhof (wanted_by language type)) (none_found (λ (s : StopRecord). eqb s.number stop) (delivered f).stops q) in
-          let y : ◌≡◌ {A = ℕ} 27 number = cc in
+          let y : ◌≡◌ {A = Refusal} StopUnknown refusal = cc in
           subst (NameRefused (delivered f).stops stop language type) y (unknown_stop p q)
-      go true p true q = let z : Refused number ≡ Part _ _ = sym k ∙ (own_name p q).answer in apart (cc)
+      go true p true q = let z : Err refusal ≡ Ok _ = sym k ∙ (own_name p q).answer in apart (cc)

@@ -9,9 +9,7 @@ use lib.ListN.{length-map}
 use borrow.Author.Tests.{not-false}
 use Rattle.base.specs.Lists.{All, nil, cons, gathered}
 use Rattle.base.proofs.Laws.{apart}
-use Rattle.forms.specs.Form.{FieldRule, form_of}
-use Rattle.forms.specs.declared.Form.{Form}
-use Rattle.forms.specs.declared.Form.TheVariants.{Fits, Broken}
+use Rattle.forms.specs.Form.{FieldRule, form_of, Form, Fits, Broken}
 use Rattle.lines.specs.Lines.{Line, lines_of, skipped}
 use Rattle.timetable.specs.Delivery.{Files, BitField}
 use Rattle.timetable.specs.Offences.{given, first}

@@ -1,7 +1,7 @@
 -- Request No. 1: what ZUGART says of a category. "Demand 3 adds that every category a walk lists has a class" (`OwnClass`, of the rows of a walk in
 -- specs/Promise.antt); and "the interchange time between two services" is then always answered (`Between`); of the refusals two are left (`BetweenRefused`).
 -- Proved in proofs/ClassLines.antt: `rows-classed`; in proofs/Classes.antt: `between-rows`, `between-classes`, `between-refusals`, `between-refused`. Assumes nothing.
-use Rattle.std.specs.Prelude.{◌≡◌, true, false, ◌&&◌, ℕ, ◌≤◌, eqb}
+use Rattle.std.specs.Prelude.{◌≡◌, true, false, ◌&&◌, ℕ, ◌≤◌, eqb, Result, Ok}
 use Rattle.std.proofs.Math.Option.{some}
 use Rattle.std.proofs.Math.ListN.{get_elem?}
 use Rattle.base.specs.Lists.{count_if}
@@ -12,8 +12,8 @@ use Rattle.timetable.specs.Files.{held, has_stop, class_of, has_class}
 use Rattle.timetable.specs.Load.{delivered}
 use Rattle.timetable.specs.View.{interchange_at_stop, class_for}
 use Rattle.timetable.specs.Questions.{minutes_for}
-use Rattle.timetable.specs.declared.InterchangeAnswer.{InterchangeAnswer}
-use Rattle.timetable.specs.declared.InterchangeAnswer.TheVariants.{Minutes}
+use Rattle.timetable.specs.declared.refusal.Refusal.{Refusal}
+use Rattle.timetable.specs.declared.refusal.Refusal.TheVariants.{StopUnknown, CategoryUnlisted}
 
 -- a category has exactly one class, and it is that of the line of ZUGART that has its code
 pub record OwnClass (f : Files) (code : ℕ) : Type 0 where
@@ -27,12 +27,12 @@ pub record OwnClass (f : Files) (code : ℕ) : Type 0 where
   pub most : class ≤ most_class
 
 -- the answer a, for a stop and the categories of an arriving and a departing service, is the stop's interchange time between their own classes
-pub record Between (f : Files) (stop arriving departing : ℕ) (a : InterchangeAnswer) : Type 0 where
+pub record Between (f : Files) (stop arriving departing : ℕ) (a : Result ℕ Refusal) : Type 0 where
   pub arrives : OwnClass f arriving
   pub departs : OwnClass f departing
-  pub answer : a ≡ Minutes (minutes_for (interchange_at_stop (delivered f) stop) arrives.class departs.class)
+  pub answer : a ≡ Ok (minutes_for (interchange_at_stop (delivered f) stop) arrives.class departs.class)
 
 -- what it is refused by, of a delivery whose table is asked: "38 for a *G category not listed, .. in the question, after 27"
-pub data BetweenRefused (d : Delivery) (stop arriving departing : ℕ) : ℕ → Type 0 where
-  unknown_stop : has_stop stop d.stops ≡ false → BetweenRefused d stop arriving departing 27
-  unlisted : has_stop stop d.stops ≡ true → has_class arriving d.classes && has_class departing d.classes ≡ false → BetweenRefused d stop arriving departing 38
+pub data BetweenRefused (d : Delivery) (stop arriving departing : ℕ) : Refusal → Type 0 where
+  unknown_stop : has_stop stop d.stops ≡ false → BetweenRefused d stop arriving departing StopUnknown
+  unlisted : has_stop stop d.stops ≡ true → has_class arriving d.classes && has_class departing d.classes ≡ false → BetweenRefused d stop arriving departing CategoryUnlisted

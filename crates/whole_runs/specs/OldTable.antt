@@ -3,7 +3,7 @@
 -- each question answers as it did on the old table. .. show that 32 can no longer occur". Proved in proofs/OldTable.antt: `as_before`, `load-as-before`;
 -- `no-32` (of a definition that asks for no 32; why it "can no longer occur" is said by `stops-found`: each call of a table has one of its stops, and
 -- `test-passes`: so the old test would refuse no walk); in proofs/Places.antt: `table-by-places`. Assumes nothing.
-use Rattle.std.specs.Prelude.{◌≡◌, List, [], ◌∷◌, ◌++◌, Bool, true, false, cond, not, ◌&&◌, ℕ, zero, suc, ◌+◌, ◌*◌, length, drop, ltb, leb, eqb}
+use Rattle.std.specs.Prelude.{◌≡◌, List, [], ◌∷◌, ◌++◌, Bool, true, false, cond, not, ◌&&◌, ℕ, zero, suc, ◌+◌, ◌*◌, length, drop, ltb, leb, eqb, Result, Ok, Err}
 use Rattle.std.proofs.Math.Option.{Option, none, some}
 use Rattle.std.proofs.Math.ListN.{get_elem?}
 use Rattle.base.specs.Lists.{every, below, gathered}
@@ -19,22 +19,16 @@ use Rattle.timetable.specs.Table.{word_count_in, used_words, first_day, period_d
 use Rattle.timetable.specs.Table.{legs_sound, sizes_sound, head_sound, class_sound, table_of, is_table}
 use Rattle.timetable.specs.Load.{length_offence, content_offence, helper_needed, refused_or, short_or, loaded, written_by, written, delivered}
 use Rattle.timetable.specs.View.{View, view_of}
-use Rattle.timetable.specs.Run.{refuse, leg_refusal, first_refusal, Stretch, stretch_of, stretch_calls, needed_last, call_refusal, course_by, RunFound, no_run, run_along}
-use Rattle.timetable.specs.Questions.{Dated, undated, dated, date_of, day_in, day_asked, interchange_in, interchange_asked, between_in, between_asked}
-use Rattle.timetable.specs.Questions.{Journey, refused, rows_along, walked_by, walked, rows_by, walk_rows}
+use Rattle.timetable.specs.Run.{Course, runs_along, not_running, refuse, leg_refusal, first_refusal, Stretch, stretch_of, stretch_calls, needed_last, call_refusal, course_by, RunFound, no_run, run_along}
+use Rattle.timetable.specs.Questions.{date_of, day_in, day_asked, interchange_in, interchange_asked, between_in, between_asked}
+use Rattle.timetable.specs.Questions.{Journey, refused, rows_along, Walked, walked_by, walked, rows_by, walk_rows}
 use Rattle.timetable.specs.StopNames.{stop_name_in, stop_name_asked}
-use Rattle.timetable.specs.declared.Course.{Course}
-use Rattle.timetable.specs.declared.Course.TheVariants.{Along, NotRunning as Idle, Refused as Barred}
 use Rattle.timetable.specs.declared.Call.{Call}
-use Rattle.timetable.specs.declared.DayAnswer.{DayAnswer}
-use Rattle.timetable.specs.declared.DayAnswer.TheVariants.{Refused as DayRefused}
-use Rattle.timetable.specs.declared.InterchangeAnswer.{InterchangeAnswer}
-use Rattle.timetable.specs.declared.InterchangeAnswer.TheVariants.{Minutes, Refused as InterchangeRefused}
 use Rattle.timetable.specs.declared.Loaded.{Loaded}
 use Rattle.timetable.specs.declared.Loaded.TheVariants.{Accepted}
-use Rattle.timetable.specs.declared.NameAnswer.{NameAnswer}
-use Rattle.timetable.specs.declared.NameAnswer.TheVariants.{Refused as NameRefused}
-use Rattle.timetable.specs.declared.Walked.{Walked}
+use Rattle.timetable.specs.declared.NamePart.{NamePart}
+use Rattle.timetable.specs.declared.refusal.Refusal.{Refusal}
+use Rattle.timetable.specs.declared.refusal.Refusal.TheVariants.{NoTable, NoSuchService, NoSuchRun, TwoStretches}
 
 -- ---- its words: the services as the delivery has them
 
@@ -119,58 +113,59 @@ old_written f t helper = written_by (old_loaded f (length t) helper) (old_table_
 -- ---- the questions
 
 -- 21, then the question of what these words hold, as it stands today
-abbrev pub old_asked : {X : Type 0} → (ℕ → X) → (View → X) → List ℕ → X
-old_asked refusal question w = cond (old_is_table w) (question (view_of (old_table_of w))) (refusal 21)
+abbrev pub old_asked : {X : Type 0} → (Refusal → X) → (View → X) → List ℕ → X
+old_asked refusal question w = cond (old_is_table w) (question (view_of (old_table_of w))) (refusal NoTable)
 
-unfoldable pub old_day_asked : List ℕ → ℕ → ℕ → ℕ → ℕ → DayAnswer
-old_day_asked w day month year b = old_asked DayRefused (λ (v : View). day_in v day month year b) w
+unfoldable pub old_day_asked : List ℕ → ℕ → ℕ → ℕ → ℕ → Result Bool Refusal
+old_day_asked w day month year b = old_asked Err (λ (v : View). day_in v day month year b) w
 
-unfoldable pub old_interchange_asked : List ℕ → ℕ → ℕ → ℕ → InterchangeAnswer
-old_interchange_asked w n a b = old_asked InterchangeRefused (λ (v : View). interchange_in v n a b) w
+unfoldable pub old_interchange_asked : List ℕ → ℕ → ℕ → ℕ → Result ℕ Refusal
+old_interchange_asked w n a b = old_asked Err (λ (v : View). interchange_in v n a b) w
 
-unfoldable pub old_between_asked : List ℕ → ℕ → ℕ → ℕ → InterchangeAnswer
-old_between_asked w n a b = old_asked InterchangeRefused (λ (v : View). between_in v n a b) w
+unfoldable pub old_between_asked : List ℕ → ℕ → ℕ → ℕ → Result ℕ Refusal
+old_between_asked w n a b = old_asked Err (λ (v : View). between_in v n a b) w
 
-unfoldable pub old_stop_name_asked : List ℕ → List ℕ → ℕ → ℕ → ℕ → NameAnswer
-old_stop_name_asked w bahnhof stop language type = old_asked NameRefused (λ (v : View). stop_name_in v bahnhof stop language type) w
+unfoldable pub old_stop_name_asked : List ℕ → List ℕ → ℕ → ℕ → ℕ → Result NamePart Refusal
+old_stop_name_asked w bahnhof stop language type = old_asked Err (λ (v : View). stop_name_in v bahnhof stop language type) w
 
 -- the walk: the same course, but for the calls' test for 32
--- "Each call of the stretch: 32 stop unknown, 36 .., 33 .."
-abbrev pub old_call_refusal : Delivery → Service → ℕ → ℕ → ℕ → ℕ → Call → Option ℕ
-old_call_refusal d s a n i before c = refuse (not (has_stop c.stop d.stops)) 32 <|> call_refusal s a n i before c
+-- "Each call of the stretch: 32 stop unknown, 36 .., 33 .." 32 is retired, so that no refusal has that number today: x stands for it, and what is proved is proved of
+-- any refusal in its place.
+abbrev pub old_call_refusal : Refusal → Delivery → Service → ℕ → ℕ → ℕ → ℕ → Call → Option Refusal
+old_call_refusal x d s a n i before c = refuse (not (has_stop c.stop d.stops)) x <|> call_refusal s a n i before c
 
-unfoldable pub old_calls_refusal : Delivery → Service → ℕ → ℕ → ℕ → ℕ → List Call → Option ℕ
-old_calls_refusal d s a n i before [] = none
-old_calls_refusal d s a n i before (c ∷ cs) = old_call_refusal d s a n i before c <|> old_calls_refusal d s a n (i + 1) (needed_last n i c) cs
+unfoldable pub old_calls_refusal : Refusal → Delivery → Service → ℕ → ℕ → ℕ → ℕ → List Call → Option Refusal
+old_calls_refusal x d s a n i before [] = none
+old_calls_refusal x d s a n i before (c ∷ cs) = old_call_refusal x d s a n i before c <|> old_calls_refusal x d s a n (i + 1) (needed_last n i c) cs
 
-abbrev pub old_stretch_course : Delivery → Service → Stretch → Course
-old_stretch_course d s t = course_by (old_calls_refusal d s t.start t.legs 0 0 (stretch_calls s t)) (Along t.start t.legs)
+abbrev pub old_stretch_course : Refusal → Delivery → Service → Stretch → Course
+old_stretch_course x d s t = course_by (old_calls_refusal x d s t.start t.legs 0 0 (stretch_calls s t)) (runs_along t.start t.legs)
 
-abbrev pub old_service_course : Delivery → Service → ℕ → List Bool → Course
-old_service_course d s r bs =
-    cond (not (has_run s.opening r)) (Barred 25)
+abbrev pub old_service_course : Refusal → Delivery → Service → ℕ → List Bool → Course
+old_service_course x d s r bs =
+    cond (not (has_run s.opening r)) (Err NoSuchRun)
     (course_by (first_refusal (leg_refusal (view_of d) s) (below (leg_count s)))
-    (cond (eqb (stretches false bs) 0) Idle (cond (leb 2 (stretches false bs)) (Barred 35) (old_stretch_course d s (stretch_of bs)))))
+    (cond (eqb (stretches false bs) 0) not_running (cond (leb 2 (stretches false bs)) (Err TwoStretches) (old_stretch_course x d s (stretch_of bs)))))
 
-abbrev pub old_run_by : Delivery → Option Service → ℕ → ℕ → RunFound
-old_run_by d none r k = no_run 24
-old_run_by d (some s) r k = run_along s (lateness s.opening r) (old_service_course d s r (operated_legs d.fields s k))
+abbrev pub old_run_by : Refusal → Delivery → Option Service → ℕ → ℕ → RunFound
+old_run_by x d none r k = no_run NoSuchService
+old_run_by x d (some s) r k = run_along s (lateness s.opening r) (old_service_course x d s r (operated_legs d.fields s k))
 
-abbrev pub old_dated_run : Delivery → ℕ → ℕ → Dated → RunFound
-old_dated_run d i r (undated number) = no_run number
-old_dated_run d i r (dated k) = old_run_by d (get_elem? d.services i) r k
+abbrev pub old_dated_run : Refusal → Delivery → ℕ → ℕ → Result ℕ Refusal → RunFound
+old_dated_run x d i r (Err refusal) = no_run refusal
+old_dated_run x d i r (Ok k) = old_run_by x d (get_elem? d.services i) r k
 
-unfoldable pub old_journey : Delivery → ℕ → ℕ → ℕ → ℕ → ℕ → Journey
-old_journey d i r day month year = rows_along (view_of d) (old_dated_run d i r (date_of (view_of d) day month year))
+unfoldable pub old_journey : Refusal → Delivery → ℕ → ℕ → ℕ → ℕ → ℕ → Journey
+old_journey x d i r day month year = rows_along (view_of d) (old_dated_run x d i r (date_of (view_of d) day month year))
 
-unfoldable pub old_walk_of : List ℕ → ℕ → ℕ → ℕ → ℕ → ℕ → Journey
-old_walk_of w i r day month year = cond (old_is_table w) (old_journey (old_table_of w) i r day month year) (refused 21)
+unfoldable pub old_walk_of : Refusal → List ℕ → ℕ → ℕ → ℕ → ℕ → ℕ → Journey
+old_walk_of x w i r day month year = cond (old_is_table w) (old_journey x (old_table_of w) i r day month year) (refused NoTable)
 
-abbrev pub old_walked : List ℕ → ℕ → ℕ → ℕ → ℕ → ℕ → ℕ → Walked
-old_walked w i r day month year room = walked_by (old_walk_of w i r day month year) room
+abbrev pub old_walked : Refusal → List ℕ → ℕ → ℕ → ℕ → ℕ → ℕ → ℕ → Walked
+old_walked x w i r day month year room = walked_by (old_walk_of x w i r day month year) room
 
-abbrev pub old_walk_rows : List ℕ → ℕ → ℕ → ℕ → ℕ → ℕ → List ℕ → List ℕ
-old_walk_rows w i r day month year t = rows_by (old_walk_of w i r day month year) t
+abbrev pub old_walk_rows : Refusal → List ℕ → ℕ → ℕ → ℕ → ℕ → ℕ → List ℕ → List ℕ
+old_walk_rows x w i r day month year t = rows_by (old_walk_of x w i r day month year) t
 
 -- ---- "each question answers as it did on the old table": of a table's words, and the old table's
 
@@ -180,8 +175,8 @@ pub record AsBefore (w old : List ℕ) : Type 0 where
   pub between : (n a b : ℕ) → between_asked w n a b ≡ old_between_asked old n a b
   pub stop_name : (bahnhof : List ℕ) (stop language type : ℕ) → stop_name_asked w bahnhof stop language type ≡ old_stop_name_asked old bahnhof stop language type
   -- rows and refusals alike, with any room
-  pub walk : (i r day month year room : ℕ) → walked w i r day month year room ≡ old_walked old i r day month year room
-  pub rows_walked : (i r day month year : ℕ) (lent : List ℕ) → walk_rows w i r day month year lent ≡ old_walk_rows old i r day month year lent
+  pub walk : (x : Refusal) (i r day month year room : ℕ) → walked w i r day month year room ≡ old_walked x old i r day month year room
+  pub rows_walked : (x : Refusal) (i r day month year : ℕ) (lent : List ℕ) → walk_rows w i r day month year lent ≡ old_walk_rows x old i r day month year lent
 
 -- of an accepted delivery: either table is one, of as many words, and holds that same delivery (`same_load` and `same_length` hold of every delivery:
 -- `load-as-before`, `words_same`)

@@ -4,12 +4,11 @@
 -- those of that same delivery's text, and 'does not run' is said exactly when its text says so."
 -- Proved in proofs/Demand3.antt: `demand3` (what the walk is), `demand3-rows` (its answer and the rows afterwards, with any room); in
 -- proofs/Slack.antt: `no-slack`; of any words, in proofs/Any.antt: `any-walk`, `two-rows`. Assumes nothing.
-use Rattle.std.specs.Prelude.{◌≡◌, List, [], ◌∷◌, Bool, true, ℕ, ◌+◌, ◌*◌, ◌/◌, ◌<◌, ◌≤◌, length, eqb}
+use Rattle.std.specs.Prelude.{◌≡◌, List, [], ◌∷◌, Bool, true, ℕ, ◌+◌, ◌*◌, ◌/◌, ◌<◌, ◌≤◌, length, eqb, Some, None, Result, Ok, Err}
 use Rattle.std.proofs.Math.Option.{some}
 use Rattle.std.proofs.Math.ListN.{get_elem?}
 use Rattle.base.specs.Lists.{All, some_of}
 use Rattle.calendar.specs.Calendar.{day_of}
-use Rattle.calendar.specs.declared.Date.TheVariants.{Day}
 use Rattle.lines.specs.Lines.{lines_of}
 use Rattle.timetable.specs.Runs.{has_run, lateness}
 use Rattle.timetable.specs.Layout.{kind_z, kind_t, row_size}
@@ -17,10 +16,11 @@ use Rattle.timetable.specs.Delivery.{Files, DayRange, Service, Delivery}
 use Rattle.timetable.specs.Service.{blocks}
 use Rattle.timetable.specs.Legs.{field_known, covers, covering, operated, field_runs, leg_count}
 use Rattle.timetable.specs.Load.{delivered, onto}
-use Rattle.timetable.specs.Questions.{Dated, dated, Journey, refused, idle, rows, walked_by}
+use Rattle.timetable.specs.Questions.{Journey, refused, idle, rows, Walked, walk_refusal, walked_by}
 use Rattle.timetable.specs.declared.Opening.{Opening}
-use Rattle.timetable.specs.declared.Walked.{Walked}
-use Rattle.timetable.specs.declared.Walked.TheVariants.{Listed, NotRunning, Refused}
+use Rattle.timetable.specs.declared.refusal.Refusal.{Refusal}
+use Rattle.timetable.specs.declared.refusal.Refusal.TheVariants.{TooFewWords}
+use Rattle.timetable.specs.Refusals.{number_of}
 use Rattle.whole_runs.specs.Text.{FromText, Announces, OwnText}
 use Rattle.whole_runs.specs.Classes.{OwnClass}
 use Rattle.whole_runs.specs.Rows.{RunsNowhere, Unbroken, row_word, Stretched}
@@ -29,7 +29,7 @@ use Rattle.whole_runs.specs.Rows.{RunsNowhere, Unbroken, row_word, Stretched}
 pub record Asked (f : Files) (i r d m y : ℕ) (s : Service) (day : ℕ) : Type 0 where
   pub service : get_elem? (delivered f).services i ≡ some s
   pub repeat : has_run s.opening r ≡ true
-  pub date : day_of d m y ≡ Day day
+  pub date : day_of d m y ≡ Some day
   pub from : (delivered f).period.start ≤ day
   pub until : day < (delivered f).period.start + (delivered f).period.n
 
@@ -71,7 +71,7 @@ pub data Outcome (d : Delivery) (s : Service) (r k : ℕ) : Journey → Type 0 w
 pub record Demand3 (f : Files) (i : ℕ) (s : Service) (r k : ℕ) (j : Journey) : Type 0 where
   pub outcome : Outcome (delivered f) s r k j
   -- "It never meets a number it cannot resolve."
-  pub never_refused : (number : ℕ) → j ≡ refused number → ⊥
+  pub never_refused : (refusal : Refusal) → j ≡ refused refusal → ⊥
   -- "'does not run' is said exactly when its text says so"
   pub idle_only : j ≡ idle → RunsNowhere (delivered f) s k
   pub idle_always : RunsNowhere (delivered f) s k → j ≡ idle
@@ -81,15 +81,15 @@ pub record Demand3 (f : Files) (i : ℕ) (s : Service) (r k : ℕ) (j : Journey)
 -- each call of the stretch takes, and it names these
 
 pub data Walk (d : Delivery) (s : Service) (r k : ℕ) (lent : List ℕ) : Walked → List ℕ → Type 0 where
-  not_running : RunsNowhere d s k → Walk d s r k lent NotRunning lent
-  short : {ws : List ℕ} (x : Stretched d s r k ws) → length lent < row_size * (x.legs + 1) → Walk d s r k lent (Refused 29 (row_size * (x.legs + 1))) lent
-  runs : {ws : List ℕ} (x : Stretched d s r k ws) → row_size * (x.legs + 1) ≤ length lent → Walk d s r k lent (Listed (x.legs + 1)) (onto ws lent)
+  not_running : RunsNowhere d s k → Walk d s r k lent (Ok None) lent
+  short : {ws : List ℕ} (x : Stretched d s r k ws) → length lent < row_size * (x.legs + 1) → Walk d s r k lent (Err (walk_refusal TooFewWords (row_size * (x.legs + 1)))) lent
+  runs : {ws : List ℕ} (x : Stretched d s r k ws) → row_size * (x.legs + 1) ≤ length lent → Walk d s r k lent (Ok (Some (x.legs + 1))) (onto ws lent)
 
 -- a walk refused for want of room: only by 29, and with the words that it names it lists its rows
-pub record Short (s : Service) (j : Journey) (room number needed : ℕ) : Type 0 where
-  pub only : number ≡ 29
+pub record Short (s : Service) (j : Journey) (room : ℕ) (refusal : Refusal) (needed : ℕ) : Type 0 where
+  pub only : refusal ≡ TooFewWords
   pub lacking : room < needed
-  pub enough : walked_by j needed ≡ Listed (needed / row_size)
+  pub enough : walked_by j needed ≡ Ok (Some (needed / row_size))
   pub most : needed ≤ row_size * length s.calls
 
 -- ---- of any words: what a walk of service i on a date may answer, d being what the words hold
@@ -101,16 +101,16 @@ walk_refusals = 21 ∷ 22 ∷ 23 ∷ 24 ∷ 25 ∷ 31 ∷ 33 ∷ 34 ∷ 35 ∷ 3
 unfoldable pub is_walk_refusal : ℕ → Bool
 is_walk_refusal number = some_of (eqb number) walk_refusals
 
-pub data AnyWalk (d : Delivery) (i : ℕ) (on : Dated) (room : ℕ) : Walked → Type 0 where
-  lists : {s : Service} {k start legs : ℕ} → get_elem? d.services i ≡ some s → on ≡ dated k → Unbroken d s k start legs
-      → row_size * (legs + 1) ≤ room → AnyWalk d i on room (Listed (legs + 1))
-  short : {s : Service} {k start legs : ℕ} → get_elem? d.services i ≡ some s → on ≡ dated k → Unbroken d s k start legs
-      → room < row_size * (legs + 1) → AnyWalk d i on room (Refused 29 (row_size * (legs + 1)))
-  nowhere : {s : Service} {k : ℕ} → get_elem? d.services i ≡ some s → on ≡ dated k → RunsNowhere d s k → AnyWalk d i on room NotRunning
-  refuses : (number : ℕ) → is_walk_refusal number ≡ true → AnyWalk d i on room (Refused number 0)
+pub data AnyWalk (d : Delivery) (i : ℕ) (on : Result ℕ Refusal) (room : ℕ) : Walked → Type 0 where
+  lists : {s : Service} {k start legs : ℕ} → get_elem? d.services i ≡ some s → on ≡ Ok k → Unbroken d s k start legs
+      → row_size * (legs + 1) ≤ room → AnyWalk d i on room (Ok (Some (legs + 1)))
+  short : {s : Service} {k start legs : ℕ} → get_elem? d.services i ≡ some s → on ≡ Ok k → Unbroken d s k start legs
+      → room < row_size * (legs + 1) → AnyWalk d i on room (Err (walk_refusal TooFewWords (row_size * (legs + 1))))
+  nowhere : {s : Service} {k : ℕ} → get_elem? d.services i ≡ some s → on ≡ Ok k → RunsNowhere d s k → AnyWalk d i on room (Ok None)
+  refuses : (refusal : Refusal) → is_walk_refusal (number_of refusal) ≡ true → AnyWalk d i on room (Err (walk_refusal refusal 0))
 
 -- "A walk that lists rows returns how many": at least two, so that 0 rows say "not running"
 abbrev pub TwoRows : Walked → Type 0
-TwoRows (Listed n) = 2 ≤ n
-TwoRows NotRunning = Unit {0}
-TwoRows (Refused number needed) = Unit {0}
+TwoRows (Ok (Some n)) = 2 ≤ n
+TwoRows (Ok None) = Unit {0}
+TwoRows (Err w) = Unit {0}

@@ -1,13 +1,12 @@
 -- "The days, calls and categories are those of that same delivery's text": what an accepted delivery holds is what the lines of its six files say.
 -- Every line of every file was read, so no record is dropped unseen, and what is looked up by a line's number is that line's own.
 -- Proved in proofs/Text.antt: `own-text`. Assumes nothing.
-use Rattle.std.specs.Prelude.{◌≡◌, ◌⊎◌, List, [], ◌∷◌, ◌++◌, map, true, false, cond, ℕ, ◌+◌, ◌-◌, ◌<◌, ◌≤◌, length, eqb}
+use Rattle.std.specs.Prelude.{◌≡◌, ◌⊎◌, List, [], ◌∷◌, ◌++◌, map, true, false, cond, ℕ, ◌+◌, ◌-◌, ◌<◌, ◌≤◌, length, eqb, Option as RustOption, Some, None}
 use Rattle.std.proofs.Math.Option.{Option, none, some}
 use Rattle.std.proofs.Math.ListN.{get_elem?}
 use Rattle.base.specs.Lists.{All, find, gathered}
 use Rattle.bitfield.specs.BitField.{runs_on}
 use Rattle.calendar.specs.Calendar.{date_in}
-use Rattle.calendar.specs.declared.Date.TheVariants.{Day}
 use Rattle.fields.specs.declared.StopNumber.{StopNumber}
 use Rattle.fields.specs.declared.RangeEnd.TheVariants.{Stop}
 use Rattle.fields.specs.declared.Detail.TheVariants.{Plain}
@@ -23,6 +22,7 @@ use Rattle.timetable.specs.Plan.{opens_service, tolds, as_call, part_lines}
 use Rattle.timetable.specs.Service.{head_lines, blocks, opening_of, service_of}
 use Rattle.timetable.specs.Legs.{field_runs}
 use Rattle.timetable.specs.Load.{delivered}
+use Rattle.timetable.specs.declared.Administration.{Administration}
 use Rattle.timetable.specs.declared.Call.{Call}
 use Rattle.timetable.specs.declared.CallLine.{CallLine}
 use Rattle.timetable.specs.declared.RangeLine.{RangeLine}
@@ -38,8 +38,8 @@ pub record ThreeLines (ls : List Line) (p : Period) : Type 0 where
   pub exactly : ls ≡ first ∷ second ∷ third ∷ []
   pub forms : (has_form date_columns first.text ≡ true) × (has_form date_columns second.text ≡ true)
   -- the first day of the period, and the last
-  pub start : date_in first.text ≡ Day p.start
-  pub end : date_in second.text ≡ Day (p.start + p.n - 1)
+  pub start : date_in first.text ≡ Some p.start
+  pub end : date_in second.text ≡ Some (p.start + p.n - 1)
 
 -- BITFELD, BAHNHOF, UMSTEIGB, ZUGART: each line is skipped, or gives the next record
 pub data Records {X : Type 0} (of : Line → Held X) : List Line → List X → Type 0 where
@@ -95,11 +95,19 @@ pub record FromText (bs : List (List Line)) (i : ℕ) (s : Service) : Type 0 whe
 -- blanks take the *Z values." (No. 8: these "may be a *T's".) Said here by the lines themselves, without the definition that the table's calls are made with (`holding`).
 
 -- what a schedule line says in columns 44-48 and in columns 50-55, if they are not blank
+abbrev pub number_by : RustOption ℕ → Option ℕ
+number_by None = none
+number_by (Some n) = some n
+
+abbrev pub administration_by : RustOption Administration → Option (ℕ × ℕ)
+administration_by None = none
+administration_by (Some a) = some (a.high, a.low)
+
 abbrev pub number_said : CallLine → Option ℕ
-number_said l = cond l.numbered (some l.number) none
+number_said l = number_by l.number
 
 abbrev pub administration_said : CallLine → Option (ℕ × ℕ)
-administration_said l = cond l.administered (some (l.high, l.low)) none
+administration_said l = administration_by l.administration
 
 -- what holds at call p of a service, whose schedule lines are ls and whose opening line says z: what the line of some call up to p says, no line after it
 -- up to p saying anything; or what the opening line says, no line up to p saying anything

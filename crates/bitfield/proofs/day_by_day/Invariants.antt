@@ -6,6 +6,3 @@ use Rattle.bitfield.proofs.day_by_day.Given as goal
 
 abbrev pub invariant-loop-d : goal.invariant-loop-d
 invariant-loop-d l = some_of (runs_on l.b) (upto (l.n - l.d) l.d) ≡ some_day l.n l.b
-
-abbrev pub decreases-loop-d : goal.decreases-loop-d
-decreases-loop-d l = l.n - l.d

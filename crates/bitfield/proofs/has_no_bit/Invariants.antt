@@ -7,6 +7,3 @@ use Rattle.bitfield.proofs.has_no_bit.Given as goal
 
 abbrev pub invariant-loop-i : goal.invariant-loop-i
 invariant-loop-i l = every (zero_at l.b) (upto (bit_words - l.i) l.i) ≡ no_bit l.b
-
-abbrev pub decreases-loop-i : goal.decreases-loop-i
-decreases-loop-i l = bit_words - l.i

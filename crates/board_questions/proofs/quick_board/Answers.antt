@@ -1,11 +1,8 @@
 use Rattle.board_questions.proofs.Needs.{quicks}
 use Rattle.board_questions.proofs.quick_board.Goals as goal
 
-pub quick_refusal-number-requires : goal.quick_refusal-number-requires
-quick_refusal-number-requires c = search quicks
-
-pub returns-then-number-ne0 : goal.returns-then-number-ne0
-returns-then-number-ne0 c = search quicks
+pub returns-in-Err : goal.returns-in-Err
+returns-in-Err c = search quicks
 
 pub headed_words-u-requires : goal.headed_words-u-requires
 headed_words-u-requires c = search quicks
@@ -19,8 +16,5 @@ call_words-requires c = search quicks
 pub board_by-requires : goal.board_by-requires
 board_by-requires c = search quicks
 
-pub shape_of-list : goal.shape_of-list
-shape_of-list c = search quicks
-
-pub returns : goal.returns
-returns c = search quicks
+pub returns-in-Ok : goal.returns-in-Ok
+returns-in-Ok c = search quicks

@@ -1,8 +1,8 @@
 -- The checked board step by step, for the contracts of inner functions: nobody has to believe this file. Assumes nothing.
-use Rattle.std.specs.Prelude.{ℕ, List}
+use Rattle.std.specs.Prelude.{ℕ, List, Result}
 use Rattle.timetable.specs.Table.{services#, table_of}
 use Rattle.timetable.specs.View.{view_of}
-use Rattle.timetable.specs.Questions.{Dated}
+use Rattle.timetable.specs.declared.refusal.Refusal.{Refusal}
 use Rattle.index.specs.Index.{view_in}
 use Rattle.chain_check.specs.Tally.{same}
 use Rattle.whole_index.specs.Whole.{whole_index_of}
@@ -14,7 +14,7 @@ abbrev pub board_dated : List ℕ → List ℕ → List ℕ → ℕ → ℕ → 
 board_dated w z x n day month year t u = board_in (view_in w z) (services# w) (same x (whole_index_of w)) n day month year t u
 
 -- on a day of the period
-abbrev pub board_on_day : List ℕ → List ℕ → List ℕ → ℕ → ℕ → ℕ → Dated → BoardFound
+abbrev pub board_on_day : List ℕ → List ℕ → List ℕ → ℕ → ℕ → ℕ → Result ℕ Refusal → BoardFound
 board_on_day w z x n t u on = board_on (view_in w z) (services# w) (same x (whole_index_of w)) n t u on
 
 -- by its own index

@@ -22,11 +22,8 @@ goes_slowly-requires c = search from-days
 pub returns-then-not-in_turn : goal.returns-then-not-in_turn
 returns-then-not-in_turn c = search from-days
 
-pub day_legs-day-requires : goal.day_legs-day-requires
-day_legs-day-requires c = search from-days
-
-pub returns-then-not-day : goal.returns-then-not-day
-returns-then-not-day c = search from-days
+pub day_legs-requires : goal.day_legs-requires
+day_legs-requires c = search from-days
 
 pub bounds-w-4 : goal.bounds-w-4
 bounds-w-4 c = search from-days
@@ -34,5 +31,8 @@ bounds-w-4 c = search from-days
 pub goes_along-requires : goal.goes_along-requires
 goes_along-requires c = record { days_in_turn = search from-days; start_le_end = search from-days }
 
-pub returns : goal.returns
-returns c = search from-days
+pub returns-in-Ok : goal.returns-in-Ok
+returns-in-Ok c = search from-days
+
+pub returns-in-Err : goal.returns-in-Err
+returns-in-Err c = search from-days

@@ -7,9 +7,6 @@ lateness-requires c = search row
 pub overflow_add-time : goal.overflow_add-time
 overflow_add-time c = search row
 
-pub put4-requires : goal.put4-requires
-put4-requires c = search row
-
 pub shape_of-list : goal.shape_of-list
 shape_of-list c = search row
 

@@ -1,6 +1,7 @@
 -- Whether the day's course of a service goes on from a place of its route, by its record alone. Assumes nothing.
 use Rattle.std.specs.Prelude.{ℕ, ◌+◌, ◌-◌, ◌<◌, ◌≡◌, List, [], Bool, true, false, cond, ◌&&◌}
 use Rattle.std.proofs.Math.Option.{Option, none, some}
+use Rattle.timetable.specs.declared.refusal.Refusal.{Refusal}
 use Rattle.timetable.specs.Runs.{opening_sound}
 use Rattle.timetable.specs.Table.{opening_at, calls#, service_at, sizes_sound, record_sound}
 use Rattle.timetable.specs.View.{View}
@@ -11,9 +12,9 @@ use Rattle.board.specs.Board.{Departure, leaves}
 use Rattle.board_runs.specs.Batch.{days_follow, followed, left_on, call_stands, trusted, call_gives}
 
 -- no call is refused
-abbrev pub is_none : Option ℕ → Bool
+abbrev pub is_none : Option Refusal → Bool
 is_none none = true
-is_none (some number) = false
+is_none (some refusal) = false
 
 -- of the stretch from call a on with n legs
 abbrev pub unrefused : List ℕ → ℕ → ℕ → Bool

@@ -16,12 +16,6 @@ offset_bounds-kept-j c = search tolds
 pub bounds-kept-j : goal.bounds-kept-j
 bounds-kept-j c = search tolds
 
-pub overflow_add-j : goal.overflow_add-j
-overflow_add-j c = search tolds
-
-pub loop-j-smaller : goal.loop-j-smaller
-loop-j-smaller c = search tolds
-
 pub loop-j-preserved : goal.loop-j-preserved
 loop-j-preserved c = search tolds
 
@@ -31,5 +25,5 @@ shape_of-list c = search tolds
 pub returns : goal.returns
 returns c = search tolds
 
-pub put_rows-to-requires-clause-e_in_bounds : goal.put_rows-to-requires-clause-e_in_bounds
-put_rows-to-requires-clause-e_in_bounds c = search tolds
+pub put_call-to-requires-clause-e_in_bounds : goal.put_call-to-requires-clause-e_in_bounds
+put_call-to-requires-clause-e_in_bounds c = search tolds

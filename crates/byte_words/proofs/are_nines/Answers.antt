@@ -1,8 +1,5 @@
 use Rattle.byte_words.proofs.Masks.{masking}
 use Rattle.byte_words.proofs.are_nines.Goals as goal
 
-pub is_masked-requires : goal.is_masked-requires
-is_masked-requires c = search masking
-
 pub returns : goal.returns
 returns c = search masking

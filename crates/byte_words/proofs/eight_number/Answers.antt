@@ -1,9 +1,6 @@
 use Rattle.byte_words.proofs.Numbers.{flips}
 use Rattle.byte_words.proofs.eight_number.Goals as goal
 
-pub eight_values-requires : goal.eight_values-requires
-eight_values-requires c = search flips
-
 pub decimal_of-requires : goal.decimal_of-requires
 decimal_of-requires c = search flips
 

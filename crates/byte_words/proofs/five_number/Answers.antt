@@ -1,9 +1,6 @@
 use Rattle.byte_words.proofs.Times.{timing}
 use Rattle.byte_words.proofs.five_number.Goals as goal
 
-pub overflow_mul-w : goal.overflow_mul-w
-overflow_mul-w c = search timing
-
 pub decimal_of-requires : goal.decimal_of-requires
 decimal_of-requires c = search timing
 

@@ -1,9 +1,6 @@
 use Rattle.byte_words.proofs.Numbers.{flips}
 use Rattle.byte_words.proofs.seven_number.Goals as goal
 
-pub seven_values-requires : goal.seven_values-requires
-seven_values-requires c = search flips
-
 pub decimal_of-requires : goal.decimal_of-requires
 decimal_of-requires c = search flips
 

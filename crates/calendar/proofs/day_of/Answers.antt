@@ -22,17 +22,8 @@ pub returns-then-d-lt1 : goal.returns-then-d-lt1
 unfolding day_of exists
 returns-then-d-lt1 c = search dates
 
-pub month_days-requires : goal.month_days-requires
-month_days-requires c = search dates
-
 pub returns-then-month_days-d : goal.returns-then-month_days-d
 returns-then-month_days-d c = search dates
-
-pub years_before-requires : goal.years_before-requires
-years_before-requires c = search dates
-
-pub months_before-requires : goal.months_before-requires
-months_before-requires c = search dates
 
 pub overflow_add-result : goal.overflow_add-result
 overflow_add-result c = search dates

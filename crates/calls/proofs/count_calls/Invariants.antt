@@ -5,6 +5,3 @@ use Rattle.calls.proofs.count_calls.Given as goal
 
 abbrev pub invariant-loop-i : goal.invariant-loop-i
 invariant-loop-i l = (l.k ≤ all_calls l.w) × Here l.w l.i l.at l.k
-
-abbrev pub decreases-loop-i : goal.decreases-loop-i
-decreases-loop-i l = l.v - l.i

@@ -22,9 +22,6 @@ offset_bounds-x-b c = search enters
 pub bounds-x-b : goal.bounds-x-b
 bounds-x-b c = search enters
 
-pub put4-requires : goal.put4-requires
-put4-requires c = search enters
-
 pub overflow_add-x : goal.overflow_add-x
 overflow_add-x c = search enters
 

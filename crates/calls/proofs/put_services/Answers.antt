@@ -5,9 +5,6 @@ use Rattle.calls.proofs.put_services.Goals as goal
 pub bounds-w-4 : goal.bounds-w-4
 bounds-w-4 c = search fills
 
-pub size-stops-requires : goal.size-stops-requires
-size-stops-requires c = search fills
-
 pub bounds-w-6 : goal.bounds-w-6
 bounds-w-6 c = search fills
 
@@ -17,26 +14,11 @@ bounds-w-7 c = search fills
 pub loop-i-init : goal.loop-i-init
 loop-i-init c = search fills
 
-pub put_service-c-requires : goal.put_service-c-requires
-put_service-c-requires c = search fills
-
-pub next_place-at-requires : goal.next_place-at-requires
-next_place-at-requires c = search fills
-
 pub overflow_add-k : goal.overflow_add-k
 overflow_add-k c = search fills
 
-pub overflow_add-i : goal.overflow_add-i
-overflow_add-i c = search fills
-
-pub loop-i-smaller : goal.loop-i-smaller
-loop-i-smaller c = search fills
-
 pub loop-i-preserved : goal.loop-i-preserved
 loop-i-preserved c = (search fills, search fills, search fills)
-
-pub shape_of-x : goal.shape_of-x
-shape_of-x c = search fills
 
 pub returns : goal.returns
 returns c = search fills

@@ -6,6 +6,3 @@ use Rattle.calls.proofs.put_services.Given as goal
 
 abbrev pub invariant-loop-i : goal.invariant-loop-i
 invariant-loop-i l = (length l.x ≡ length l.initial.x) × Here l.w l.i l.at l.k × Held l.w l.k l.x
-
-abbrev pub decreases-loop-i : goal.decreases-loop-i
-decreases-loop-i l = l.v - l.i

@@ -7,6 +7,3 @@ use Rattle.calls_check.proofs.route_right.Given as goal
 
 abbrev pub invariant-loop-p : goal.invariant-loop-p
 invariant-loop-p l = (l.p ≤ l.c) × (entries_right (stops# l.w) l.x (l.k + l.p) (stands_from l.i l.at (l.c - l.p) l.p) ≡ entries_right (stops# l.w) l.x l.k (stands_from l.i l.at l.c 0))
-
-abbrev pub decreases-loop-p : goal.decreases-loop-p
-decreases-loop-p l = l.c - l.p

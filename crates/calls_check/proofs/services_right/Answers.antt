@@ -10,26 +10,14 @@ bounds-w-7 c = search services
 pub loop-i-init : goal.loop-i-init
 loop-i-init c = (search services, search services)
 
-pub calls_at-c-requires : goal.calls_at-c-requires
-calls_at-c-requires c = search services
-
 pub route_right-requires : goal.route_right-requires
 route_right-requires c = search services
 
 pub returns-then-not-route_right : goal.returns-then-not-route_right
 returns-then-not-route_right c = search services
 
-pub next_place-at-requires : goal.next_place-at-requires
-next_place-at-requires c = search services
-
 pub overflow_add-k : goal.overflow_add-k
 overflow_add-k c = search services
-
-pub overflow_add-i : goal.overflow_add-i
-overflow_add-i c = search services
-
-pub loop-i-smaller : goal.loop-i-smaller
-loop-i-smaller c = search services
 
 pub returns : goal.returns
 returns c = search services

@@ -8,6 +8,3 @@ use Rattle.calls_check.proofs.services_right.Given as goal
 
 abbrev pub invariant-loop-i : goal.invariant-loop-i
 invariant-loop-i l = Here l.w l.i l.at l.k × (entries_right (stops# l.w) l.x l.k (calls_from l.w l.i l.at (services# l.w - l.i)) ≡ entries_right (stops# l.w) l.x 0 (stands_in l.w))
-
-abbrev pub decreases-loop-i : goal.decreases-loop-i
-decreases-loop-i l = l.v - l.i

@@ -5,23 +5,8 @@ use Rattle.calls_check.proofs.total.Goals as goal
 pub bounds-w-4 : goal.bounds-w-4
 bounds-w-4 c = search totals
 
-pub count-s-requires : goal.count-s-requires
-count-s-requires c = search totals
-
 pub loop-b-init : goal.loop-b-init
 loop-b-init c = (omega arith, omega arith, search totals)
-
-pub chain_count-sum-requires : goal.chain_count-sum-requires
-chain_count-sum-requires c = search totals
-
-pub overflow_add-sum : goal.overflow_add-sum
-overflow_add-sum c = search totals
-
-pub overflow_add-b : goal.overflow_add-b
-overflow_add-b c = search totals
-
-pub loop-b-smaller : goal.loop-b-smaller
-loop-b-smaller c = search totals
 
 pub loop-b-preserved : goal.loop-b-preserved
 loop-b-preserved c = (omega arith, search totals, search totals)

@@ -6,6 +6,3 @@ use Rattle.calls_check.proofs.total.Given as goal
 
 abbrev pub invariant-loop-b : goal.invariant-loop-b
 invariant-loop-b l = (l.b ≤ l.s) × (l.sum ≤ l.b * (l.n + 1)) × (l.sum ≡ sum_to (chain_count l.w l.x) l.b)
-
-abbrev pub decreases-loop-b : goal.decreases-loop-b
-decreases-loop-b l = l.s - l.b

@@ -11,12 +11,6 @@ chain_count-sum-requires c = search totals
 pub overflow_add-sum : goal.overflow_add-sum
 overflow_add-sum c = search totals
 
-pub overflow_add-b : goal.overflow_add-b
-overflow_add-b c = search totals
-
-pub loop-b-smaller : goal.loop-b-smaller
-loop-b-smaller c = search totals
-
 pub loop-b-preserved : goal.loop-b-preserved
 loop-b-preserved c = (omega arith, search totals, search totals)
 

@@ -1,4 +1,3 @@
-use Prim.Native.Nat.{◌-◌}
 use Rattle.chains.proofs.Fills.{fills}
 use Rattle.chains.proofs.fill.Goals as goal
 
@@ -10,12 +9,6 @@ loop-k-init c = search fills
 
 pub put-requires : goal.put-requires
 put-requires c = search fills
-
-pub overflow_add-k : goal.overflow_add-k
-overflow_add-k c = search fills
-
-pub loop-k-smaller : goal.loop-k-smaller
-loop-k-smaller c = search fills
 
 pub loop-k-preserved : goal.loop-k-preserved
 loop-k-preserved c = search fills

@@ -1,9 +1,5 @@
-use Prim.Native.Nat.{◌-◌}
 use Rattle.chains.proofs.Fills.{heads}
 use Rattle.chains.proofs.put_none.Goals as goal
-
-pub wide-buckets-requires : goal.wide-buckets-requires
-wide-buckets-requires c = search heads
 
 pub loop-b-init : goal.loop-b-init
 loop-b-init c = search heads
@@ -16,12 +12,6 @@ offset_bounds-m-b c = search heads
 
 pub bounds-m-b : goal.bounds-m-b
 bounds-m-b c = search heads
-
-pub overflow_add-b : goal.overflow_add-b
-overflow_add-b c = search heads
-
-pub loop-b-smaller : goal.loop-b-smaller
-loop-b-smaller c = search heads
 
 pub loop-b-preserved : goal.loop-b-preserved
 loop-b-preserved c = search heads

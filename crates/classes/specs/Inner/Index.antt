@@ -1,16 +1,15 @@
 -- The index of ZUGART's lines in lent words. The first word is a place in the file: the lines from there on are not in the index. The others are slots: a
 -- slot holds one more than the place where a line starts, or 0. A code's line stands in one of the code's own slots, and all of them before that one are
 -- taken. Nobody has to believe this file: what is answered by the index is promised over the file itself. Assumes nothing.
-use Rattle.std.specs.Prelude.{ℕ, ◌+◌, ◌-◌, ◌/◌, ◌≤◌, ◌<◌, ◌≡◌, List, ◌++◌, Bool, true, false, cond, not, ◌&&◌, length, get_or, drop, set, eqb, ltb}
+use Rattle.std.specs.Prelude.{ℕ, ◌+◌, ◌-◌, ◌/◌, ◌≤◌, ◌<◌, ◌≡◌, List, ◌++◌, Bool, true, false, cond, not, ◌&&◌, length, get_or, drop, set, eqb, ltb, Result, Ok}
 use Rattle.columns.specs.LineFields.{class_code}
 use Rattle.lines.specs.Lines.{lines_of, lines_from, skipped}
 use Rattle.chains.specs.Chains.{bucket_of}
 use Rattle.timetable.specs.Layout.{most_file_bytes, helper_head}
 use Rattle.timetable.specs.Files.{held_in, class_of, has_class}
 use Rattle.timetable.specs.Plan.{three_bytes}
-use Rattle.timetable.specs.declared.Checked.{Checked}
-use Rattle.timetable.specs.declared.Checked.TheVariants.{Holds}
 use Rattle.classes.specs.Inner.Passes.{before, sound}
+use Rattle.timetable.specs.declared.Offence.{Offence}
 
 -- of a line that is skipped or has its form: whether it holds a category of this code
 abbrev pub holds_code : ℕ → List ℕ → Bool
@@ -89,5 +88,5 @@ pub record IndexRoom (m : List ℕ) : Type 0 where
   pub small : length m < 4294967296
 
 -- what the words hold after the check of file f, unless it was refused
-pub record ClassesAfter (f : List ℕ) (r : Checked) (m : List ℕ) : Type 0 where
-  pub held : (count next : ℕ) → r ≡ Holds count next → IndexOf f m
+pub record ClassesAfter (f : List ℕ) (r : Result (ℕ × ℕ) Offence) (m : List ℕ) : Type 0 where
+  pub held : (count next : ℕ) → r ≡ Ok (count, next) → IndexOf f m

@@ -1,6 +1,6 @@
 -- The passes over ZUGART's lines: up to which line each finds nothing wrong, and what is wrong with that one. Nobody has to believe this file: what the
 -- passes say together is promised over the file itself. Assumes nothing.
-use Rattle.std.specs.Prelude.{ℕ, ◌+◌, ◌*◌, ◌/◌, ◌%◌, ◌^◌, ◌≤◌, ◌<◌, ◌≡◌, List, [], ◌∷◌, ◌++◌, Bool, true, false, cond, not, ◌&&◌, length, get_or, take, set, eqb, ltb, leb}
+use Rattle.std.specs.Prelude.{ℕ, ◌+◌, ◌*◌, ◌/◌, ◌%◌, ◌^◌, ◌≤◌, ◌<◌, ◌≡◌, List, [], ◌∷◌, ◌++◌, Bool, true, false, cond, not, ◌&&◌, length, get_or, take, set, eqb, ltb, leb, Result}
 use Rattle.std.proofs.Math.Option.{Option, none}
 use Rattle.std.specs.Int.Bits.{bit_or}
 use Rattle.base.specs.Lists.{every}
@@ -11,7 +11,6 @@ use Rattle.timetable.specs.Offences.{given, first, checked_by}
 use Rattle.timetable.specs.Files.{held_in, has_tariff, tariff_of, classes_in, classes_first}
 use Rattle.timetable.specs.Plan.{three_bytes}
 use Rattle.timetable.specs.declared.Offence.{Offence}
-use Rattle.timetable.specs.declared.Checked.{Checked}
 use Rattle.sections.specs.Inner.Sections.{number_on, sound_section, numbers, has_number}
 use Rattle.sections.specs.declared.Section.TheVariants.{Classes}
 use Rattle.sections.specs.declared.Numbered.{Numbered}
@@ -21,7 +20,7 @@ use Rattle.classes.specs.declared.Stand.{Stand}
 use Rattle.classes.specs.declared.Pass.{Pass}
 
 -- what the check of ZUGART answers
-abbrev pub classes_checked : List ℕ → Checked
+abbrev pub classes_checked : List ℕ → Result (ℕ × ℕ) Offence
 classes_checked f = checked_by (classes_first (lines_of f)) (length (classes_in f)) (length (lines_of f) + 1)
 
 -- ---- lines up to a place

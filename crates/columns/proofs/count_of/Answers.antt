@@ -1,24 +1,8 @@
-use Prim.Native.Nat.{◌-◌}
 use Rattle.columns.proofs.Laws.{turns}
 use Rattle.columns.proofs.count_of.Goals as goal
 
-pub loop-i-init : goal.loop-i-init
-loop-i-init c = search turns
-
-pub byte_at-requires : goal.byte_at-requires
-byte_at-requires c = search turns
-
-pub every_from-requires : goal.every_from-requires
-every_from-requires c = search turns
-
 pub returns-then-byte_at-ne32 : goal.returns-then-byte_at-ne32
 returns-then-byte_at-ne32 c = search turns
-
-pub overflow_add-i : goal.overflow_add-i
-overflow_add-i c = search turns
-
-pub loop-i-smaller : goal.loop-i-smaller
-loop-i-smaller c = search turns
 
 pub loop-i-preserved : goal.loop-i-preserved
 loop-i-preserved c = search turns

@@ -1,20 +1,17 @@
+use Rattle.std.proofs.lemmas.Result.{err_from_is_err_and}
 use Rattle.connections.proofs.Asked.{quick}
 use Rattle.connections.proofs.quick_connection.Goals as goal
 
-pub quick_refusal-number-requires : goal.quick_refusal-number-requires
-quick_refusal-number-requires c = search quick
-
-pub returns-then-number-ne0 : goal.returns-then-number-ne0
-returns-then-number-ne0 c = search quick
-
-pub headed_words-u-requires : goal.headed_words-u-requires
-headed_words-u-requires c = search quick
+pub returns-in_err-quick_refusal : goal.returns-in_err-quick_refusal
+returns-in_err-quick_refusal c =
+    let p = err_from_is_err_and c.from_residual.result c.from_residual.ensures.1 in
+    rw (p.1, p.2) (search (quick, c.in_err-quick_refusal.was))
 
 pub lookup_words-requires : goal.lookup_words-requires
-lookup_words-requires c = search quick
+lookup_words-requires c = search (quick, c.in_ok-quick_refusal.was)
 
 pub connection_by-requires : goal.connection_by-requires
-connection_by-requires c = search quick
+connection_by-requires c = search (quick, c.in_ok-quick_refusal.was)
 
 pub returns : goal.returns
-returns c = search quick
+returns c = search (quick, c.in_ok-quick_refusal.was)

@@ -1,20 +1,14 @@
+use Rattle.std.proofs.lemmas.Result.{err_from_is_err_and}
 use Rattle.connections.proofs.Stages.{stages}
 use Rattle.connections.proofs.stage_of.Goals as goal
 
-pub dated-on-requires : goal.dated-on-requires
-dated-on-requires c = search stages
-
-pub enum_known-on : goal.enum_known-on
-enum_known-on c = search stages
-
-pub enum_known-on-in-On-1 : goal.enum_known-on-in-On-1
-enum_known-on-in-On-1 c = search stages
+pub returns-in_err-k : goal.returns-in_err-k
+returns-in_err-k c =
+    let p = err_from_is_err_and c.from_residual.result c.from_residual.ensures.1 in
+    rw (p.1, p.2) (search (stages, c.in_err-k.was))
 
 pub stage_on-requires : goal.stage_on-requires
-stage_on-requires c = search stages
+stage_on-requires c = search (stages, c.in_ok-k.was)
 
-pub returns-in-Refused : goal.returns-in-Refused
-returns-in-Refused c = search stages
-
-pub returns-in-On : goal.returns-in-On
-returns-in-On c = search stages
+pub returns : goal.returns
+returns c = search (stages, c.in_ok-k.was)

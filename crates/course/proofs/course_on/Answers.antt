@@ -1,3 +1,4 @@
+use Rattle.std.proofs.lemmas.Result.{err_from_is_err_and}
 use Rattle.course.proofs.Turn.{turn}
 use Rattle.course.proofs.course_on.Goals as goal
 
@@ -22,14 +23,16 @@ leg_course-requires c = search turn
 pub returns-then-not-in_turn : goal.returns-then-not-in_turn
 returns-then-not-in_turn c = search turn
 
-pub day_legs-day-requires : goal.day_legs-day-requires
-day_legs-day-requires c = search turn
+pub day_legs-requires : goal.day_legs-requires
+day_legs-requires c = search turn
 
-pub returns-then-not-day : goal.returns-then-not-day
-returns-then-not-day c = search turn
+pub returns-in_err-day : goal.returns-in_err-day
+returns-in_err-day c =
+    let p = err_from_is_err_and c.from_residual.result c.from_residual.ensures.1 in
+    rw (p.1, p.2) (search (turn, c.in_err-day.was))
 
 pub stretches_course-requires : goal.stretches_course-requires
-stretches_course-requires c = search turn
+stretches_course-requires c = search (turn, c.in_ok-day.was)
 
 pub returns : goal.returns
-returns c = search turn
+returns c = search (turn, c.in_ok-day.was)

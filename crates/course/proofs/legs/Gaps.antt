@@ -129,7 +129,7 @@ module _ (f : ℕ → Bool) where
     told-operated u =
         let here : f n ≡ true = u n (omega arith) g in
         let s : l.start ≡ next f true m 0 = t.starts ∙ sym (next-same f true n m 0 (omega arith) past here) in
-        by_eqb (λ (b : Bool). Told f m (cond b (record { known = true; start = l.start; end = m; again = m }) l)) l.end n
+        by_eqb (λ (b : Bool). Told f m (cond b (record { start = l.start; end = m; again = m }) l)) l.end n
         (λ (e : l.end ≡ n). record {
           starts = s;
           ends = sym (next_past f false n m l.start start-within past (sym t.ends ∙ e) u);
@@ -145,7 +145,7 @@ module _ (f : ℕ → Bool) where
     unfolding with_idle
     told-idle u =
         let here : f n ≡ false = u n (omega arith) g in
-        by_eqb (λ (b : Bool). Told f m (cond b (record { known = true; start = m; end = m; again = m }) (cond (eqb l.again n) (record { known = true; start = l.start; end = l.end; again = m }) l))) l.start n
+        by_eqb (λ (b : Bool). Told f m (cond b (record { start = m; end = m; again = m }) (cond (eqb l.again n) (record { start = l.start; end = l.end; again = m }) l))) l.start n
         (λ (e : l.start ≡ n). record {
           starts = sym (next_past f true n m 0 (omega arith) past (sym t.starts ∙ e) u);
           ends = at-end false m;
@@ -153,7 +153,7 @@ module _ (f : ℕ → Bool) where
         })
         (λ (e : l.start ≡ n → ⊥).
         let s : l.start ≡ next f true m 0 = t.starts ∙ sym (next-kept f true n m 0 (omega arith) past (omega (arith, t.starts, start-within))) in
-        by_eqb (λ (b : Bool). Told f m (cond b (record { known = true; start = l.start; end = l.end; again = m }) l)) l.again n
+        by_eqb (λ (b : Bool). Told f m (cond b (record { start = l.start; end = l.end; again = m }) l)) l.again n
         (λ (c : l.again ≡ n). record {
           starts = s;
           ends = t.ends ∙ sym (next-same f false n m l.start start-within past here);

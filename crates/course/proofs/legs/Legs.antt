@@ -8,6 +8,7 @@ use native.Mathlib.Nat.{sub-zero, add-zero}
 use native.Mathlib.Omega.{arith}
 use lib.ListN.{length, drop, length-drop}
 use lib.Dec.{eqb}
+use Rattle.std.specs.Prelude.{Result, Ok, Err, ⊤}
 use borrow.Author.Tests.{not-true, not-false, ne_eqb}
 use Rattle.base.specs.Lists.{every, some_of, upto, below}
 use Rattle.base.proofs.Laws.{tests}
@@ -19,6 +20,8 @@ use Rattle.timetable.specs.Legs.{covering, operated_by}
 use Rattle.timetable.specs.Table.{rows_in, day_at, calls#, days#, day_place, service_at, sizes_sound}
 use Rattle.timetable.specs.View.{View}
 use Rattle.timetable.specs.Run.{leg_refusal, first_refusal}
+use Rattle.timetable.specs.declared.refusal.Refusal.{Refusal}
+use Rattle.timetable.specs.declared.refusal.Refusal.TheVariants.{LegFieldUnknown, LegDaysNotOnce}
 use Rattle.table.specs.JustTable.{record_end}
 use Rattle.table.proofs.Says.{sizes-say, head-word}
 use Rattle.table.proofs.Records.{rest_from}
@@ -56,7 +59,7 @@ module _ (d : View) (s v : List ℕ) (leg : ℕ) (q : v ≡ drop (day_place s) s
     unfolding service_at
     once_is = sym (e ∙ ap (λ (m : ℕ). eqb m 1) (covering-rows day_at (λ (r : DayRange). r.legs) day_size (λ u. refl) leg (days# s) v) ∙ rw q)
 
-    pub leg-34 : not x ≡ true → noted 34 ≡ leg_refusal d (service_at s) leg
+    pub leg-34 : not x ≡ true → noted (Err LegDaysNotOnce) ≡ leg_refusal d (service_at s) leg
     unfolding ◌<|>◌
     leg-34 n = rw (once_is, not-true x n)
 
@@ -65,11 +68,11 @@ module _ (d : View) (s v : List ℕ) (leg : ℕ) (q : v ≡ drop (day_place s) s
       unfolding service_at
       known_is = sym (f ∙ rw q)
 
-      pub leg-31 : not y ≡ true → noted 31 ≡ leg_refusal d (service_at s) leg
+      pub leg-31 : not y ≡ true → noted (Err LegFieldUnknown) ≡ leg_refusal d (service_at s) leg
       unfolding ◌<|>◌ range_known
       leg-31 m = rw (once_is, not-false x n, known_is, not-true y m)
 
-      pub leg-fine : not y ≡ false → noted 0 ≡ leg_refusal d (service_at s) leg
+      pub leg-fine : not y ≡ false → noted (Ok tt) ≡ leg_refusal d (service_at s) leg
       unfolding ◌<|>◌ range_known
       leg-fine m = rw (once_is, not-false x n, known_is, not-false y m)
 
@@ -79,25 +82,25 @@ module _ (d : View) (s v : List ℕ) (leg : ℕ) (q : v ≡ drop (day_place s) s
 
 pub ruleset leg = (tests, record-ends, head-word, days-within, days-scaled, days-room, rest_from, leg-34, leg-31, leg-fine, leg-operated)
 
--- ---- all legs: the number of the leg at i
+-- ---- all legs: o is what the leg at i is refused for
 
-module _ (f : ℕ → Option ℕ) (n i number : ℕ) (r : Option ℕ) (h : i < n) (e : noted number ≡ f i) (v : first_refusal f (upto (n - i) i) ≡ r) where
-  first-here : (noted number <|> first_refusal f (upto (n - (i + 1)) (i + 1))) ≡ r
+module _ (f : ℕ → Option Refusal) (n i : ℕ) (o : Result ⊤ Refusal) (r : Option Refusal) (h : i < n) (e : noted o ≡ f i) (v : first_refusal f (upto (n - i) i) ≡ r) where
+  first-here : (noted o <|> first_refusal f (upto (n - (i + 1)) (i + 1))) ≡ r
   unfolding first_refusal
   first-here = rw e (rw (upto_next n i h) at v)
 
-  pub first-again : number ≡ 0 → first_refusal f (upto (n - (i + 1)) (i + 1)) ≡ r
+  pub first-again : o ≡ Ok tt → first_refusal f (upto (n - (i + 1)) (i + 1)) ≡ r
   unfolding ◌<|>◌
   first-again z = rw z at first-here
 
-  pub first_out : (number ≡ 0 → ⊥) → noted number ≡ r
+  pub first_out : (y : Refusal) → o ≡ Err y → noted (Err y) ≡ r
   unfolding ◌<|>◌
-  first_out z = rw (ne_eqb number 0 z) (rw (ne_eqb number 0 z) at first-here)
+  first_out y z = rw z at first-here
 
-pub first-start : (f : ℕ → Option ℕ) (n : ℕ) → first_refusal f (upto (n - 0) 0) ≡ first_refusal f (below n)
+pub first-start : (f : ℕ → Option Refusal) (n : ℕ) → first_refusal f (upto (n - 0) 0) ≡ first_refusal f (below n)
 first-start f n = rw sub-zero
 
-pub first_done : (f : ℕ → Option ℕ) (n i : ℕ) (r : Option ℕ) → n ≤ i → first_refusal f (upto (n - i) i) ≡ r → noted 0 ≡ r
+pub first_done : (f : ℕ → Option Refusal) (n i : ℕ) (r : Option Refusal) → n ≤ i → first_refusal f (upto (n - i) i) ≡ r → noted (Ok tt) ≡ r
 unfolding first_refusal
 first_done f n i r h v = rw (upto-none n i h) at v
 

@@ -9,6 +9,7 @@ use native.Mathlib.Omega.{arith}
 use lib.ListN.{drop}
 use lib.Seq.{drop-drop}
 use lib.Dec.{eqb, leb}
+use Rattle.std.specs.Prelude.{Result, Ok, Err, ⊤}
 use borrow.Author.Tests.{not-true, not-false, ne_eqb, le-ltb, lt-ltb}
 use Rattle.base.proofs.Laws.{tests}
 use Rattle.timetable.specs.Layout.{service_head, call_size}
@@ -20,6 +21,8 @@ use Rattle.timetable.specs.Table.{rows_in, call_at, with_stop}
 use Rattle.timetable.specs.View.{View}
 use Rattle.timetable.specs.Run.{needed_last, call_refusal, calls_refusal}
 use Rattle.timetable.specs.declared.Call.{Call}
+use Rattle.timetable.specs.declared.refusal.Refusal.{Refusal}
+use Rattle.timetable.specs.declared.refusal.Refusal.TheVariants.{LegCategoryNotOnce, TimeNeeded}
 use Rattle.timetable.proofs.Rows.{one-row}
 use Rattle.course.specs.Inner.Run.{noted}
 use Rattle.course.proofs.rows.Record.{leg-fits, next_fits, leg-within}
@@ -57,21 +60,21 @@ pub ruleset times = (tests, fine-free, fine-missing, fine-order, choose-first, c
 -- ---- one call; y says whether its times are fine, z whether its leaving leg has one *G
 
 module _ (s : Service) (a n i before : ℕ) (c : Call) (y : Bool) (f : y ≡ times_fine n i before c) where
-  pub call-36 : not y ≡ true → noted 36 ≡ call_refusal s a n i before c
+  pub call-36 : not y ≡ true → noted (Err TimeNeeded) ≡ call_refusal s a n i before c
   unfolding call_refusal ◌<|>◌ times_fine
   call-36 l = rw (sym f ∙ not-true y l)
 
   module _ (l : not y ≡ false) where
-    pub call-last : n ≤ i → noted 0 ≡ call_refusal s a n i before c
+    pub call-last : n ≤ i → noted (Ok tt) ≡ call_refusal s a n i before c
     unfolding call_refusal ◌<|>◌ times_fine
     call-last h = rw (sym f ∙ not-false y l, le-ltb i n h)
 
     module _ (h : i < n) (z : Bool) (g : z ≡ eqb (covering (λ (r : CategoryRange). r.legs) s.categories (a + i)) 1) where
-      pub call-33 : not z ≡ true → noted 33 ≡ call_refusal s a n i before c
+      pub call-33 : not z ≡ true → noted (Err LegCategoryNotOnce) ≡ call_refusal s a n i before c
       unfolding call_refusal ◌<|>◌ times_fine
       call-33 m = rw (sym f ∙ not-false y l, lt-ltb i n h, sym g ∙ not-true z m)
 
-      pub call-fine : not z ≡ false → noted 0 ≡ call_refusal s a n i before c
+      pub call-fine : not z ≡ false → noted (Ok tt) ≡ call_refusal s a n i before c
       unfolding call_refusal ◌<|>◌ times_fine
       call-fine m = rw (sym f ∙ not-false y l, lt-ltb i n h, sym g ∙ not-false z m)
 
@@ -86,23 +89,23 @@ calls-next s a n i c h e =
     let m : n + 1 - i - 1 ≡ n + 1 - (i + 1) = omega arith in
     one-row call_at call_size (n + 1 - i) (drop (service_head + call_size * (a + i)) s) (omega arith) ∙ rw (e, drop-drop call_size (service_head + call_size * (a + i)) s, p, m) refl
 
-module _ (t : Service) (s : List ℕ) (a n i before number : ℕ) (c : Call) (r : Option ℕ) (h : i ≤ n) (e : c ≡ call_at (drop (service_head + call_size * (a + i)) s)) (f : noted number ≡ call_refusal t a n i before c) (v : calls_refusal t a n i before (calls_from s (a + i) (n + 1 - i)) ≡ r) where
-  calls-here : (noted number <|> calls_refusal t a n (i + 1) (needed_last n i c) (calls_from s (a + (i + 1)) (n + 1 - (i + 1)))) ≡ r
+module _ (t : Service) (s : List ℕ) (a n i before : ℕ) (c : Call) (o : Result ⊤ Refusal) (r : Option Refusal) (h : i ≤ n) (e : c ≡ call_at (drop (service_head + call_size * (a + i)) s)) (f : noted o ≡ call_refusal t a n i before c) (v : calls_refusal t a n i before (calls_from s (a + i) (n + 1 - i)) ≡ r) where
+  calls-here : (noted o <|> calls_refusal t a n (i + 1) (needed_last n i c) (calls_from s (a + (i + 1)) (n + 1 - (i + 1)))) ≡ r
   unfolding calls_refusal
   calls-here = rw f (rw (calls-next s a n i c h e) at v)
 
-  pub calls-again : number ≡ 0 → (b : ℕ) → b ≡ needed_last n i c → calls_refusal t a n (i + 1) b (calls_from s (a + (i + 1)) (n + 1 - (i + 1))) ≡ r
+  pub calls-again : o ≡ Ok tt → (b : ℕ) → b ≡ needed_last n i c → calls_refusal t a n (i + 1) b (calls_from s (a + (i + 1)) (n + 1 - (i + 1))) ≡ r
   unfolding ◌<|>◌
   calls-again z b q = rw q (rw z at calls-here)
 
-  pub calls-out : (number ≡ 0 → ⊥) → noted number ≡ r
+  pub calls-out : (y : Refusal) → o ≡ Err y → noted (Err y) ≡ r
   unfolding ◌<|>◌
-  calls-out z = rw (ne_eqb number 0 z) (rw (ne_eqb number 0 z) at calls-here)
+  calls-out y z = rw z at calls-here
 
 pub calls-start : (t : Service) (s : List ℕ) (a n : ℕ) → calls_refusal t a n 0 0 (calls_from s (a + 0) (n + 1 - 0)) ≡ calls_refusal t a n 0 0 (calls_from s a (n + 1))
 calls-start t s a n = rw (add-zero a, sub-zero (n + 1))
 
-pub calls-done : (t : Service) (s : List ℕ) (a n i before : ℕ) (r : Option ℕ) → n < i → calls_refusal t a n i before (calls_from s (a + i) (n + 1 - i)) ≡ r → noted 0 ≡ r
+pub calls-done : (t : Service) (s : List ℕ) (a n i before : ℕ) (r : Option Refusal) → n < i → calls_refusal t a n i before (calls_from s (a + i) (n + 1 - i)) ≡ r → noted (Ok tt) ≡ r
 unfolding calls_refusal calls_from rows_in
 calls-done t s a n i before r h v =
     let z : n + 1 - i ≡ 0 = omega arith in

@@ -18,8 +18,7 @@ use Rattle.timetable.specs.declared.Call.{Call}
 use Rattle.table.proofs.Says.{sizes-say, head-word, call-sound, call-says}
 use Rattle.table.proofs.Records.{rest_from}
 use Rattle.cover.specs.Inner.Cover.{once_in, cover_place_from}
-use Rattle.cover.specs.declared.FirstRange.{FirstRange}
-use Rattle.cover.specs.declared.FirstRange.TheVariants.{At, Nowhere}
+use Rattle.std.specs.Prelude.{Option, Some, None}
 use Rattle.cover.proofs.Rows.{covering-rows, row_at, first_row, place-fits}
 use Rattle.course.proofs.legs.Legs.{record-ends}
 
@@ -45,7 +44,7 @@ module _ (s : List ℕ) (e : sizes_sound s ≡ true) where
   pub categories-room : (g : List ℕ) → g ≡ drop (category_place s) s → categories# s * category_size ≤ length g
   categories-room g q = rw (q, length-drop (category_place s) s) (omega (arith, record-ends s e))
 
-  pub category-inside : (g : List ℕ) → g ≡ drop (category_place s) s → (leg p : ℕ) (x : FirstRange) → x ≡ cover_place_from leg category_size 0 (categories# s) g → x ≡ At p → p + category_size ≤ length g
+  pub category-inside : (g : List ℕ) → g ≡ drop (category_place s) s → (leg p : ℕ) (x : Option ℕ) → x ≡ cover_place_from leg category_size 0 (categories# s) g → x ≡ Some p → p + category_size ≤ length g
   category-inside g q leg p x f k = omega (arith, categories-room g q, place-fits leg category_size (categories# s) p x g f k)
 
   module _ (k : ℕ) (h : k < calls# s) where
@@ -77,15 +76,15 @@ module _ (s g : List ℕ) (leg : ℕ) (q : g ≡ drop (category_place s) s) wher
   unfolding service_at
   once_is x e = e ∙ ap (λ (m : ℕ). eqb m 1) (covering-rows category_at (λ (r : CategoryRange). r.legs) category_size (λ u. refl) leg (categories# s) g) ∙ rw q
 
-  module _ (x : FirstRange) (e : x ≡ cover_place_from leg category_size 0 (categories# s) g) where
+  module _ (x : Option ℕ) (e : x ≡ cover_place_from leg category_size 0 (categories# s) g) where
     named : name_by (row_at category_at (λ (r : CategoryRange). r.legs) category_size (λ u. refl) g x) ≡ category_on (service_at s) leg
     unfolding service_at
-    named = ap (λ (y : FirstRange). name_by (row_at category_at (λ (r : CategoryRange). r.legs) category_size (λ u. refl) g y)) e ∙ ap name_by (sym (first_row category_at (λ (r : CategoryRange). r.legs) category_size (λ u. refl) leg (categories# s) g)) ∙ rw q
+    named = ap (λ (y : Option ℕ). name_by (row_at category_at (λ (r : CategoryRange). r.legs) category_size (λ u. refl) g y)) e ∙ ap name_by (sym (first_row category_at (λ (r : CategoryRange). r.legs) category_size (λ u. refl) leg (categories# s) g)) ∙ rw q
 
-    pub category-none : x ≡ Nowhere → 0 ≡ category_on (service_at s) leg
+    pub category-none : x ≡ None → 0 ≡ category_on (service_at s) leg
     category-none k = rw k at named
 
-    pub category-there : (p : ℕ) → x ≡ At p → (range : CategoryWords) → range ≡ category_read (category_at (drop p g)) → range.name ≡ category_on (service_at s) leg
+    pub category-there : (p : ℕ) → x ≡ Some p → (range : CategoryWords) → range ≡ category_read (category_at (drop p g)) → range.name ≡ category_on (service_at s) leg
     category-there p k range z = ap (λ (y : CategoryWords). y.name) z ∙ (rw k at named)
 
 pub ruleset held = (tests, record-ends, head-word, categories-within, categories-scaled, categories-room, category-inside, call_fits, call-is, rest_from, once_is, category-none, category-there)

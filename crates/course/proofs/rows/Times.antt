@@ -10,6 +10,7 @@ use lib.ListN.{length, drop}
 use lib.Seq.{drop-drop}
 use lib.Bits.{bit_and, and_mod, and_le_l, and_le_r}
 use lib.Dec.{eqb, ltb, leb}
+use Rattle.std.specs.Prelude.{Ok}
 use borrow.Author.Tests.{not-true, not-false, eq-eqb, ne_eqb, eqb-true, le-leb, lt-leb, lt-ltb, ltb-true}
 use Rattle.base.proofs.Laws.{tests, by-ltb}
 use Rattle.base.proofs.Loops.{and-true}
@@ -21,6 +22,7 @@ use Rattle.timetable.specs.Legs.{covering}
 use Rattle.timetable.specs.Table.{rows_in, call_at, category_at, calls#, categories#, category_place, service_at, sizes_sound}
 use Rattle.timetable.specs.Run.{refuse, times_needed, needed_last, call_refusal, calls_refusal}
 use Rattle.timetable.specs.declared.Call.{Call}
+use Rattle.timetable.specs.declared.refusal.Refusal.TheVariants.{LegCategoryNotOnce, TimeNeeded}
 use Rattle.timetable.proofs.Rows.{one-row}
 use Rattle.table.proofs.Says.{sizes-say, head-word}
 use Rattle.cover.specs.Inner.Cover.{legs_in, in_turn}
@@ -149,7 +151,7 @@ module _ (n before : ℕ) (c : Call) where
 module _ (t : Service) (s : List ℕ) (a n : ℕ) (once : (k : ℕ) → k < a + n → covering (λ (r : CategoryRange). r.legs) t.categories k ≡ 1) where
   call-fine : (i before : ℕ) (c : Call) → times_needed n i before c ≡ true → call_refusal t a n i before c ≡ none
   unfolding call_refusal ◌<|>◌
-  call-fine i before c e = rw e (by-ltb (λ (b : Bool). (refuse (not true) 36 <|> refuse (b && not (eqb (covering (λ (r : CategoryRange). r.legs) t.categories (a + i)) 1)) 33) ≡ none) i n (λ (h : i < n). rw (once (a + i) (omega arith)) refl) (λ (h : n ≤ i). refl))
+  call-fine i before c e = rw e (by-ltb (λ (b : Bool). (refuse (not true) TimeNeeded <|> refuse (b && not (eqb (covering (λ (r : CategoryRange). r.legs) t.categories (a + i)) 1)) LegCategoryNotOnce) ≡ none) i n (λ (h : i < n). rw (once (a + i) (omega arith)) refl) (λ (h : n ≤ i). refl))
 
   -- c is the i-th call
   next-fine : (i m before : ℕ) (c : Call) → c ≡ call_at (drop (service_head + call_size * (a + i)) s) → times_needed n i before c ≡ true → calls_refusal t a n i before (calls_from s (a + i) (m + 1)) ≡ calls_refusal t a n (i + 1) (needed_last n i c) (calls_from s (a + (i + 1)) m)
@@ -208,7 +210,7 @@ module _ (s g : List ℕ) (a n : ℕ) (b : a + n < calls# s) (t : Bool) (q : g �
   unfolding service_at
   follow = ap (λ (w : List ℕ). in_turn 0 (calls# s - 1) (map of_category (rows_in category_at category_size (categories# s) w))) (sym q) ∙ ap (in_turn 0 (calls# s - 1)) (sym (legs-rows of_category category_at category_size (λ u. refl) (categories# s) g)) ∙ sym e ∙ not-false t h
 
-  pub turn-fine : (x : Bool) → x ≡ times_stand n (call_at (drop (service_head + call_size * a) s)) (drop (service_head + call_size * (a + 1)) s) → not x ≡ false → noted 0 ≡ calls_refusal (service_at s) a n 0 0 (calls_from s a (n + 1))
+  pub turn-fine : (x : Bool) → x ≡ times_stand n (call_at (drop (service_head + call_size * a) s)) (drop (service_head + call_size * (a + 1)) s) → not x ≡ false → noted (Ok tt) ≡ calls_refusal (service_at s) a n 0 0 (calls_from s a (n + 1))
   turn-fine x f m = sym (all-fine (service_at s) s a n (λ k l. turn-once of_category 0 (calls# s - 1) k (service_at s).categories follow (omega arith) (omega arith)) (call_at (drop (service_head + call_size * a) s)) refl (sym f ∙ not-false x m))
 
 pub ruleset follows = (tests, head-words, head-word, legs-fit, categories-room, turn-fine)

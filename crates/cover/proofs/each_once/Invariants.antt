@@ -6,6 +6,3 @@ use Rattle.cover.proofs.each_once.Given as goal
 
 abbrev pub invariant-loop-leg : goal.invariant-loop-leg
 invariant-loop-leg l = every (once_in l.width l.n l.w) (upto (l.legs - l.leg) l.leg) ≡ every (once_in l.width l.n l.w) (below l.legs)
-
-abbrev pub decreases-loop-leg : goal.decreases-loop-leg
-decreases-loop-leg l = l.legs - l.leg

@@ -4,8 +4,7 @@ use Rattle.base.specs.Lists.{count_if}
 use Rattle.timetable.specs.Delivery.{Legs}
 use Rattle.timetable.specs.Legs.{covers}
 use Rattle.timetable.specs.Table.{rows_in, legs_at}
-use Rattle.cover.specs.declared.FirstRange.{FirstRange}
-use Rattle.cover.specs.declared.FirstRange.TheVariants.{At, Nowhere}
+use Rattle.std.specs.Prelude.{Option, Some, None}
 
 -- the legs of n ranges of `width` words each, whose last two words are from and to
 abbrev pub legs_in : ℕ → ℕ → List ℕ → List Legs
@@ -16,9 +15,9 @@ abbrev pub once_in : ℕ → ℕ → List ℕ → ℕ → Bool
 once_in width n w leg = eqb (count_if (covers leg) (legs_in width n w)) 1
 
 -- the place of the first of n ranges that covers a leg, where the first of them stands at place `at`
-unfoldable pub cover_place_from : ℕ → ℕ → ℕ → ℕ → List ℕ → FirstRange
-cover_place_from leg width at zero w = Nowhere
-cover_place_from leg width at (suc n) w = cond (covers leg (legs_at (width - 2) w)) (At at) (cover_place_from leg width (at + width) n (drop width w))
+unfoldable pub cover_place_from : ℕ → ℕ → ℕ → ℕ → List ℕ → Option ℕ
+cover_place_from leg width at zero w = None
+cover_place_from leg width at (suc n) w = cond (covers leg (legs_at (width - 2) w)) (Some at) (cover_place_from leg width (at + width) n (drop width w))
 
 -- a range has legs, of which this is the first
 abbrev pub begins : ℕ → Legs → Bool

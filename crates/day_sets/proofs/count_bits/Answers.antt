@@ -1,24 +1,11 @@
-use Prim.Native.Nat.{◌-◌}
 use Rattle.day_sets.proofs.Loops.{counts}
 use Rattle.day_sets.proofs.count_bits.Goals as goal
 
 pub loop-k-init : goal.loop-k-init
 loop-k-init c = search counts
 
-pub bit_of-requires : goal.bit_of-requires
-bit_of-requires c = search counts
-
-pub one_if-count-requires : goal.one_if-count-requires
-one_if-count-requires c = search counts
-
 pub overflow_add-count : goal.overflow_add-count
 overflow_add-count c = search counts
-
-pub overflow_add-k : goal.overflow_add-k
-overflow_add-k c = search counts
-
-pub loop-k-smaller : goal.loop-k-smaller
-loop-k-smaller c = search counts
 
 pub loop-k-preserved : goal.loop-k-preserved
 loop-k-preserved c = search counts

@@ -6,6 +6,3 @@ use Rattle.day_sets.proofs.count_bits.Given as goal
 
 abbrev pub invariant-loop-k : goal.invariant-loop-k
 invariant-loop-k l = (l.count ≤ l.k) × (l.count + count_if (bit l.bits) (upto (l.to - l.k) l.k) ≡ count_if (bit l.bits) (upto (l.to - l.from) l.from))
-
-abbrev pub decreases-loop-k : goal.decreases-loop-k
-decreases-loop-k l = l.to - l.k

@@ -7,6 +7,3 @@ use Rattle.day_sets.proofs.framed_word.Given as goal
 
 abbrev pub invariant-loop-k : goal.invariant-loop-k
 invariant-loop-k l = (l.i * 32 ≤ l.k) × (l.k ≤ l.i * 32 + 32) × (l.word < 2 ^ (l.k - l.i * 32)) × (bits_from l.word (map (bit_in l.n l.days) (upto (l.i * 32 + 32 - l.k) l.k)) ≡ word_of (bit_in l.n l.days) l.i)
-
-abbrev pub decreases-loop-k : goal.decreases-loop-k
-decreases-loop-k l = l.i * 32 + 32 - l.k

@@ -1,27 +1,14 @@
-use Prim.Native.Nat.{◌-◌}
 use Rattle.day_sets.proofs.Loops.{words}
 use Rattle.day_sets.proofs.in_frame.Goals as goal
 
 pub loop-i-init : goal.loop-i-init
 loop-i-init c = search words
 
-pub overflow_cast-i : goal.overflow_cast-i
-overflow_cast-i c = search words
-
 pub framed_word-requires : goal.framed_word-requires
 framed_word-requires c = search words
 
-pub offset_bounds-r-i : goal.offset_bounds-r-i
-offset_bounds-r-i c = search words
-
 pub bounds-r-i : goal.bounds-r-i
 bounds-r-i c = search words
-
-pub overflow_add-i : goal.overflow_add-i
-overflow_add-i c = search words
-
-pub loop-i-smaller : goal.loop-i-smaller
-loop-i-smaller c = search words
 
 pub loop-i-preserved : goal.loop-i-preserved
 loop-i-preserved c = search words

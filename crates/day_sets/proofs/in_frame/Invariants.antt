@@ -6,6 +6,3 @@ use Rattle.day_sets.proofs.in_frame.Given as goal
 
 abbrev pub invariant-loop-i : goal.invariant-loop-i
 invariant-loop-i l = Filled (word_of (bit_in l.n l.days)) l.r l.i
-
-abbrev pub decreases-loop-i : goal.decreases-loop-i
-decreases-loop-i l = bit_words - l.i

@@ -10,11 +10,5 @@ returns-then-n-gt-MOST_PERIOD_DAYS c = search lent
 pub returns-then-words-ne-BIT_WORDS : goal.returns-then-words-ne-BIT_WORDS
 returns-then-words-ne-BIT_WORDS c = search lent
 
-pub field_in-requires : goal.field_in-requires
-field_in-requires c = search lent
-
-pub is_framed-requires : goal.is_framed-requires
-is_framed-requires c = search lent
-
 pub returns : goal.returns
 returns c = search lent

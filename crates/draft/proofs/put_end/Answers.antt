@@ -7,9 +7,6 @@ place_code-p-requires c = search written
 pub detail_code-d-requires : goal.detail_code-d-requires
 detail_code-d-requires c = search written
 
-pub put4-requires : goal.put4-requires
-put4-requires c = search written
-
 pub shape_of-ranges : goal.shape_of-ranges
 shape_of-ranges c = search written
 

@@ -4,9 +4,6 @@ use Rattle.draft.proofs.put_range.Goals as goal
 pub part_number-number-requires : goal.part_number-number-requires
 part_number-number-requires c = search written
 
-pub put4-requires : goal.put4-requires
-put4-requires c = search written
-
 pub overflow_add-at : goal.overflow_add-at
 overflow_add-at c = search written
 

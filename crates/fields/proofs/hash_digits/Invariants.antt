@@ -1,5 +1,5 @@
 use mathlib.Core.Path.{◌≡◌}
-use Prim.Native.Nat.{◌-◌, ◌<◌, ◌^◌}
+use Prim.Native.Nat.{◌<◌, ◌^◌}
 use lib.ListN.{drop}
 use Rattle.columns.specs.Columns.{pad_to}
 use Rattle.fields.specs.Fields.{hash_digits}
@@ -7,6 +7,3 @@ use Rattle.fields.proofs.hash_digits.Given as goal
 
 abbrev pub invariant-loop-i : goal.invariant-loop-i
 invariant-loop-i l = (hash_digits l.n (drop l.i (pad_to l.w l.p)) ≡ hash_digits 0 (drop l.from (pad_to l.w l.p))) × (l.n < 10 ^ l.i)
-
-abbrev pub decreases-loop-i : goal.decreases-loop-i
-decreases-loop-i l = l.w - l.i

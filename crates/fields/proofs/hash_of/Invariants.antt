@@ -1,5 +1,4 @@
 use mathlib.Core.Path.{◌≡◌}
-use Prim.Native.Nat.{◌-◌}
 use lib.ListN.{drop}
 use Rattle.columns.specs.Columns.{pad_to}
 use Rattle.fields.specs.Fields.{hash}
@@ -7,6 +6,3 @@ use Rattle.fields.proofs.hash_of.Given as goal
 
 abbrev pub invariant-loop-i : goal.invariant-loop-i
 invariant-loop-i l = hash (drop l.i (pad_to l.w l.p)) ≡ hash (pad_to l.w l.p)
-
-abbrev pub decreases-loop-i : goal.decreases-loop-i
-decreases-loop-i l = l.w - l.i

@@ -1,14 +1,8 @@
 use Rattle.index.proofs.Shows.{shows-classes}
 use Rattle.index.proofs.class_for.Goals as goal
 
-pub class_section-requires : goal.class_section-requires
-class_section-requires c = search shows-classes
-
-pub find-found-requires : goal.find-found-requires
-find-found-requires c = search shows-classes
-
-pub enum_known-found : goal.enum_known-found
-enum_known-found c = search shows-classes
+pub find-requires-clause-fits : goal.find-requires-clause-fits
+find-requires-clause-fits c = search shows-classes
 
 pub overflow_add-result : goal.overflow_add-result
 overflow_add-result c = search shows-classes
@@ -19,11 +13,8 @@ offset_bounds-w-p c = search shows-classes
 pub bounds-w-p : goal.bounds-w-p
 bounds-w-p c = search shows-classes
 
-pub enum_told-1 : goal.enum_told-1
-enum_told-1 c = search shows-classes
+pub returns-in-Some : goal.returns-in-Some
+returns-in-Some c = search shows-classes
 
-pub returns-in-At : goal.returns-in-At
-returns-in-At c = search shows-classes
-
-pub returns-in-Nothing : goal.returns-in-Nothing
-returns-in-Nothing c = search shows-classes
+pub returns-in-None : goal.returns-in-None
+returns-in-None c = search shows-classes

@@ -7,11 +7,5 @@ bounds-w-1 c = search shows-dates
 pub bounds-w-2 : goal.bounds-w-2
 bounds-w-2 c = search shows-dates
 
-pub day_of-requires : goal.day_of-requires
-day_of-requires c = search shows-dates
-
-pub in_period-requires : goal.in_period-requires
-in_period-requires c = search shows-dates
-
 pub returns : goal.returns
 returns c = search shows-dates

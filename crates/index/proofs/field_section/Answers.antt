@@ -3,6 +3,3 @@ use Rattle.index.proofs.field_section.Goals as goal
 
 pub bounds-w-3 : goal.bounds-w-3
 bounds-w-3 c = search sections
-
-pub returns : goal.returns
-returns c = search sections

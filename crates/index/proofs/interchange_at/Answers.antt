@@ -1,26 +1,17 @@
 use Rattle.index.proofs.Shows.{shows-times}
 use Rattle.index.proofs.interchange_at.Goals as goal
 
-pub interchange_section-s-requires : goal.interchange_section-s-requires
-interchange_section-s-requires c = search shows-times
-
-pub find-found-requires : goal.find-found-requires
-find-found-requires c = search shows-times
-
-pub enum_known-found : goal.enum_known-found
-enum_known-found c = search shows-times
+pub find-requires-clause-fits : goal.find-requires-clause-fits
+find-requires-clause-fits c = search shows-times
 
 pub times_at-requires : goal.times_at-requires
 times_at-requires c = search shows-times
 
-pub enum_told-1 : goal.enum_told-1
-enum_told-1 c = search shows-times
+pub times_at-requires-in-None : goal.times_at-requires-in-None
+times_at-requires-in-None c = search shows-times
 
-pub times_at-requires-in-Nothing : goal.times_at-requires-in-Nothing
-times_at-requires-in-Nothing c = search shows-times
+pub returns-in-Some : goal.returns-in-Some
+returns-in-Some c = search shows-times
 
-pub returns-in-At : goal.returns-in-At
-returns-in-At c = search shows-times
-
-pub returns-in-Nothing : goal.returns-in-Nothing
-returns-in-Nothing c = search shows-times
+pub returns-in-None : goal.returns-in-None
+returns-in-None c = search shows-times

@@ -4,14 +4,8 @@ use Rattle.index.proofs.record_from.Goals as goal
 pub returns-then-w-p : goal.returns-then-w-p
 returns-then-w-p c = search froms
 
-pub words_from-requires : goal.words_from-requires
-words_from-requires c = search froms
-
 pub bounds-w-4 : goal.bounds-w-4
 bounds-w-4 c = search froms
-
-pub record_sound-requires : goal.record_sound-requires
-record_sound-requires c = search froms
 
 pub returns-then-not-record_sound : goal.returns-then-not-record_sound
 returns-then-not-record_sound c = search froms

@@ -7,11 +7,5 @@ bounds-w-6 c = search records
 pub returns-then-w-i : goal.returns-then-w-i
 returns-then-w-i c = search records
 
-pub record_place-requires : goal.record_place-requires
-record_place-requires c = search records
-
-pub record_from-requires : goal.record_from-requires
-record_from-requires c = search records
-
 pub returns : goal.returns
 returns c = search records

@@ -4,20 +4,5 @@ use Rattle.index.proofs.stop_section.Goals as goal
 pub bounds-w-3 : goal.bounds-w-3
 bounds-w-3 c = search sections
 
-pub count-n-requires : goal.count-n-requires
-count-n-requires c = search sections
-
-pub overflow_mul-result : goal.overflow_mul-result
-overflow_mul-result c = search sections
-
-pub overflow_add-result : goal.overflow_add-result
-overflow_add-result c = search sections
-
 pub bounds-w-4 : goal.bounds-w-4
 bounds-w-4 c = search sections
-
-pub overflow_mul-result-2 : goal.overflow_mul-result-2
-overflow_mul-result-2 c = search sections
-
-pub returns : goal.returns
-returns c = search sections

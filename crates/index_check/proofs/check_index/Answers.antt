@@ -1,14 +1,8 @@
 use Rattle.index_check.proofs.Whole.{any}
 use Rattle.index_check.proofs.check_index.Goals as goal
 
-pub look_at-seen-requires : goal.look_at-seen-requires
-look_at-seen-requires c = search any
-
-pub returns-then-not-seen : goal.returns-then-not-seen
-returns-then-not-seen c = search any
-
-pub used_words-requires : goal.used_words-requires
-used_words-requires c = search any
+pub returns-in_default : goal.returns-in_default
+returns-in_default c = search any
 
 pub is_index-requires : goal.is_index-requires
 is_index-requires c = search any

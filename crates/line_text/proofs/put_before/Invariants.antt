@@ -7,6 +7,3 @@ use Rattle.line_text.proofs.put_before.Given as goal
 
 abbrev pub invariant-loop-i : goal.invariant-loop-i
 invariant-loop-i l = (l.at + l.i ≤ length l.t) × (length l.t ≡ length l.initial.t) × (write l.t l.at (hash_before l.i l.m) ≡ write l.initial.t l.at (hash_before l.w l.n))
-
-abbrev pub decreases-loop-i : goal.decreases-loop-i
-decreases-loop-i l = l.i

@@ -7,6 +7,3 @@ use Rattle.line_text.proofs.put_decimal.Given as goal
 
 abbrev pub invariant-loop-i : goal.invariant-loop-i
 invariant-loop-i l = (l.at + l.i ≤ length l.t) × (length l.t ≡ length l.initial.t) × (write l.t l.at (decimal l.i l.m) ≡ write l.initial.t l.at (decimal l.w l.n))
-
-abbrev pub decreases-loop-i : goal.decreases-loop-i
-decreases-loop-i l = l.i

@@ -1,34 +1,5 @@
-use native.Mathlib.Omega.{arith}
-use lib.ListN.{length-set}
 use Rattle.line_text.proofs.Writes.{writes}
 use Rattle.line_text.proofs.put_three.Goals as goal
-
-pub byte_of-requires : goal.byte_of-requires
-byte_of-requires c = search writes
-
-pub bounds-t-at : goal.bounds-t-at
-bounds-t-at c = search writes
-
-pub byte_of-requires-2 : goal.byte_of-requires-2
-byte_of-requires-2 c = search writes
-
-pub overflow_add-t : goal.overflow_add-t
-overflow_add-t c = search writes
-
-pub bounds-t-at-2 : goal.bounds-t-at-2
-bounds-t-at-2 c = simp length-set (omega arith)
-
-pub overflow_cast-t : goal.overflow_cast-t
-overflow_cast-t c = search writes
-
-pub overflow_add-t-2 : goal.overflow_add-t-2
-overflow_add-t-2 c = search writes
-
-pub bounds-t-at-3 : goal.bounds-t-at-3
-bounds-t-at-3 c = simp length-set (omega arith)
-
-pub shape_of-t : goal.shape_of-t
-shape_of-t c = search writes
 
 pub returns : goal.returns
 returns c = search writes

@@ -2,20 +2,8 @@
 use Rattle.lines.proofs.Pieces.{cuts}
 use Rattle.lines.proofs.first_lf.Goals as goal
 
-pub loop-i-init : goal.loop-i-init
-loop-i-init c = search cuts
-
-pub bounds-file-i : goal.bounds-file-i
-bounds-file-i c = search cuts
-
 pub returns-then-file-i-eq10 : goal.returns-then-file-i-eq10
 returns-then-file-i-eq10 c = search cuts
-
-pub overflow_add-i : goal.overflow_add-i
-overflow_add-i c = search cuts
-
-pub loop-i-smaller : goal.loop-i-smaller
-loop-i-smaller c = search cuts
 
 pub loop-i-preserved : goal.loop-i-preserved
 loop-i-preserved c = search cuts

@@ -1,18 +1,15 @@
 -- What the checks of a delivery answer: the header of its table, or its first offence. Assumes nothing.
-use Rattle.std.specs.Prelude.{ℕ, ◌+◌, List, cond, length, ltb}
+use Rattle.std.specs.Prelude.{ℕ, ◌+◌, List, cond, length, ltb, Result, Ok, Err}
 use Rattle.std.proofs.Math.Option.{Option, none, some}
 use Rattle.timetable.specs.Layout.{header_size, most_file_bytes, first_service}
 use Rattle.timetable.specs.Delivery.{Files, Delivery}
-use Rattle.timetable.specs.Offences.{offence_at}
 use Rattle.timetable.specs.Table.{sections, table_words}
 use Rattle.timetable.specs.Load.{Where, delivered, content_offence, refused_or, short_or, written_by}
-use Rattle.timetable.specs.declared.Checked.{Checked}
-use Rattle.timetable.specs.declared.Checked.TheVariants.{Holds as HoldsBoth, Refused as RefusedBy}
 use Rattle.timetable.specs.declared.Loaded.{Loaded}
 use Rattle.timetable.specs.declared.Loaded.TheVariants.{Accepted}
 use Rattle.table_words.specs.declared.Header.{Header}
-use Rattle.load.specs.declared.Delivered.{Delivered}
-use Rattle.load.specs.declared.Delivered.TheVariants.{Holds, Refused}
+use Rattle.load.specs.declared.FileOffence.{FileOffence}
+use Rattle.timetable.specs.declared.Offence.{Offence}
 
 -- the first of six files that is too long, by their sizes, ZUGART's before FPLAN's; 0 where none is
 abbrev pub long_in : ℕ → ℕ → ℕ → ℕ → ℕ → ℕ → ℕ
@@ -48,14 +45,14 @@ header_of d = record {
   classes = length d.classes;
 }
 
--- the offence of a file that does not hold
-abbrev pub refused_in : ℕ → Checked → Delivered
-refused_in file (RefusedBy o) = Refused file o
-refused_in file (HoldsBoth a b) = Refused file (offence_at 0 0)
+-- what the check of a file says, its offence with the file
+abbrev pub refused_in : ℕ → Result (ℕ × ℕ) Offence → Result (ℕ × ℕ) FileOffence
+refused_in file (Err o) = Err (record { file = file; offence = o })
+refused_in file (Ok held) = Ok held
 
-abbrev pub delivered_by : Option Where → Header → Delivered
-delivered_by none h = Holds h
-delivered_by (some w) h = Refused w.file w.offence
+abbrev pub delivered_by : Option Where → Header → Result Header FileOffence
+delivered_by none h = Ok h
+delivered_by (some w) h = Err (record { file = w.file; offence = w.offence })
 
 -- ---- a load that is past 1 and 51: what it answers, by the room lent, and the table that it leaves
 

@@ -1,15 +1,13 @@
 -- The helper words while the files are checked: how many each map and the index take, and what they hold between the checks. Nobody has to believe
 -- this file. Assumes nothing.
-use Rattle.std.specs.Prelude.{ℕ, ◌+◌, ◌*◌, ◌≤◌, ◌<◌, ◌≡◌, List, length, take, drop, replicate}
+use Rattle.std.specs.Prelude.{ℕ, ◌+◌, ◌*◌, ◌≤◌, ◌<◌, ◌≡◌, List, length, take, drop, replicate, Result, Ok}
 use Rattle.lines.specs.Lines.{lines_of}
 use Rattle.timetable.specs.Layout.{helper_head, helper_line, most_file_bytes}
-use Rattle.timetable.specs.declared.Checked.{Checked}
-use Rattle.timetable.specs.declared.Checked.TheVariants.{Holds}
 use Rattle.reading.specs.Inner.Maps.{FieldMap, StopMap, ClassIndex}
 use Rattle.table_words.specs.declared.Header.{Header}
 use Rattle.load.specs.declared.Needed.{Needed}
-use Rattle.load.specs.declared.Delivered.{Delivered}
-use Rattle.load.specs.declared.Delivered.TheVariants.{Holds as AllHold}
+use Rattle.load.specs.declared.FileOffence.{FileOffence}
+use Rattle.timetable.specs.declared.Offence.{Offence}
 
 -- no file is too long
 pub record Short (e b s u p z : List ℕ) : Type 0 where
@@ -46,26 +44,26 @@ pub record IndexLent (at words : ℕ) (m : List ℕ) : Type 0 where
   pub small : length m < 4294967296
 
 -- what is left of m after the check of BITFELD with its first words, so many
-pub record FieldsAfter (b : List ℕ) (r : Checked) (words : ℕ) (m m' : List ℕ) : Type 0 where
-  pub held : (count next : ℕ) → r ≡ Holds count next → FieldMap b (take words m')
+pub record FieldsAfter (b : List ℕ) (r : Result (ℕ × ℕ) Offence) (words : ℕ) (m m' : List ℕ) : Type 0 where
+  pub held : (count next : ℕ) → r ≡ Ok (count, next) → FieldMap b (take words m')
   pub same : length m' ≡ length m
   pub rest : drop words m' ≡ drop words m
 
 -- what is left of m after the check of BAHNHOF with so many words from a place on
-pub record StopsAfter (s : List ℕ) (r : Checked) (at words : ℕ) (m m' : List ℕ) : Type 0 where
-  pub held : (count next : ℕ) → r ≡ Holds count next → StopMap s (take words (drop at m'))
+pub record StopsAfter (s : List ℕ) (r : Result (ℕ × ℕ) Offence) (at words : ℕ) (m m' : List ℕ) : Type 0 where
+  pub held : (count next : ℕ) → r ≡ Ok (count, next) → StopMap s (take words (drop at m'))
   pub same : length m' ≡ length m
   pub front : take at m' ≡ take at m
   pub rest : drop (at + words) m' ≡ drop (at + words) m
 
 -- what is left of m after the check of ZUGART with those words
-pub record IndexAfter (z : List ℕ) (r : Checked) (at words : ℕ) (m m' : List ℕ) : Type 0 where
-  pub held : (count next : ℕ) → r ≡ Holds count next → ClassIndex z (drop (at + words) m')
+pub record IndexAfter (z : List ℕ) (r : Result (ℕ × ℕ) Offence) (at words : ℕ) (m m' : List ℕ) : Type 0 where
+  pub held : (count next : ℕ) → r ≡ Ok (count, next) → ClassIndex z (drop (at + words) m')
   pub same : length m' ≡ length m
   pub front : take (at + words) m' ≡ take (at + words) m
 
 -- where the checks of a delivery answer d and it holds, the map of BAHNHOF stands in so many words of m from a place on
-pub record StopsStand (s : List ℕ) (at words : ℕ) (d : Delivered) (m : List ℕ) : Type 0 where
-  pub inside : (h : Header) → d ≡ AllHold h → at + words ≤ length m
-  pub small : (h : Header) → d ≡ AllHold h → at + words < 4294967296
-  pub held : (h : Header) → d ≡ AllHold h → StopMap s (take words (drop at m))
+pub record StopsStand (s : List ℕ) (at words : ℕ) (d : Result Header FileOffence) (m : List ℕ) : Type 0 where
+  pub inside : (h : Header) → d ≡ Ok h → at + words ≤ length m
+  pub small : (h : Header) → d ≡ Ok h → at + words < 4294967296
+  pub held : (h : Header) → d ≡ Ok h → StopMap s (take words (drop at m))

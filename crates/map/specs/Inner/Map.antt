@@ -1,8 +1,7 @@
 -- A look-up map in words, four for each record. Assumes nothing.
 use Rattle.std.specs.Prelude.{ℕ, zero, suc, ◌+◌, ◌*◌, ◌/◌, ◌≤◌, ◌<◌, ◌≡◌, List, [], ◌∷◌, ◌++◌, Bool, cond, length, get_or, eqb}
 use Rattle.chains.specs.Chains.{bucket_of}
-use Rattle.map.specs.declared.Found.{Found}
-use Rattle.map.specs.declared.Found.TheVariants.{At, Nowhere}
+use Rattle.std.specs.Prelude.{Option, Some, None}
 
 -- ---- sizes
 
@@ -25,12 +24,12 @@ unfoldable pub last_of : (ℕ → Bool) → List ℕ → ℕ
 last_of t [] = 0
 last_of t (x ∷ xs) = onward (t x) (last_of t xs)
 
-abbrev pub found_by : ℕ → Found
-found_by zero = Nowhere
-found_by (suc i) = At i
+abbrev pub found_by : ℕ → Option ℕ
+found_by zero = None
+found_by (suc i) = Some i
 
 -- the last record that has this number
-unfoldable pub found_in : ℕ → List ℕ → Found
+unfoldable pub found_in : ℕ → List ℕ → Option ℕ
 found_in number ns = found_by (last_of (λ (x : ℕ). eqb x number) ns)
 
 -- ---- how the words hold it
@@ -62,7 +61,7 @@ pub record Mapped (m : List ℕ) : Type 0 where
   pub chained : Chained count m
 
 -- what a look-up answers
-pub record Finds (number : ℕ) (m : List ℕ) (r : Found) : Type 0 where
+pub record Finds (number : ℕ) (m : List ℕ) (r : Option ℕ) : Type 0 where
   pub among : (count : ℕ) → Chained count m → r ≡ found_in number (numbers_in count m)
 
 -- a record more

@@ -1,65 +1,24 @@
-use Rattle.period.proofs.Laws.{periods}
+use mathlib.Core.Path.{sym, ◌∙◌}
+use Rattle.std.proofs.lemmas.Result.{err_from_is_err_and}
+use Rattle.period.proofs.Laws.{periods, second-out}
 use Rattle.period.proofs.check_period.Goals as goal
 
-pub date_line-first-requires : goal.date_line-first-requires
-date_line-first-requires c = search periods
+pub returns-in_err-start : goal.returns-in_err-start
+returns-in_err-start c = search periods
 
-pub enum_known-first : goal.enum_known-first
-enum_known-first c = search periods
-
-pub enum_told-1 : goal.enum_told-1
-enum_told-1 c = search periods
+pub returns-in_err-end : goal.returns-in_err-end
+returns-in_err-end c =
+    let p = err_from_is_err_and c.from_residual-in_err-end.result c.from_residual-in_err-end.ensures.1 in
+    rw (p.1, p.2) (sym c.in_err-end.was ∙ second-out _ _ c.date_line.ensures _ _ c.in_ok-start.was _ c.date_line-2.ensures _ c.in_err-end.was)
 
 pub returns-in_default : goal.returns-in_default
-returns-in_default c = search periods
-
-pub overflow_cast-second_at : goal.overflow_cast-second_at
-overflow_cast-second_at c = search periods
-
-pub date_line-second-requires : goal.date_line-second-requires
-date_line-second-requires c = search periods
-
-pub enum_known-second : goal.enum_known-second
-enum_known-second c = search periods
-
-pub enum_told-in_default-second : goal.enum_told-in_default-second
-enum_told-in_default-second c = search periods
-
-pub returns-in_default-second : goal.returns-in_default-second
-returns-in_default-second c = search periods
-
-pub period_of-period-requires : goal.period_of-period-requires
-period_of-period-requires c = search periods
-
-pub enum_known-period : goal.enum_known-period
-enum_known-period c = search periods
-
-pub enum_told-in_default-period : goal.enum_told-in_default-period
-enum_told-in_default-period c = search periods
-
-pub offence_at-requires : goal.offence_at-requires
-offence_at-requires c = search periods
-
-pub returns-in_default-period : goal.returns-in_default-period
-returns-in_default-period c = search periods
-
-pub overflow_cast-at : goal.overflow_cast-at
-overflow_cast-at c = search periods
-
-pub offence_at-requires-then-f-at : goal.offence_at-requires-then-f-at
-offence_at-requires-then-f-at c = search periods
+returns-in_default c = search (periods, c.in_ok-start.was, c.in_ok-end.was)
 
 pub returns-then-f-at : goal.returns-then-f-at
-returns-then-f-at c = search periods
-
-pub line_from-third-requires : goal.line_from-third-requires
-line_from-third-requires c = search periods
-
-pub offence_at-requires-then-third-f : goal.offence_at-requires-then-third-f
-offence_at-requires-then-third-f c = search periods
+returns-then-f-at c = search (periods, c.in_ok-start.was, c.in_ok-end.was)
 
 pub returns-then-third-f : goal.returns-then-third-f
-returns-then-third-f c = search periods
+returns-then-third-f c = search (periods, c.in_ok-start.was, c.in_ok-end.was)
 
 pub returns : goal.returns
-returns c = search periods
+returns c = search (periods, c.in_ok-start.was, c.in_ok-end.was)

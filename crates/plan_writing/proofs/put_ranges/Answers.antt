@@ -1,14 +1,12 @@
+use native.Mathlib.Nat.{sub-zero}
 use Rattle.plan_writing.proofs.Lines.{ranges}
 use Rattle.plan_writing.proofs.put_ranges.Goals as goal
 
 pub part_place-p-requires : goal.part_place-p-requires
 part_place-p-requires c = search ranges
 
-pub part_count-k-requires : goal.part_count-k-requires
-part_count-k-requires c = search ranges
-
-pub loop-k-init : goal.loop-k-init
-loop-k-init c = search ranges
+pub loop-init : goal.loop-init
+loop-init c = rw sub-zero (search ranges)
 
 pub put_range-requires : goal.put_range-requires
 put_range-requires c = search ranges
@@ -22,14 +20,8 @@ overflow_add-p c = search ranges
 pub overflow_add-q : goal.overflow_add-q
 overflow_add-q c = search ranges
 
-pub overflow_sub-k : goal.overflow_sub-k
-overflow_sub-k c = search ranges
-
-pub loop-k-smaller : goal.loop-k-smaller
-loop-k-smaller c = search ranges
-
-pub loop-k-preserved : goal.loop-k-preserved
-loop-k-preserved c = (search ranges, search ranges, search ranges, search ranges)
+pub loop-preserved : goal.loop-preserved
+loop-preserved c = (search ranges, search ranges, search ranges, search ranges)
 
 pub shape_of-text : goal.shape_of-text
 shape_of-text c = search ranges

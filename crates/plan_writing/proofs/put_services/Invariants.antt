@@ -4,13 +4,10 @@ use Rattle.plan_services.specs.Services.{plan_text}
 use Rattle.words.specs.Words.{write}
 use Rattle.timetable.specs.Table.{stops#, records_sound}
 use lib.ListN.{length, drop}
-use Prim.Native.Nat.{◌+◌, ◌≤◌}
+use Prim.Native.Nat.{◌+◌, ◌-◌, ◌≤◌}
 use mathlib.Core.Bool.{true}
 use mathlib.Core.Path.{◌≡◌}
 use Rattle.plan_writing.proofs.put_services.Given as goal
 
-abbrev pub invariant-loop-k : goal.invariant-loop-k
-invariant-loop-k l = (l.at ≤ length l.w) × (records_sound (stops# l.w) l.k (drop l.at l.w) ≡ true) × (length l.text ≡ length l.initial.text) × (l.q + length (plan_text (shown_from l.w l.k l.at)) ≡ length (table_text l.w)) × (write l.text l.q (plan_text (shown_from l.w l.k l.at)) ≡ write l.initial.text 0 (table_text l.w))
-
-abbrev pub decreases-loop-k : goal.decreases-loop-k
-decreases-loop-k l = l.k
+abbrev pub invariant-loop : goal.invariant-loop
+invariant-loop l = (l.at ≤ length l.w) × (records_sound (stops# l.w) (l.end - l.counter) (drop l.at l.w) ≡ true) × (length l.text ≡ length l.initial.text) × (l.q + length (plan_text (shown_from l.w (l.end - l.counter) l.at)) ≡ length (table_text l.w)) × (write l.text l.q (plan_text (shown_from l.w (l.end - l.counter) l.at)) ≡ write l.initial.text 0 (table_text l.w))

@@ -4,8 +4,8 @@ use Rattle.probe.proofs.probe_day.Goals as goal
 pub day_of-requires : goal.day_of-requires
 day_of-requires c = search tests
 
-pub flat_date-requires : goal.flat_date-requires
-flat_date-requires c = search tests
+pub flat_number-requires : goal.flat_number-requires
+flat_number-requires c = search tests
 
 pub returns : goal.returns
 returns c = cc

@@ -1,5 +1,5 @@
 -- The ground's answers as numbers, and the numbers by which its classes and line kinds are asked for. Assumes nothing.
-use Rattle.std.specs.Prelude.{ℕ, Bool, cond, eqb}
+use Rattle.std.specs.Prelude.{ℕ, Bool, cond, eqb, Option, Some, None}
 use Rattle.columns.specs.declared.ByteClass.{ByteClass}
 use Rattle.columns.specs.declared.ByteClass.TheVariants.{Digit, Hex, Filled, Byte}
 use Rattle.lines.specs.declared.Cut.{Cut}
@@ -9,14 +9,9 @@ use Rattle.fields.specs.declared.RangeEnd.{RangeEnd}
 use Rattle.fields.specs.declared.RangeEnd.TheVariants.{Outer, Index, Stop, NoEnd}
 use Rattle.fields.specs.declared.Detail.{Detail}
 use Rattle.fields.specs.declared.Detail.TheVariants.{Plain, Nth, Timed, NoDetail}
-use Rattle.calendar.specs.declared.Date.{Date}
-use Rattle.calendar.specs.declared.Date.TheVariants.{Day, NoSuchDate}
-use Rattle.calendar.specs.declared.PeriodLength.{PeriodLength}
-use Rattle.calendar.specs.declared.PeriodLength.TheVariants.{OfDays, NoPeriod}
 use Rattle.forms.specs.declared.Kind.{Kind}
 use Rattle.forms.specs.declared.Kind.TheVariants.{Opening, Frequency, Category, Attribute, Schedule, Other}
-use Rattle.forms.specs.declared.Form.{Form}
-use Rattle.forms.specs.declared.Form.TheVariants.{Fits, Broken}
+use Rattle.forms.specs.Form.{Form, Fits, Broken}
 use Rattle.forms.specs.declared.LineKind.{LineKind}
 use Rattle.forms.specs.declared.LineKind.TheVariants as K
 use Rattle.probe.specs.declared.Step.{Step}
@@ -51,13 +46,9 @@ flat_detail (Nth k) = told 1 k.0
 flat_detail (Timed minutes) = told 2 minutes
 flat_detail NoDetail = told 3 0
 
-abbrev pub flat_date : Date → Told
-flat_date (Day n) = told 1 n
-flat_date NoSuchDate = told 0 0
-
-abbrev pub flat_period : PeriodLength → Told
-flat_period (OfDays n) = told 1 n
-flat_period NoPeriod = told 0 0
+abbrev pub flat_number : Option ℕ → Told
+flat_number (Some n) = told 1 n
+flat_number None = told 0 0
 
 abbrev pub flat_kind : Kind → ℕ
 flat_kind Opening = 1

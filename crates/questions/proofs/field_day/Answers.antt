@@ -10,8 +10,5 @@ returns-then-not-f c = search days
 pub field_runs-requires : goal.field_runs-requires
 field_runs-requires c = search days
 
-pub returns-then-field_runs : goal.returns-then-field_runs
-returns-then-field_runs c = search days
-
 pub returns : goal.returns
 returns c = search days

@@ -1,20 +1,20 @@
+use Rattle.std.proofs.lemmas.Result.{err_from_is_err_and}
 use Rattle.quick.proofs.Laws.{small}
 use Rattle.quick.proofs.quick_between.Goals as goal
 
-pub quick_refusal-number-requires : goal.quick_refusal-number-requires
-quick_refusal-number-requires c = search small
-
-pub returns-then-number-ne0 : goal.returns-then-number-ne0
-returns-then-number-ne0 c = search small
+pub returns-in_err-quick_refusal : goal.returns-in_err-quick_refusal
+returns-in_err-quick_refusal c =
+    let p = err_from_is_err_and c.from_residual.result c.from_residual.ensures.1 in
+    rw (p.1, p.2) (search (small, c.in_err-quick_refusal.was))
 
 pub headed_words-u-requires : goal.headed_words-u-requires
-headed_words-u-requires c = search small
+headed_words-u-requires c = search (small, c.in_ok-quick_refusal.was)
 
 pub lookup_words-requires : goal.lookup_words-requires
-lookup_words-requires c = search small
+lookup_words-requires c = search (small, c.in_ok-quick_refusal.was)
 
 pub between_by-requires : goal.between_by-requires
-between_by-requires c = search small
+between_by-requires c = search (small, c.in_ok-quick_refusal.was)
 
 pub returns : goal.returns
-returns c = search small
+returns c = search (small, c.in_ok-quick_refusal.was)

@@ -1,17 +1,13 @@
 use mathlib.Core.Path.{◌≡◌}
-use Prim.Native.Nat.{◌+◌, ◌*◌, ◌-◌}
+use Prim.Native.Nat.{◌+◌}
 use lib.ListN.{length}
 use Rattle.words.specs.Words.{write}
-use Rattle.draft.specs.Inner.Draft.{draft_range, calls_in, ranges_in}
+use Rattle.draft.specs.Inner.Draft.{calls_in, ranges_in}
 use Rattle.range_words.specs.Inner.Parts.{part_words}
 use Rattle.range_words.proofs.Parts.{part_left}
 use Rattle.range_words.proofs.part_into.Given as goal
 
 abbrev pub invariant-loop-i : goal.invariant-loop-i
 invariant-loop-i l =
-    (length l.table ≡ length l.initial.table) × (l.place ≡ draft_range * l.i)
-    × (l.to + length (part_left l.part (calls_in l.c l.calls) l.n l.i l.place l.ranges) ≡ l.at + length (part_words l.part (calls_in l.c l.calls) (ranges_in l.n l.ranges)))
-    × (write l.table l.to (part_left l.part (calls_in l.c l.calls) l.n l.i l.place l.ranges) ≡ write l.initial.table l.at (part_words l.part (calls_in l.c l.calls) (ranges_in l.n l.ranges)))
-
-abbrev pub decreases-loop-i : goal.decreases-loop-i
-decreases-loop-i l = l.n - l.i
+    (l.to + length (part_left l.part (calls_in l.c l.calls) l.n l.i l.ranges) ≡ l.at + length (part_words l.part (calls_in l.c l.calls) (ranges_in l.n l.ranges)))
+    × (write l.table l.to (part_left l.part (calls_in l.c l.calls) l.n l.i l.ranges) ≡ write l.initial.table l.at (part_words l.part (calls_in l.c l.calls) (ranges_in l.n l.ranges)))

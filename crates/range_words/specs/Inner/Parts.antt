@@ -10,8 +10,6 @@ use Rattle.timetable.specs.declared.Call.{Call}
 use Rattle.timetable.specs.declared.RangeKind.{RangeKind}
 use Rattle.timetable.specs.declared.RangeKind.TheVariants.{Category, Days, Extra}
 use Rattle.timetable.specs.declared.RangeLine.{RangeLine}
-use Rattle.range_words.specs.declared.Given.{Given}
-use Rattle.range_words.specs.declared.Given.TheVariants.{Nothing, Three, Four}
 
 -- the words of a range of a part, from one call to another
 abbrev pub range_row_words : RangeKind → RangeLine → ℕ → ℕ → List ℕ
@@ -34,9 +32,3 @@ range_gives p cs r = cond (is_part p r) (found_words p r (legs_on cs r)) []
 -- the words of a part
 abbrev pub part_words : RangeKind → List Call → List RangeLine → List ℕ
 part_words p cs rs = gathered (range_gives p cs) rs
-
--- what the code hands on for a range
-abbrev pub given_words : Given → List ℕ
-given_words Nothing = []
-given_words (Three x y z) = x ∷ y ∷ z ∷ []
-given_words (Four x y z u) = x ∷ y ∷ z ∷ u ∷ []

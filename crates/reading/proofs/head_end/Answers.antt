@@ -4,7 +4,7 @@ use Prim.Native.Nat.{ℕ}
 use Rattle.lines.specs.Lines.{cut_at}
 use Rattle.lines.specs.declared.Cut.{Cut}
 use Rattle.lines.proofs.Laws.{Cutting, cutting, cut-less}
-use Rattle.reading.proofs.Heads.{head_passed, head-answer, head-over}
+use Rattle.reading.proofs.Heads.{head_passed, head-answer, head-none}
 use Rattle.reading.proofs.head_end.Goals as goal
 
 -- the line that the reader cut is the one that stands at its place of f
@@ -41,4 +41,4 @@ loop-reader-preserved c =
     )
 
 pub returns : goal.returns
-returns c = head-over _ _ _ c.loop-reader.invariant.1 _ c.requires c.loop-reader-test.false c.clear_at.ensures
+returns c = head-none _ _ _ c.loop-reader.invariant.1 c.requires c.loop-reader-test.false

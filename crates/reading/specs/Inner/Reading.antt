@@ -1,12 +1,12 @@
 -- The services of FPLAN in their file: where the lines of each begin and end, and what reading one answers. Nobody has to believe this file.
 -- Assumes nothing.
-use Rattle.std.specs.Prelude.{ℕ, ◌+◌, ◌≤◌, ◌<◌, ◌≡◌, List, [], ◌∷◌, Bool, true, false, not, cond, length, get_or, drop, leb}
+use Rattle.std.specs.Prelude.{ℕ, ◌+◌, ◌≤◌, ◌<◌, ◌≡◌, List, [], ◌∷◌, Bool, true, false, not, cond, length, get_or, drop, leb, Option as RustOption, Some, None, Result, Ok, Err}
 use Rattle.std.proofs.Math.Option.{Option, none, some}
 use Rattle.base.specs.Lists.{every}
 use Rattle.columns.specs.Columns.{is_digit}
 use Rattle.lines.specs.Lines.{Line, lines_at, lines_of, to_lf, skipped}
 use Rattle.forms.specs.Kinds.{kind_of}
-use Rattle.forms.specs.declared.Form.TheVariants.{Broken as BrokenForm}
+use Rattle.forms.specs.Form.{Broken as BrokenForm}
 use Rattle.timetable.specs.Layout.{most_file_bytes, most_calls}
 use Rattle.timetable.specs.Delivery.{BitField, StopRecord, CategoryClass}
 use Rattle.timetable.specs.Offences.{offence_at, given, form_offence, ◌<|>◌, first}
@@ -23,12 +23,7 @@ use Rattle.timetable.specs.declared.Told.TheVariants.{Skip, Other, Broken, Opens
 use Rattle.draft.specs.Inner.Draft.{counts_of, Within, DraftOf}
 use Rattle.draft.specs.declared.Counts.{Counts}
 use Rattle.draft.specs.declared.Drafted.{Drafted}
-use Rattle.reading.specs.declared.Next.{Next}
-use Rattle.reading.specs.declared.Next.TheVariants.{Line as LineTold, End}
-use Rattle.reading.specs.declared.Read.{Read}
-use Rattle.reading.specs.declared.Read.TheVariants.{Service, Refused}
-use Rattle.reading.specs.declared.Head.{Head}
-use Rattle.reading.specs.declared.Head.TheVariants.{Clear, Stray}
+use Rattle.reading.specs.declared.LineTold.{LineTold}
 
 -- the lines of the service whose first line is the first of some lines
 abbrev pub own_lines : List Line → List Line
@@ -90,9 +85,9 @@ pub record NextLine (f : List ℕ) (at n : ℕ) (said : Told) (next no : ℕ) : 
   pub number : no ≤ next + 1
 
 -- what asking for it answers
-abbrev pub NextAs : List ℕ → ℕ → ℕ → Next → Type 0
-NextAs f at n (LineTold said next m) = NextLine f at n said next m
-NextAs f at n End = head_lines (lines_at f at n) ≡ []
+abbrev pub NextAs : List ℕ → ℕ → ℕ → RustOption LineTold → Type 0
+NextAs f at n (Some l) = NextLine f at n l.said l.next l.no
+NextAs f at n None = head_lines (lines_at f at n) ≡ []
 
 -- a line's own offence where so much of its service is counted before it
 abbrev pub count_of : RangeKind → Counts → ℕ
@@ -130,9 +125,9 @@ offence_after fields stops classes k line (Calls c) = call_after stops k line c.
 -- ---- a service
 
 -- what reading a service answers: the first own offence of its lines, or its draft
-abbrev pub ReadAs : List BitField → List StopRecord → List CategoryClass → List ℕ → ℕ → ℕ → Read → List ℕ → List ℕ → Type 0
-ReadAs fields stops classes f at n (Refused o) calls ranges = first (own_offence fields stops classes) [] (service_lines_at f at n) ≡ some o
-ReadAs fields stops classes f at n (Service d) calls ranges = (first (own_offence fields stops classes) [] (service_lines_at f at n) ≡ none) × ServiceRead f at n d calls ranges
+abbrev pub ReadAs : List BitField → List StopRecord → List CategoryClass → List ℕ → ℕ → ℕ → Result Drafted Offence → List ℕ → List ℕ → Type 0
+ReadAs fields stops classes f at n (Err o) calls ranges = first (own_offence fields stops classes) [] (service_lines_at f at n) ≡ some o
+ReadAs fields stops classes f at n (Ok d) calls ranges = (first (own_offence fields stops classes) [] (service_lines_at f at n) ≡ none) × ServiceRead f at n d calls ranges
 
 -- the first service begins at a place, with line n, and nothing stands before it
 pub record HeadClear (f : List ℕ) (at n : ℕ) : Type 0 where
@@ -141,13 +136,13 @@ pub record HeadClear (f : List ℕ) (at n : ℕ) : Type 0 where
   pub next : Boundary f at n
 
 -- what the lines before the first service are
-abbrev pub HeadAs : List ℕ → Head → Type 0
-HeadAs f (Stray o) = head_first (lines_of f) ≡ some o
-HeadAs f (Clear at n) = HeadClear f at n
+abbrev pub HeadAs : List ℕ → Result (ℕ × ℕ) Offence → Type 0
+HeadAs f (Err o) = head_first (lines_of f) ≡ some o
+HeadAs f (Ok (at, n)) = HeadClear f at n
 
 -- a line that is not passed before the first service, and what it is there: t says whether it opens one
 abbrev pub ends_head : List ℕ → Bool
 ends_head l = cond (is_opening (kind_of l)) true (not (skipped l))
 
-abbrev pub head_by : Bool → ℕ → ℕ → Head
-head_by t at n = cond t (Clear at n) (Stray (offence_at 12 n))
+abbrev pub head_by : Bool → ℕ → ℕ → Result (ℕ × ℕ) Offence
+head_by t at n = cond t (Ok (at, n)) (Err (offence_at 12 n))

@@ -1,5 +1,4 @@
 use mathlib.Core.Path.{◌≡◌}
-use Prim.Native.Nat.{◌*◌, ◌-◌}
 use Rattle.timetable.specs.Ranges.{places}
 use Rattle.draft.specs.Inner.Draft.{draft_call, calls_in}
 use Rattle.route.specs.Inner.Route.{meets}
@@ -8,7 +7,4 @@ use Rattle.route.proofs.first_place.Given as goal
 
 -- No call passed is sought. Assumes nothing.
 abbrev pub invariant-loop-i : goal.invariant-loop-i
-invariant-loop-i l = (l.at ≡ draft_call * l.i.0) × (places_from (meets l.s) l.w l.c l.i.0 l.at ≡ places (meets l.s) 0 (calls_in l.c l.w))
-
-abbrev pub decreases-loop-i : goal.decreases-loop-i
-decreases-loop-i l = l.c - l.i.0
+invariant-loop-i l = places_from (meets l.s) l.w l.c l.i ≡ places (meets l.s) 0 (calls_in l.c l.w)

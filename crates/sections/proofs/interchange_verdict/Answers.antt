@@ -4,29 +4,14 @@ use Rattle.sections.proofs.interchange_verdict.Goals as goal
 pub returns-then-number-eq-ALL_STOPS : goal.returns-then-number-eq-ALL_STOPS
 returns-then-number-eq-ALL_STOPS c = search interchange-checks
 
-pub offends-requires : goal.offends-requires
-offends-requires c = search interchange-checks
-
 pub returns-then-count-eq0 : goal.returns-then-count-eq0
 returns-then-count-eq0 c = search interchange-checks
-
-pub has_number-requires : goal.has_number-requires
-has_number-requires c = search interchange-checks
-
-pub offends-requires-then-has_number : goal.offends-requires-then-has_number
-offends-requires-then-has_number c = search interchange-checks
 
 pub returns-then-has_number : goal.returns-then-has_number
 returns-then-has_number c = search interchange-checks
 
-pub known_stop-requires : goal.known_stop-requires
-known_stop-requires c = search interchange-checks
-
 pub returns-then-known_stop : goal.returns-then-known_stop
 returns-then-known_stop c = search interchange-checks
-
-pub offends-requires-2 : goal.offends-requires-2
-offends-requires-2 c = search interchange-checks
 
 pub returns : goal.returns
 returns c = search interchange-checks

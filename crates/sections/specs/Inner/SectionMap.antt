@@ -1,16 +1,15 @@
 -- The map of a file's records in lent words, four for each line: the number of each record, and the place where its line starts. Nobody has to
 -- believe this file: what is answered by the map is promised over the files themselves. Assumes nothing.
-use Rattle.std.specs.Prelude.{ℕ, ◌+◌, ◌*◌, ◌-◌, ◌≤◌, ◌<◌, ◌≡◌, List, [], ◌∷◌, ◌++◌, map, length, take, drop, replicate}
+use Rattle.std.specs.Prelude.{ℕ, ◌+◌, ◌*◌, ◌-◌, ◌≤◌, ◌<◌, ◌≡◌, List, [], ◌∷◌, ◌++◌, map, length, take, drop, replicate, Result, Ok}
 use Rattle.base.specs.Lists.{gathered}
 use Rattle.lines.specs.Lines.{Line, lines_of, cut_at}
 use Rattle.map.specs.Inner.Map.{map_record_size, word_values, Chained, Distinct, numbers_in, places_in}
-use Rattle.timetable.specs.declared.Checked.{Checked}
-use Rattle.timetable.specs.declared.Checked.TheVariants.{Holds}
 use Rattle.sections.specs.Inner.Sections.{number_on, as_number, numbers}
 use Rattle.sections.specs.declared.Section.{Section}
 use Rattle.sections.specs.declared.Section.TheVariants.{Stops, Interchanges, Classes}
 use Rattle.sections.specs.declared.Numbered.{Numbered}
 use Rattle.sections.specs.declared.Numbered.TheVariants.{Number, Skipped, Broken}
+use Rattle.timetable.specs.declared.Offence.{Offence}
 
 -- the text of the line that starts at a place
 unfoldable pub text_at : List ℕ → ℕ → List ℕ
@@ -51,8 +50,8 @@ pub record Lent (f : List ℕ) (m : List ℕ) : Type 0 where
   pub zeros : m ≡ replicate (length m) 0
 
 -- what the words hold after the check of file f: its map, unless it was refused
-pub record MapAfter (s : Section) (f : List ℕ) (r : Checked) (m : List ℕ) : Type 0 where
-  pub held : (count next : ℕ) → r ≡ Holds count next → MapOf s f m
+pub record MapAfter (s : Section) (f : List ℕ) (r : Result (ℕ × ℕ) Offence) (m : List ℕ) : Type 0 where
+  pub held : (count next : ℕ) → r ≡ Ok (count, next) → MapOf s f m
 
 -- ---- the words of two maps: the first words are the map of BAHNHOF, those from `split` on are the map of the file that is checked. BAHNHOF is looked at
 -- for UMSTEIGB only; the map of another file has no words before it

@@ -1,15 +1,13 @@
 -- Files 2, 3, 4 and 6 side by side: what is said of each in the crate timetable, by the section of the table that it gives. Assumes nothing.
-use Rattle.std.specs.Prelude.{ℕ, ◌+◌, List, [], ◌∷◌, Bool, true, false, cond, length, replicate, eqb}
+use Rattle.std.specs.Prelude.{ℕ, ◌+◌, List, [], ◌∷◌, Bool, true, false, cond, length, replicate, eqb, Result}
 use Rattle.std.proofs.Math.Option.{Option, none, some}
 use Rattle.base.specs.Lists.{every, some_of, find, gathered}
 use Rattle.columns.specs.Columns.{number}
 use Rattle.columns.specs.LineFields.{field_in, bit_field_number, stop_number, interchange_stop, class_code}
 use Rattle.lines.specs.Lines.{Line, lines_of, skipped}
 use Rattle.bitfield.specs.BitField.{bit_words, bits_in}
-use Rattle.forms.specs.Form.{form_of}
+use Rattle.forms.specs.Form.{form_of, Form, Fits, Broken as BrokenForm}
 use Rattle.forms.specs.Columns.{columns_of}
-use Rattle.forms.specs.declared.Form.{Form}
-use Rattle.forms.specs.declared.Form.TheVariants.{Fits, Broken as BrokenForm}
 use Rattle.forms.specs.declared.LineKind.{LineKind}
 use Rattle.forms.specs.declared.LineKind.TheVariants.{BitField as BitFieldLine, Stop, Interchange, CategoryClass}
 use Rattle.timetable.specs.Delivery.{BitField, StopRecord, Interchange as InterchangeRecord}
@@ -18,8 +16,6 @@ use Rattle.timetable.specs.Files.{held_in, bit_field_of, bit_field_offence, stop
 use Rattle.timetable.specs.Files.{bit_fields_in, bit_fields_first, stops_in, stops_first, interchanges_in, interchanges_first}
 use Rattle.timetable.specs.Plan.{three_bytes}
 use Rattle.timetable.specs.declared.Offence.{Offence}
-use Rattle.timetable.specs.declared.Verdict.{Verdict}
-use Rattle.timetable.specs.declared.Checked.{Checked}
 use Rattle.sections.specs.declared.Section.{Section}
 use Rattle.sections.specs.declared.Section.TheVariants.{BitFields, Stops, Interchanges, Classes}
 use Rattle.sections.specs.declared.Numbered.{Numbered}
@@ -102,24 +98,24 @@ unfoldable pub line_offence : Section → ℕ → List StopRecord → List Line 
 line_offence s n stops before l = numbered_offence (record_offence s n stops before l.no l.text) l.no (number_on s l.text)
 
 -- the own checks of a line that has n for a number, after the part of its file before it
-abbrev pub line_verdict : Section → ℕ → List ℕ → List ℕ → ℕ → List ℕ → Numbered → Verdict
+abbrev pub line_verdict : Section → ℕ → List ℕ → List ℕ → ℕ → List ℕ → Numbered → Result (Unit {0}) Offence
 line_verdict s days bahnhof before line text n = verdict_by (numbered_offence (record_offence s days (stops_in bahnhof) (lines_of before) line text) line n)
 
-abbrev pub interchange_verdict : List ℕ → List ℕ → ℕ → ℕ → Verdict
+abbrev pub interchange_verdict : List ℕ → List ℕ → ℕ → ℕ → Result (Unit {0}) Offence
 interchange_verdict bahnhof before line k = verdict_by (interchange_offence (stops_in bahnhof) (interchanges_in before) line (numbered_interchange k))
 
 -- ---- what the checks of whole files answer
 
-abbrev pub section_checked : Section → ℕ → List ℕ → List ℕ → Checked
+abbrev pub section_checked : Section → ℕ → List ℕ → List ℕ → Result (ℕ × ℕ) Offence
 section_checked s days bahnhof f = checked_by (first (line_offence s days (stops_in bahnhof)) [] (lines_of f)) (length (numbers s (lines_of f))) (length (lines_of f) + 1)
 
-abbrev pub fields_checked : ℕ → List ℕ → Checked
+abbrev pub fields_checked : ℕ → List ℕ → Result (ℕ × ℕ) Offence
 fields_checked days f = checked_by (bit_fields_first days (lines_of f)) (length (bit_fields_in f)) (length (lines_of f) + 1)
 
-abbrev pub stops_checked : List ℕ → Checked
+abbrev pub stops_checked : List ℕ → Result (ℕ × ℕ) Offence
 stops_checked f = checked_by (stops_first (lines_of f)) (length (stops_in f)) (length (lines_of f) + 1)
 
-abbrev pub interchanges_checked : List ℕ → List ℕ → Checked
+abbrev pub interchanges_checked : List ℕ → List ℕ → Result (ℕ × ℕ) Offence
 interchanges_checked bahnhof f = checked_by (interchanges_first (stops_in bahnhof) (lines_of f)) (length (interchanges_in f)) (length (lines_of f) + 1)
 
 -- ---- the twelve words of a bit field that was found, zeros where there is none

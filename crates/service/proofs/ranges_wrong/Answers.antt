@@ -10,18 +10,6 @@ slice_bounds-find_ends-end c = search parting
 pub slice_bounds-find_ends-end-2 : goal.slice_bounds-find_ends-end-2
 slice_bounds-find_ends-end-2 c = search parting
 
-pub find_ends-ends-requires : goal.find_ends-ends-requires
-find_ends-ends-requires c = search parting
-
-pub enum_told-1 : goal.enum_told-1
-enum_told-1 c = search parting
-
-pub enum_told-in_default : goal.enum_told-in_default
-enum_told-in_default c = search parting
-
-pub returns-in_default : goal.returns-in_default
-returns-in_default c = search parting
-
 pub slice_bounds-legs_wrong-end : goal.slice_bounds-legs_wrong-end
 slice_bounds-legs_wrong-end c = search parting
 
@@ -29,4 +17,13 @@ pub slice_bounds-legs_wrong-end-2 : goal.slice_bounds-legs_wrong-end-2
 slice_bounds-legs_wrong-end-2 c = search parting
 
 pub returns : goal.returns
-returns c = search parting
+returns c = search (parting, c.in_ok-find_ends.was)
+
+pub find_ends-requires-clause-ranges_in_bounds : goal.find_ends-requires-clause-ranges_in_bounds
+find_ends-requires-clause-ranges_in_bounds c = search parting
+
+pub find_ends-requires-clause-ranges_in_bounds_2 : goal.find_ends-requires-clause-ranges_in_bounds_2
+find_ends-requires-clause-ranges_in_bounds_2 c = search parting
+
+pub returns-in_err-find_ends : goal.returns-in_err-find_ends
+returns-in_err-find_ends c = search parting

@@ -55,7 +55,7 @@ returns c = search sweeps
 
 pub loop-leg-preserved : goal.loop-leg-preserved
 loop-leg-preserved c = (
-  swept-next _ _ _ _ _ _ c.requires.ranges_value c.covering_place.ensures _ c.in-At.is _ c.day_at-range.ensures _ _ _
+  swept-next _ _ _ _ _ _ c.requires.ranges_value c.covering_place.ensures _ c.in-Some.is _ c.day_at-range.ensures _ _ _
       c.loop-leg-test.true c.field_days-on.ensures
       c.both.ensures c.either-broken_now.ensures
       c.without.ensures c.either-ended_now.ensures c.either-begun_now.ensures c.loop-leg.invariant.0,

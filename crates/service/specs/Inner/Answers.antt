@@ -1,5 +1,5 @@
 -- What the checks of one service answer, by the definitions of the crate timetable. Nobody has to believe this file. Assumes nothing.
-use Rattle.std.specs.Prelude.{ℕ, ◌+◌, ◌≤◌, ◌≡◌, List, map, Bool, false, not, cond, length, leb, ltb}
+use Rattle.std.specs.Prelude.{ℕ, ◌+◌, ◌≤◌, ◌≡◌, List, map, Bool, false, not, cond, length, leb, ltb, Option as RustOption, Some, None, Result, Ok, Err}
 use Rattle.std.proofs.Math.Option.{Option, none, some}
 use Rattle.base.specs.Lists.{some_of, below}
 use Rattle.words.specs.Words.{write}
@@ -14,26 +14,21 @@ use Rattle.timetable.specs.declared.Offence.{Offence}
 use Rattle.timetable.specs.declared.RangeKind.{RangeKind}
 use Rattle.timetable.specs.declared.RangeKind.TheVariants.{Category, Days, Extra}
 use Rattle.timetable.specs.declared.RangeLine.{RangeLine}
-use Rattle.timetable.specs.declared.Verdict.{Verdict}
-use Rattle.timetable.specs.declared.Verdict.TheVariants.{Fine}
 use Rattle.draft.specs.Inner.Draft.{calls_lent, ranges_lent, calls_on, calls_in, ranges_on, ranges_in, ranges#, Within, part_in, drafted_service}
 use Rattle.draft.specs.declared.Counts.{Counts}
 use Rattle.draft.specs.declared.Drafted.{Drafted}
 use Rattle.reading.specs.Inner.Reading.{service_lines_at}
 use Rattle.reading.specs.Inner.Services.{ServiceTaken}
 use Rattle.range_words.specs.Inner.Parts.{range_gives, part_words}
-use Rattle.service.specs.declared.ServiceCheck.{ServiceCheck}
-use Rattle.service.specs.declared.ServiceCheck.TheVariants.{Takes, Refused}
-use Rattle.service.specs.declared.schedule.RangeRow.{RangeRow}
-use Rattle.service.specs.declared.schedule.RangeRow.TheVariants.{Written, Missing}
+use Rattle.reading.specs.declared.Taken.{Taken}
 use Rattle.service.specs.declared.schedule.RowEnds.{RowEnds}
 
 -- ---- the answer for a service of a file
 
 -- "every line's own checks, then the service's checks": its first offence, or its words
-abbrev pub CheckedAs : List BitField → List StopRecord → List CategoryClass → ℕ → List ℕ → ℕ → ℕ → ServiceCheck → Type 0
-CheckedAs fields stops classes days f at n (Refused o) = service_first fields stops classes days (service_lines_at f at n) ≡ some o
-CheckedAs fields stops classes days f at n (Takes words end m) = (service_first fields stops classes days (service_lines_at f at n) ≡ none) × ServiceTaken f at n words end m
+abbrev pub CheckedAs : List BitField → List StopRecord → List CategoryClass → ℕ → List ℕ → ℕ → ℕ → Result Taken Offence → Type 0
+CheckedAs fields stops classes days f at n (Err o) = service_first fields stops classes days (service_lines_at f at n) ≡ some o
+CheckedAs fields stops classes days f at n (Ok t) = (service_first fields stops classes days (service_lines_at f at n) ≡ none) × ServiceTaken f at n t.words t.end t.no
 
 -- ---- the same for a draft
 
@@ -51,12 +46,12 @@ abbrev pub ends_after : RowEnds → List Call → RangeLine → RowEnds
 ends_after z cs r = record { categories = z.categories + length (range_gives Category cs r); operating = z.operating + length (range_gives Days cs r) }
 
 -- those, or that its ends are not found
-abbrev pub row_by : RowEnds → List Call → RangeLine → RangeRow
-row_by z cs r = cond (is_none (legs_on cs r)) Missing (Written (ends_after z cs r))
+abbrev pub row_by : RowEnds → List Call → RangeLine → RustOption RowEnds
+row_by z cs r = cond (is_none (legs_on cs r)) None (Some (ends_after z cs r))
 
 -- if 16 has no offence, the words of a part stand at the front of words that were t
-pub record PartFound (v : Verdict) (p : RangeKind) (cs : List Call) (rs : List RangeLine) (t t' : List ℕ) : Type 0 where
-  pub written : v ≡ Fine → t' ≡ write t 0 (part_words p cs rs)
+pub record PartFound (v : Result (Unit {0}) Offence) (p : RangeKind) (cs : List Call) (rs : List RangeLine) (t t' : List ℕ) : Type 0 where
+  pub written : v ≡ Ok tt → t' ≡ write t 0 (part_words p cs rs)
 
 -- the service that the words hold
 abbrev pub service_in : Drafted → List ℕ → List ℕ → Service
@@ -75,9 +70,9 @@ draft_first fields days d calls ranges =
     <|> times_first d.counts.calls 0 0 (calls_on d.counts.calls calls)
     <|> ranges_first fields days d calls ranges
 
-abbrev pub check_by : Option Offence → Service → Drafted → ServiceCheck
-check_by none s d = Takes (length (service_words s)) d.end d.no
-check_by (some o) s d = Refused o
+abbrev pub check_by : Option Offence → Service → Drafted → Result Taken Offence
+check_by none s d = Ok (record { words = length (service_words s); end = d.end; no = d.no })
+check_by (some o) s d = Err o
 
 -- ---- 17, and 18 and 19 of operating-day ranges, over so many legs
 

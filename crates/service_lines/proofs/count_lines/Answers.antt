@@ -1,3 +1,4 @@
+use native.Mathlib.Nat.{sub-zero}
 use native.Mathlib.Omega.{arith}
 use Rattle.service_lines.proofs.Services.{counted}
 use Rattle.service_lines.proofs.count_lines.Goals as goal
@@ -5,17 +6,14 @@ use Rattle.service_lines.proofs.count_lines.Goals as goal
 pub bounds-w-6 : goal.bounds-w-6
 bounds-w-6 c = search counted
 
-pub count-v-requires : goal.count-v-requires
-count-v-requires c = search counted
-
 pub bounds-w-7 : goal.bounds-w-7
 bounds-w-7 c = search counted
 
 pub size-at-requires : goal.size-at-requires
 size-at-requires c = search counted
 
-pub loop-k-init : goal.loop-k-init
-loop-k-init c = (search counted, omega arith, search counted, search counted)
+pub loop-init : goal.loop-init
+loop-init c = rw sub-zero (search counted, omega arith, search counted, search counted)
 
 pub offset_bounds-w-at : goal.offset_bounds-w-at
 offset_bounds-w-at c = search counted
@@ -35,26 +33,20 @@ lines_of-n-requires c = search counted
 pub overflow_add-n : goal.overflow_add-n
 overflow_add-n c = search counted
 
-pub offset_bounds-w-at-in-loop-k : goal.offset_bounds-w-at-in-loop-k
-offset_bounds-w-at-in-loop-k c = search counted
+pub offset_bounds-w-at-in-loop : goal.offset_bounds-w-at-in-loop
+offset_bounds-w-at-in-loop c = search counted
 
 pub bounds-w-at : goal.bounds-w-at
 bounds-w-at c = search counted
 
-pub size-at-requires-in-loop-k : goal.size-at-requires-in-loop-k
-size-at-requires-in-loop-k c = search counted
+pub size-at-requires-in-loop : goal.size-at-requires-in-loop
+size-at-requires-in-loop c = search counted
 
 pub overflow_add-at : goal.overflow_add-at
 overflow_add-at c = search counted
 
-pub overflow_sub-k : goal.overflow_sub-k
-overflow_sub-k c = search counted
-
-pub loop-k-smaller : goal.loop-k-smaller
-loop-k-smaller c = search counted
-
-pub loop-k-preserved : goal.loop-k-preserved
-loop-k-preserved c = (search counted, omega arith, search counted, search counted)
+pub loop-preserved : goal.loop-preserved
+loop-preserved c = (search counted, omega arith, search counted, search counted)
 
 pub returns-clause-value : goal.returns-clause-value
 returns-clause-value c = search counted

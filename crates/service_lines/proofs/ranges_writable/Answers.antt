@@ -1,14 +1,12 @@
+use native.Mathlib.Nat.{sub-zero}
 use Rattle.service_lines.proofs.Parts.{ranges}
 use Rattle.service_lines.proofs.ranges_writable.Goals as goal
 
 pub part_place-p-requires : goal.part_place-p-requires
 part_place-p-requires c = search ranges
 
-pub part_count-k-requires : goal.part_count-k-requires
-part_count-k-requires c = search ranges
-
-pub loop-k-init : goal.loop-k-init
-loop-k-init c = search ranges
+pub loop-init : goal.loop-init
+loop-init c = rw sub-zero (search ranges)
 
 pub range_writable-requires : goal.range_writable-requires
 range_writable-requires c = search ranges
@@ -22,14 +20,8 @@ range_words-p-requires c = search ranges
 pub overflow_add-p : goal.overflow_add-p
 overflow_add-p c = search ranges
 
-pub overflow_sub-k : goal.overflow_sub-k
-overflow_sub-k c = search ranges
-
-pub loop-k-smaller : goal.loop-k-smaller
-loop-k-smaller c = search ranges
-
-pub loop-k-preserved : goal.loop-k-preserved
-loop-k-preserved c = search ranges
+pub loop-preserved : goal.loop-preserved
+loop-preserved c = search ranges
 
 pub returns : goal.returns
 returns c = search ranges

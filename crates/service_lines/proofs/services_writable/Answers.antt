@@ -1,3 +1,4 @@
+use native.Mathlib.Nat.{sub-zero}
 use Rattle.service_lines.proofs.Services.{services}
 use Rattle.service_lines.proofs.services_writable.Goals as goal
 
@@ -10,8 +11,8 @@ size-at-requires c = search services
 pub bounds-w-6 : goal.bounds-w-6
 bounds-w-6 c = search services
 
-pub loop-k-init : goal.loop-k-init
-loop-k-init c = search services
+pub loop-init : goal.loop-init
+loop-init c = rw sub-zero (search services)
 
 pub offset_bounds-w-at : goal.offset_bounds-w-at
 offset_bounds-w-at c = search services
@@ -31,26 +32,20 @@ service_writable-requires c = search services
 pub returns-then-not-service_writable : goal.returns-then-not-service_writable
 returns-then-not-service_writable c = search services
 
-pub offset_bounds-w-at-in-loop-k : goal.offset_bounds-w-at-in-loop-k
-offset_bounds-w-at-in-loop-k c = search services
+pub offset_bounds-w-at-in-loop : goal.offset_bounds-w-at-in-loop
+offset_bounds-w-at-in-loop c = search services
 
 pub bounds-w-at : goal.bounds-w-at
 bounds-w-at c = search services
 
-pub size-at-requires-in-loop-k : goal.size-at-requires-in-loop-k
-size-at-requires-in-loop-k c = search services
+pub size-at-requires-in-loop : goal.size-at-requires-in-loop
+size-at-requires-in-loop c = search services
 
 pub overflow_add-at : goal.overflow_add-at
 overflow_add-at c = search services
 
-pub overflow_sub-k : goal.overflow_sub-k
-overflow_sub-k c = search services
-
-pub loop-k-smaller : goal.loop-k-smaller
-loop-k-smaller c = search services
-
-pub loop-k-preserved : goal.loop-k-preserved
-loop-k-preserved c = search services
+pub loop-preserved : goal.loop-preserved
+loop-preserved c = search services
 
 pub returns : goal.returns
 returns c = search services

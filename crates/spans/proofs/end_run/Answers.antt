@@ -4,8 +4,5 @@ use Rattle.spans.proofs.end_run.Goals as goal
 pub returns-then-last-departure : goal.returns-then-last-departure
 returns-then-last-departure c = search spans
 
-pub runs_within-requires : goal.runs_within-requires
-runs_within-requires c = search spans
-
 pub returns : goal.returns
 returns c = search spans

@@ -1,9 +1,6 @@
 use Rattle.spans.proofs.Laws.{counts}
 use Rattle.spans.proofs.runs_within.Goals as goal
 
-pub less-requires : goal.less-requires
-less-requires c = search counts
-
 pub overflow_mul-result : goal.overflow_mul-result
 overflow_mul-result c = search counts
 
@@ -21,12 +18,6 @@ overflow_add-result-then-opening-eq0 c = search counts
 
 pub returns-then-opening-eq0 : goal.returns-then-opening-eq0
 returns-then-opening-eq0 c = search counts
-
-pub nonzero_div-minutes : goal.nonzero_div-minutes
-nonzero_div-minutes c = search counts
-
-pub less-requires-2 : goal.less-requires-2
-less-requires-2 c = search counts
 
 pub overflow_add-result-2 : goal.overflow_add-result-2
 overflow_add-result-2 c = search counts

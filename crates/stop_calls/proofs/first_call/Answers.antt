@@ -1,9 +1,6 @@
 use Rattle.stop_calls.proofs.Needs.{firsts}
 use Rattle.stop_calls.proofs.first_call.Goals as goal
 
-pub find-first-requires : goal.find-first-requires
-find-first-requires c = search firsts
-
 pub from_stop-requires : goal.from_stop-requires
 from_stop-requires c = search firsts
 

@@ -1,17 +1,8 @@
 use Rattle.stop_calls.proofs.Needs.{stops}
 use Rattle.stop_calls.proofs.from_stop.Goals as goal
 
-pub loop-s-init : goal.loop-s-init
-loop-s-init c = search stops
-
-pub last-h-requires : goal.last-h-requires
-last-h-requires c = search stops
-
 pub returns-then-h-ne0 : goal.returns-then-h-ne0
 returns-then-h-ne0 c = search stops
-
-pub next-s-requires : goal.next-s-requires
-next-s-requires c = search stops
 
 pub loop-s-smaller : goal.loop-s-smaller
 loop-s-smaller c = search stops

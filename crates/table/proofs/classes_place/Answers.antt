@@ -4,17 +4,8 @@ use Rattle.table.proofs.classes_place.Goals as goal
 pub bounds-w-7 : goal.bounds-w-7
 bounds-w-7 c = search classes
 
-pub size-requires : goal.size-requires
-size-requires c = search classes
-
 pub bounds-w-8 : goal.bounds-w-8
 bounds-w-8 c = search classes
-
-pub size-requires-2 : goal.size-requires-2
-size-requires-2 c = search classes
-
-pub overflow_mul-result : goal.overflow_mul-result
-overflow_mul-result c = search classes
 
 pub overflow_sub-result : goal.overflow_sub-result
 overflow_sub-result c = search classes

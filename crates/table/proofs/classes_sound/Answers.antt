@@ -4,20 +4,8 @@ use Rattle.table.proofs.classes_sound.Goals as goal
 pub bounds-w-0 : goal.bounds-w-0
 bounds-w-0 c = search classes
 
-pub size-requires : goal.size-requires
-size-requires c = search classes
-
-pub slice_bounds-classes_within-count : goal.slice_bounds-classes_within-count
-slice_bounds-classes_within-count c = search classes
-
-pub slice_bounds-classes_within-start : goal.slice_bounds-classes_within-start
-slice_bounds-classes_within-start c = search classes
-
 pub slice_bounds-classes_within-end : goal.slice_bounds-classes_within-end
 slice_bounds-classes_within-end c = search classes
-
-pub classes_place-requires : goal.classes_place-requires
-classes_place-requires c = search classes
 
 pub bounds-w-8 : goal.bounds-w-8
 bounds-w-8 c = search classes

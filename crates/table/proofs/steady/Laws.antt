@@ -17,6 +17,7 @@ use Rattle.timetable.specs.Table.{rows_in, call_at, calls#, call_sound, sizes_so
 use Rattle.timetable.specs.declared.Call.{Call}
 use Rattle.timetable.proofs.Rows.{one-row}
 use Rattle.table.specs.Steady.{opens_steady, passes_steady, ends_steady, two_steady, four_steady, later_steady, calls_steady}
+use Rattle.table.proofs.Laws.{one_less}
 use Rattle.table.proofs.Says.{sizes-say, head-word}
 
 -- ---- a call that passes
@@ -130,7 +131,7 @@ module _ (stops : ℕ) (s : List ℕ) (c : Call) (q : c ≡ call_at (drop 12 s))
 
 pub ruleset all-calls = (tests, first-room, first_two, first_rest, first_head, calls-no, calls_by)
 
--- ---- after the first: k of them and the last are left from p on; c is the one at p, x says whether it passes
+-- ---- after the first: n - i of them and the last are left from p on; c is the one at p, x says whether it passes
 
 later-turn : (s : List ℕ) (p k stops before : ℕ) (c : Call) → c ≡ call_at (drop p s) → 0 < k →
     later_steady stops k before (drop p s) ≡ (passes_steady stops before c && later_steady stops (k - 1) c.departure (drop (p + call_size) s))
@@ -145,32 +146,33 @@ unfolding later_steady
 later_last s p zero stops before c q h = rw q refl
 later_last s p (suc m) stops before c q h = absurd (omega arith)
 
-module _ (s : List ℕ) (p k stops before : ℕ) (r : Bool) (v : later_steady stops k before (drop p s) ≡ r) (c : Call) (q : c ≡ call_at (drop p s)) (x : Bool) where
-  module _ (h : 0 < k) (e : x ≡ passes_steady stops before c) where
-    later-here : (x && later_steady stops (k - 1) c.departure (drop (p + call_size) s)) ≡ r
-    later-here = ap (λ (b : Bool). b && later_steady stops (k - 1) c.departure (drop (p + call_size) s)) e ∙ sym (later-turn s p k stops before c q h) ∙ v
+module _ (s : List ℕ) (p n i stops before : ℕ) (r : Bool) (v : later_steady stops (n - i) before (drop p s) ≡ r) (c : Call) (q : c ≡ call_at (drop p s)) (x : Bool) where
+  module _ (h : i < n) (e : x ≡ passes_steady stops before c) where
+    later-here : (x && later_steady stops (n - (i + 1)) c.departure (drop (p + call_size) s)) ≡ r
+    later-here =
+        rw (one_less n i) at (ap (λ (b : Bool). b && later_steady stops (n - i - 1) c.departure (drop (p + call_size) s)) e ∙ sym (later-turn s p (n - i) stops before c q (omega arith)) ∙ v)
 
-    pub later-again : not x ≡ false → later_steady stops (k - 1) c.departure (drop (p + call_size) s) ≡ r
-    later-again n = rw (not-false x n) at later-here
+    pub later-again : not x ≡ false → later_steady stops (n - (i + 1)) c.departure (drop (p + call_size) s) ≡ r
+    later-again m = rw (not-false x m) at later-here
 
     pub later-out : not x ≡ true → false ≡ r
-    later-out n = rw (not-true x n) at later-here
+    later-out m = rw (not-true x m) at later-here
 
-  pub later-done : k ≤ 0 → x ≡ ends_steady stops before c → x ≡ r
-  later-done h e = e ∙ sym (later_last s p k stops before c q h) ∙ v
+  pub later-done : n ≤ i → x ≡ ends_steady stops before c → x ≡ r
+  later-done h e = e ∙ sym (later_last s p (n - i) stops before c q (omega arith)) ∙ v
 
-module _ (p k l : ℕ) (h : 0 < k) (r : p + 7 * (k + 1) ≤ l) where
+module _ (p n i l : ℕ) (h : i < n) (r : p + 7 * (n - i + 1) ≤ l) where
   pub calls-now : p + 7 ≤ l
   calls-now = omega arith
 
   pub calls-fit : l < 2 ^ 64 → p + 7 < 2 ^ 64
   calls-fit m = omega arith
 
-  pub calls-next : p + 7 + 7 * (k - 1 + 1) ≤ l
+  pub calls-next : p + 7 + 7 * (n - (i + 1) + 1) ≤ l
   calls-next = omega arith
 
-pub calls_last : (p k l : ℕ) → k ≤ 0 → p + 7 * (k + 1) ≤ l → p + 7 ≤ l
-calls_last p k l h r = omega arith
+pub calls_last : (p n i l : ℕ) → n ≤ i → p + 7 * (n - i + 1) ≤ l → p + 7 ≤ l
+calls_last p n i l h r = omega arith
 
 pub ruleset later = (tests, later-again, later-out, later-done, calls-now, calls-fit, calls-next, calls_last)
 
@@ -226,7 +228,7 @@ module _ (p l : ℕ) (h : p + 28 ≤ l) where
 
 pub ruleset fours = (tests, four-no, four-by, four-first, four-second, four-fits, four-sum, four-reads)
 
--- ---- four a turn
+-- ---- four a turn, i turns done
 
 four-pass : (stops m before : ℕ) (w : List ℕ) → later_steady stops (suc (suc (suc (suc m)))) before w ≡ (four_steady stops before w && later_steady stops m (call_at (drop 21 w)).departure (drop 28 w))
 unfolding later_steady four_steady two_steady
@@ -245,22 +247,23 @@ four-pass stops m before w =
     go true true false d e = refl
     go true true true d e = refl
 
-module _ (s : List ℕ) (p k stops before : ℕ) (r : Bool) (v : later_steady stops k before (drop p s) ≡ r) (x : Bool) (h : 3 < k) (e : x ≡ four_steady stops before (drop p s)) where
-  four-here : (x && later_steady stops (k - 4) (get_or s (p + 23) 0) (drop (p + 28) s)) ≡ r
+module _ (s : List ℕ) (p n i stops before : ℕ) (r : Bool) (v : later_steady stops (n - 4 * i) before (drop p s) ≡ r) (x : Bool) (h : i < n / 4) (e : x ≡ four_steady stops before (drop p s)) where
+  four-here : (x && later_steady stops (n - 4 * (i + 1)) (get_or s (p + 23) 0) (drop (p + 28) s)) ≡ r
   four-here =
-      let z : k ≡ suc (suc (suc (suc (k - 4)))) = omega arith in
+      let z : n - 4 * i ≡ suc (suc (suc (suc (n - 4 * i - 4)))) = omega arith in
       let d : (call_at (drop 21 (drop p s))).departure ≡ get_or s (p + 23) 0 = get_or-drop 21 (drop p s) 2 0 ∙ get_or-drop p s 23 0 in
-      ap (λ (b : Bool). b && later_steady stops (k - 4) (get_or s (p + 23) 0) (drop (p + 28) s)) e
-      ∙ sym (ap (λ (j : ℕ). later_steady stops j before (drop p s)) z ∙ four-pass stops (k - 4) before (drop p s) ∙ rw (d, drop-drop 28 p s))
-      ∙ v
+      let f : n - 4 * i - 4 ≡ n - 4 * (i + 1) = omega arith in
+      rw f at (ap (λ (b : Bool). b && later_steady stops (n - 4 * i - 4) (get_or s (p + 23) 0) (drop (p + 28) s)) e
+      ∙ sym (ap (λ (j : ℕ). later_steady stops j before (drop p s)) z ∙ four-pass stops (n - 4 * i - 4) before (drop p s) ∙ rw (d, drop-drop 28 p s))
+      ∙ v)
 
-  pub fours-again : not x ≡ false → later_steady stops (k - 4) (get_or s (p + 23) 0) (drop (p + 28) s) ≡ r
-  fours-again n = rw (not-false x n) at four-here
+  pub fours-again : not x ≡ false → later_steady stops (n - 4 * (i + 1)) (get_or s (p + 23) 0) (drop (p + 28) s) ≡ r
+  fours-again m = rw (not-false x m) at four-here
 
   pub fours-out : not x ≡ true → false ≡ r
-  fours-out n = rw (not-true x n) at four-here
+  fours-out m = rw (not-true x m) at four-here
 
-module _ (p k l : ℕ) (h : 3 < k) (r : p + 7 * (k + 1) ≤ l) where
+module _ (p n i l : ℕ) (h : i < n / 4) (r : p + 7 * (n - 4 * i + 1) ≤ l) where
   pub fours-now : p + 28 ≤ l
   fours-now = omega arith
 
@@ -273,13 +276,21 @@ module _ (p k l : ℕ) (h : 3 < k) (r : p + 7 * (k + 1) ≤ l) where
   pub fours-fit : l < 2 ^ 64 → p + 28 < 2 ^ 64
   fours-fit m = omega arith
 
-  pub fours-next : p + 28 + 7 * (k - 4 + 1) ≤ l
+  pub fours-next : p + 28 + 7 * (n - 4 * (i + 1) + 1) ≤ l
   fours-next = omega arith
 
 pub calls-start : (left l : ℕ) → 12 + 7 * (left + 2) ≤ l → 19 + 7 * (left + 1) ≤ l
 calls-start left l h = omega arith
 
-pub fours-done : (s : List ℕ) (p k stops before : ℕ) (r x : Bool) → later_steady stops k before (drop p s) ≡ r → x ≡ later_steady stops k before (drop p s) → x ≡ r
-fours-done s p k stops before r x v e = e ∙ v
+-- after the last turn
+module _ (n i : ℕ) (a : i ≤ n / 4) (b : n / 4 ≤ i) where
+  four-left : n - 4 * i ≡ n % 4
+  four-left = omega arith
 
-pub ruleset by-four = (tests, fours-again, fours-out, fours-now, fours-reads, fours-sum, fours-fit, fours-next, calls-start, fours-done)
+  pub fours-left : (p l : ℕ) → p + 7 * (n - 4 * i + 1) ≤ l → p + 7 * (n % 4 + 1) ≤ l
+  fours-left p l r = omega (arith, four-left)
+
+  pub fours-done : (s : List ℕ) (p stops before : ℕ) (r x : Bool) → later_steady stops (n - 4 * i) before (drop p s) ≡ r → x ≡ later_steady stops (n % 4) before (drop p s) → x ≡ r
+  fours-done s p stops before r x v e = e ∙ (rw four-left at v)
+
+pub ruleset by-four = (tests, fours-again, fours-out, fours-now, fours-reads, fours-sum, fours-fit, fours-next, calls-start, fours-left, fours-done)

@@ -4,17 +4,5 @@ use Rattle.table.proofs.used_words.Goals as goal
 pub bounds-w-0 : goal.bounds-w-0
 bounds-w-0 c = search front
 
-pub size-requires : goal.size-requires
-size-requires c = search front
-
-pub slice_bounds-result-count : goal.slice_bounds-result-count
-slice_bounds-result-count c = search front
-
-pub slice_bounds-result-start : goal.slice_bounds-result-start
-slice_bounds-result-start c = search front
-
 pub slice_bounds-result-end : goal.slice_bounds-result-end
 slice_bounds-result-end c = search front
-
-pub returns : goal.returns
-returns c = search front

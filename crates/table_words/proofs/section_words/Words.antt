@@ -9,10 +9,8 @@ use Rattle.base.specs.Lists.{gathered}
 use Rattle.base.proofs.Lists.{gathered-append}
 use Rattle.lines.specs.Lines.{Line, skipped}
 use Rattle.bitfield.proofs.Hex.{length-bits}
-use Rattle.forms.specs.Form.{form_of}
+use Rattle.forms.specs.Form.{form_of, Form, Fits, Broken as BrokenForm}
 use Rattle.forms.specs.Columns.{bit_field_columns, stop_columns, interchange_columns, class_columns}
-use Rattle.forms.specs.declared.Form.{Form}
-use Rattle.forms.specs.declared.Form.TheVariants.{Fits, Broken as BrokenForm}
 use Rattle.timetable.specs.Layout.{bit_field_size, stop_size, interchange_size, class_size}
 use Rattle.timetable.specs.Files.{Held, skip, listed, held_in, held_by, bit_field_of, stop_of, interchange_of, class_of}
 use Rattle.timetable.specs.Table.{bit_field_words, stop_words, interchange_words, class_words}

@@ -1,17 +1,8 @@
 use Rattle.told.proofs.Form.{tabled}
 use Rattle.told.proofs.broken_column.Goals as goal
 
-pub line_form-requires : goal.line_form-requires
-line_form-requires c = search tabled
+pub returns-in-Ok : goal.returns-in-Ok
+returns-in-Ok c = search tabled
 
-pub enum_told-1 : goal.enum_told-1
-enum_told-1 c = search tabled
-
-pub enum_known-column : goal.enum_known-column
-enum_known-column c = search tabled
-
-pub returns-in-Fits : goal.returns-in-Fits
-returns-in-Fits c = search tabled
-
-pub returns-in-Broken : goal.returns-in-Broken
-returns-in-Broken c = search tabled
+pub returns-in-Err : goal.returns-in-Err
+returns-in-Err c = search tabled

@@ -1,17 +1,15 @@
 -- What a schedule line's form asks, in the order of its columns, for the contracts of src. Nobody has to believe this file:
 -- `call_told` is promised over `form_of call_columns`. Assumes nothing.
-use Rattle.std.specs.Prelude.{ℕ, ◌+◌, ◌-◌, ◌/◌, List, Bool, false, not, ◌&&◌, ◌||◌, eqb}
+use Rattle.std.specs.Prelude.{ℕ, ◌+◌, ◌-◌, ◌/◌, List, Bool, not, None, ◌&&◌, ◌||◌, eqb}
 use Rattle.base.specs.Lists.{every}
 use Rattle.columns.specs.Columns.{column, is_blank, blank, digits, number}
 use Rattle.columns.specs.LineFields.{LineField, ◌⋯◌, field_in, plan_mark, call_stop, call_arrival, call_departure, call_number, call_administration, call_destination_board}
 use Rattle.fields.specs.Fields.{time, time_in}
 use Rattle.fields.specs.declared.Time.{Time}
 use Rattle.byte_words.specs.Inner.Words.{bytes_of}
-use Rattle.forms.specs.Form.{is_time}
-use Rattle.forms.specs.declared.Form.{Form}
-use Rattle.forms.specs.declared.Form.TheVariants.{Fits, Broken}
+use Rattle.forms.specs.Form.{is_time, Form, Fits, Broken}
 use Rattle.timetable.specs.declared.CallLine.{CallLine}
-use Rattle.timetable.specs.Plan.{three_bytes, minutes_of, flags_of}
+use Rattle.timetable.specs.Plan.{minutes_of, flags_of, number_said, administration_said}
 
 -- the column that a form says is broken, 0 where none is
 abbrev pub column_of : Form → ℕ
@@ -43,18 +41,15 @@ tail_fits l =
 abbrev pub last_time : ℕ → Time
 last_time w = time_in (bytes_of 6 (w / 65536))
 
--- what a line with blank columns 43 to 58 says, where columns 1 to 7 stand in a word: three blanks as one number are 2105376
+-- what a line with blank columns 43 to 58 says, where columns 1 to 7 stand in a word
 abbrev pub blank_call : ℕ → Time → Time → CallLine
 blank_call stop arrival departure = record {
   stop = number (bytes_of 7 stop);
   arrival = minutes_of arrival;
   departure = minutes_of departure;
   flags = flags_of 1 arrival + flags_of 2 departure;
-  numbered = false;
-  number = 0;
-  administered = false;
-  high = 2105376;
-  low = 2105376;
+  number = None;
+  administration = None;
 }
 
 -- the same call with the number and the administration of a line
@@ -64,9 +59,6 @@ filled_call l said = record {
   arrival = said.arrival;
   departure = said.departure;
   flags = said.flags;
-  numbered = not (blank (field_in call_number l));
-  number = number (field_in call_number l);
-  administered = not (blank (field_in call_administration l));
-  high = three_bytes call_administration.from l;
-  low = three_bytes (call_administration.from + 3) l;
+  number = number_said l;
+  administration = administration_said l;
 }

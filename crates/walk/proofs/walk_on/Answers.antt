@@ -1,26 +1,20 @@
+use Rattle.std.proofs.lemmas.Result.{err_from_is_err_and}
 use Rattle.walk.proofs.Laws.{index}
 use Rattle.walk.proofs.walk_on.Goals as goal
 
-pub service_record-found-requires : goal.service_record-found-requires
-service_record-found-requires c = search index
+pub returns-in_err-p-clause-answer : goal.returns-in_err-p-clause-answer
+returns-in_err-p-clause-answer c =
+    let p = err_from_is_err_and c.from_residual.result c.from_residual.ensures.1 in
+    rw (p.1, p.2) (search (index, c.in_err-p.was))
 
-pub enum_known-found : goal.enum_known-found
-enum_known-found c = search index
-
-pub enum_known-found-in-From-1 : goal.enum_known-found-in-From-1
-enum_known-found-in-From-1 c = search index
+pub returns-in_err-p-clause-listed : goal.returns-in_err-p-clause-listed
+returns-in_err-p-clause-listed c = search (index, c.in_err-p.was)
 
 pub words_from-requires : goal.words_from-requires
-words_from-requires c = search index
+words_from-requires c = search (index, c.in_ok-p.was)
 
 pub walk_record-requires : goal.walk_record-requires
-walk_record-requires c = search index
+walk_record-requires c = search (index, c.in_ok-p.was)
 
-pub returns-in-Refused : goal.returns-in-Refused
-returns-in-Refused c = search index
-
-pub shape_of-rows : goal.shape_of-rows
-shape_of-rows c = search index
-
-pub returns-in-From : goal.returns-in-From
-returns-in-From c = search index
+pub returns : goal.returns
+returns c = search (index, c.in_ok-p.was)

@@ -1,29 +1,23 @@
+use Rattle.std.proofs.lemmas.Result.{err_from_is_err_and}
 use Rattle.walk.proofs.Laws.{records}
 use Rattle.walk.proofs.walk_record.Goals as goal
 
-pub service_course-course-requires : goal.service_course-course-requires
-service_course-course-requires c = search records
+pub returns-in_err-course-clause-answer : goal.returns-in_err-course-clause-answer
+returns-in_err-course-clause-answer c =
+    let p = err_from_is_err_and c.from_residual.result c.from_residual.ensures.1 in
+    rw (p.1, p.2) (search (records, c.in_err-course.was))
 
-pub enum_known-course : goal.enum_known-course
-enum_known-course c = search records
+pub returns-in_err-course-clause-listed : goal.returns-in_err-course-clause-listed
+returns-in_err-course-clause-listed c = search (records, c.in_err-course.was)
 
-pub enum_told-1 : goal.enum_told-1
-enum_told-1 c = search records
-
-pub enum_known-course-in-Along-1 : goal.enum_known-course-in-Along-1
-enum_known-course-in-Along-1 c = search records
+pub service_course-requires : goal.service_course-requires
+service_course-requires c = search records
 
 pub list-requires : goal.list-requires
-list-requires c = search records
+list-requires c = search (records, c.in_ok-course.was)
 
-pub returns-in-Refused : goal.returns-in-Refused
-returns-in-Refused c = search records
+pub returns-in-None : goal.returns-in-None
+returns-in-None c = search (records, c.in_ok-course.was)
 
-pub returns-in-NotRunning : goal.returns-in-NotRunning
-returns-in-NotRunning c = search records
-
-pub shape_of-rows : goal.shape_of-rows
-shape_of-rows c = search records
-
-pub returns-in-Along : goal.returns-in-Along
-returns-in-Along c = search records
+pub returns-in-Some : goal.returns-in-Some
+returns-in-Some c = search (records, c.in_ok-course.was)

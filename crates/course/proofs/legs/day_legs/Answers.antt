@@ -4,8 +4,8 @@ use Rattle.course.proofs.legs.day_legs.Goals as goal
 pub no_legs-seen-requires : goal.no_legs-seen-requires
 no_legs-seen-requires c = search turn
 
-pub loop-left-init : goal.loop-left-init
-loop-left-init c = search turn
+pub loop-i-init : goal.loop-i-init
+loop-i-init c = search turn
 
 pub offset_bounds-v-p : goal.offset_bounds-v-p
 offset_bounds-v-p c = search turn
@@ -16,44 +16,35 @@ bounds-v-p c = search turn
 pub field_day-field-requires : goal.field_day-field-requires
 field_day-field-requires c = search turn
 
-pub unknown_legs-requires : goal.unknown_legs-requires
-unknown_legs-requires c = search turn
-
 pub returns-then-not-field : goal.returns-then-not-field
 returns-then-not-field c = search turn
 
 pub overflow_add-p : goal.overflow_add-p
 overflow_add-p c = search turn
 
-pub offset_bounds-v-p-in-loop-left : goal.offset_bounds-v-p-in-loop-left
-offset_bounds-v-p-in-loop-left c = search turn
+pub offset_bounds-v-p-in-loop-i : goal.offset_bounds-v-p-in-loop-i
+offset_bounds-v-p-in-loop-i c = search turn
 
-pub bounds-v-p-in-loop-left : goal.bounds-v-p-in-loop-left
-bounds-v-p-in-loop-left c = search turn
+pub bounds-v-p-in-loop-i : goal.bounds-v-p-in-loop-i
+bounds-v-p-in-loop-i c = search turn
 
-pub overflow_add-p-in-loop-left : goal.overflow_add-p-in-loop-left
-overflow_add-p-in-loop-left c = search turn
+pub overflow_add-p-in-loop-i : goal.overflow_add-p-in-loop-i
+overflow_add-p-in-loop-i c = search turn
 
-pub offset_bounds-v-p-in-loop-left-2 : goal.offset_bounds-v-p-in-loop-left-2
-offset_bounds-v-p-in-loop-left-2 c = search turn
+pub offset_bounds-v-p-in-loop-i-2 : goal.offset_bounds-v-p-in-loop-i-2
+offset_bounds-v-p-in-loop-i-2 c = search turn
 
-pub bounds-v-p-in-loop-left-2 : goal.bounds-v-p-in-loop-left-2
-bounds-v-p-in-loop-left-2 c = search turn
+pub bounds-v-p-in-loop-i-2 : goal.bounds-v-p-in-loop-i-2
+bounds-v-p-in-loop-i-2 c = search turn
 
 pub with_range-seen-requires : goal.with_range-seen-requires
 with_range-seen-requires c = search turn
 
-pub overflow_add-p-in-loop-left-2 : goal.overflow_add-p-in-loop-left-2
-overflow_add-p-in-loop-left-2 c = search turn
-
-pub overflow_sub-left : goal.overflow_sub-left
-overflow_sub-left c = search turn
-
-pub loop-left-smaller : goal.loop-left-smaller
-loop-left-smaller c = search turn
+pub overflow_add-p-in-loop-i-2 : goal.overflow_add-p-in-loop-i-2
+overflow_add-p-in-loop-i-2 c = search turn
 
 pub returns : goal.returns
 returns c = search turn
 
-pub loop-left-preserved : goal.loop-left-preserved
-loop-left-preserved c = search turn
+pub loop-i-preserved : goal.loop-i-preserved
+loop-i-preserved c = search turn

@@ -8,6 +8,3 @@ use Rattle.course.proofs.legs.legs_refusal.Given as goal
 
 abbrev pub invariant-loop-leg : goal.invariant-loop-leg
 invariant-loop-leg l = first_refusal (leg_refusal (view_in l.w l.x) (service_at l.s)) (upto (l.legs - l.leg) l.leg) ≡ first_refusal (leg_refusal (view_in l.w l.x) (service_at l.s)) (below l.legs)
-
-abbrev pub decreases-loop-leg : goal.decreases-loop-leg
-decreases-loop-leg l = l.legs - l.leg

@@ -1,8 +1,8 @@
 use Rattle.course.proofs.legs.Ranges.{loops}
 use Rattle.course.proofs.legs.ranges_known.Goals as goal
 
-pub loop-left-init : goal.loop-left-init
-loop-left-init c = search loops
+pub loop-i-init : goal.loop-i-init
+loop-i-init c = search loops
 
 pub day_at-requires : goal.day_at-requires
 day_at-requires c = search loops
@@ -16,14 +16,8 @@ returns-then-not-range_known c = search loops
 pub overflow_add-p : goal.overflow_add-p
 overflow_add-p c = search loops
 
-pub overflow_sub-left : goal.overflow_sub-left
-overflow_sub-left c = search loops
-
-pub loop-left-smaller : goal.loop-left-smaller
-loop-left-smaller c = search loops
-
-pub loop-left-preserved : goal.loop-left-preserved
-loop-left-preserved c = (search loops, search loops)
+pub loop-i-preserved : goal.loop-i-preserved
+loop-i-preserved c = (search loops, search loops)
 
 pub returns : goal.returns
 returns c = search loops

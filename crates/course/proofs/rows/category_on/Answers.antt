@@ -7,14 +7,8 @@ category_words-g-requires c = search held
 pub bounds-s-7 : goal.bounds-s-7
 bounds-s-7 c = search held
 
-pub covering_place-first-requires : goal.covering_place-first-requires
-covering_place-first-requires c = search held
-
-pub enum_known-first : goal.enum_known-first
-enum_known-first c = search held
-
-pub enum_told-1 : goal.enum_told-1
-enum_told-1 c = search held
+pub covering_place-requires : goal.covering_place-requires
+covering_place-requires c = search held
 
 pub returns-in_default : goal.returns-in_default
 returns-in_default c = search held

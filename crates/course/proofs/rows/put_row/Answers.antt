@@ -1,20 +1,11 @@
 use Rattle.course.proofs.rows.Written.{row}
 use Rattle.course.proofs.rows.put_row.Goals as goal
 
-pub put4-requires : goal.put4-requires
-put4-requires c = search row
-
 pub overflow_add-at : goal.overflow_add-at
 overflow_add-at c = search row
 
-pub put3-requires : goal.put3-requires
-put3-requires c = search row
-
 pub overflow_add-at-2 : goal.overflow_add-at-2
 overflow_add-at-2 c = search row
-
-pub put3-requires-2 : goal.put3-requires-2
-put3-requires-2 c = search row
 
 pub shape_of-t : goal.shape_of-t
 shape_of-t c = search row

@@ -13,9 +13,6 @@ slice_bounds-skips-start c = search passing
 pub slice_bounds-skips-end : goal.slice_bounds-skips-end
 slice_bounds-skips-end c = search passing
 
-pub skips-requires : goal.skips-requires
-skips-requires c = search passing
-
 pub returns-then-skips : goal.returns-then-skips
 returns-then-skips c = search passing
 

@@ -13,12 +13,8 @@ use Rattle.service.proofs.schedule.find_ends.Given as goal
 
 abbrev pub invariant-loop-i : goal.invariant-loop-i
 invariant-loop-i l =
-    (length l.categories ≡ length l.initial.categories) × (length l.operating ≡ length l.initial.operating) × (l.at ≡ draft_range * l.i)
-    × (verdict_by (ends_first (calls_in l.c l.calls) (rows_in range_back draft_range (l.n - l.i) (drop l.at l.ranges))) ≡ verdict_by (ends_first (calls_in l.c l.calls) (ranges_on l.n l.ranges)))
-    × (l.ends.categories + length (part_left Category (calls_in l.c l.calls) l.n l.i l.at l.ranges) ≡ length (part_words Category (calls_in l.c l.calls) (ranges_in l.n l.ranges)))
-    × (l.ends.operating + length (part_left Days (calls_in l.c l.calls) l.n l.i l.at l.ranges) ≡ length (part_words Days (calls_in l.c l.calls) (ranges_in l.n l.ranges)))
-    × (write l.categories l.ends.categories (part_left Category (calls_in l.c l.calls) l.n l.i l.at l.ranges) ≡ write l.initial.categories 0 (part_words Category (calls_in l.c l.calls) (ranges_in l.n l.ranges)))
-    × (write l.operating l.ends.operating (part_left Days (calls_in l.c l.calls) l.n l.i l.at l.ranges) ≡ write l.initial.operating 0 (part_words Days (calls_in l.c l.calls) (ranges_in l.n l.ranges)))
-
-abbrev pub decreases-loop-i : goal.decreases-loop-i
-decreases-loop-i l = l.n - l.i
+    (verdict_by (ends_first (calls_in l.c l.calls) (rows_in range_back draft_range (l.n - l.i) (drop (draft_range * l.i) l.ranges))) ≡ verdict_by (ends_first (calls_in l.c l.calls) (ranges_on l.n l.ranges)))
+    × (l.ends.categories + length (part_left Category (calls_in l.c l.calls) l.n l.i l.ranges) ≡ length (part_words Category (calls_in l.c l.calls) (ranges_in l.n l.ranges)))
+    × (l.ends.operating + length (part_left Days (calls_in l.c l.calls) l.n l.i l.ranges) ≡ length (part_words Days (calls_in l.c l.calls) (ranges_in l.n l.ranges)))
+    × (write l.categories l.ends.categories (part_left Category (calls_in l.c l.calls) l.n l.i l.ranges) ≡ write l.initial.categories 0 (part_words Category (calls_in l.c l.calls) (ranges_in l.n l.ranges)))
+    × (write l.operating l.ends.operating (part_left Days (calls_in l.c l.calls) l.n l.i l.ranges) ≡ write l.initial.operating 0 (part_words Days (calls_in l.c l.calls) (ranges_in l.n l.ranges)))

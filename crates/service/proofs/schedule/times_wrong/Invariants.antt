@@ -8,7 +8,6 @@ use Rattle.timetable.specs.Table.{rows_in}
 use Rattle.service.proofs.schedule.times_wrong.Given as goal
 
 abbrev pub invariant-loop-i : goal.invariant-loop-i
-invariant-loop-i l = (l.at ≡ draft_call * l.i) × (verdict_by (times_first l.c l.i l.before (rows_in call_back draft_call (l.c - l.i) (drop l.at l.calls))) ≡ verdict_by (times_first l.c 0 0 (calls_on l.c l.calls)))
-
-abbrev pub decreases-loop-i : goal.decreases-loop-i
-decreases-loop-i l = l.c - l.i
+invariant-loop-i l =
+    verdict_by (times_first l.c l.i l.before (rows_in call_back draft_call (l.c - l.i) (drop (draft_call * l.i) l.calls)))
+    ≡ verdict_by (times_first l.c 0 0 (calls_on l.c l.calls))

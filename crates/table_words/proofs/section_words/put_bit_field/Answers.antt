@@ -10,9 +10,6 @@ bounds-t-q c = search record-puts
 pub overflow_add-q : goal.overflow_add-q
 overflow_add-q c = search record-puts
 
-pub put12-requires : goal.put12-requires
-put12-requires c = search record-puts
-
 pub overflow_add-result : goal.overflow_add-result
 overflow_add-result c = search record-puts
 

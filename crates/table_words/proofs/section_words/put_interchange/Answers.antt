@@ -7,9 +7,6 @@ number_in-requires c = search record-puts
 pub number_in-requires-2 : goal.number_in-requires-2
 number_in-requires-2 c = search record-puts
 
-pub put3-requires : goal.put3-requires
-put3-requires c = search record-puts
-
 pub overflow_add-result : goal.overflow_add-result
 overflow_add-result c = search record-puts
 

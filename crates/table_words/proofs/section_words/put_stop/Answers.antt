@@ -10,9 +10,6 @@ overflow_cast-start c = search record-puts
 pub name_length-requires : goal.name_length-requires
 name_length-requires c = search record-puts
 
-pub put3-requires : goal.put3-requires
-put3-requires c = search record-puts
-
 pub overflow_add-result : goal.overflow_add-result
 overflow_add-result c = search record-puts
 
