@@ -4,7 +4,7 @@
 # names a file of any crate (src/lib.rt, specs/NAME), is not looked for.
 set -eu
 cd "$(dirname "$0")/.."
-[ $# -gt 0 ] || set -- README.md $(ls docs/*.md | grep -v PORT.md)
+[ $# -gt 0 ] || set -- README.md $(ls docs/*.md | grep -v -e PORT.md -e DESIGN-PASS.md)
 files=$(find . \( -name .git -o -name target -o -name out -o -path ./lib \) -prune -o -type f -print | sed 's,^\./,,')
 known=$(mktemp)
 trap 'rm -f "$known"' EXIT
@@ -15,7 +15,7 @@ trap 'rm -f "$known"' EXIT
     # wrong programs
     echo "$files" | grep '\.edit$' | xargs awk '/^wrong: / { split(FILENAME, path, "/"); print path[2] "/" $2 }'
     # words
-    echo "$files" | grep -v -e '\.md$' -e /data/ | xargs sed -e 's/^ *-- .*//' -e 's/ -- .*//' -e 's,// .*,,' | grep -oE "[A-Za-z][A-Za-z0-9_'#-]*"
+    echo "$files" | grep -v -e '\.md$' -e '\.patch$' -e /data/ | xargs sed -e 's/^ *-- .*//' -e 's/ -- .*//' -e 's,// .*,,' | grep -oE "[A-Za-z][A-Za-z0-9_'#-]*"
 } >"$known"
 
 awk '
