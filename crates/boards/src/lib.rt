@@ -503,6 +503,34 @@ fn put_call(
     if gives_none(w, x, y, s, places, first, last, e) {
         return to;
     }
+    put_rows(w, x, y, s, places, n, k, first, last, e, list, to)
+}
+
+// The same, without a look whether it is told to give none: its record is checked.
+fn put_rows(
+    w: &[u32],
+    x: &[u32],
+    y: &[u32],
+    s: u32,
+    places: usize,
+    n: u32,
+    k: u32,
+    first: u32,
+    last: u32,
+    e: u32,
+    list: &mut [u32],
+    to: usize,
+) -> usize
+    requires shelved { Shelved w.now x.now places × (k < most_period_days) }
+    requires s_in_bounds { (s ≤ length y.now) × (0 < e) × (e ≤ entries# s y.now) }
+    requires e_in_bounds { to + board_row_size * length (entry_departures w.now x.now s y.now n k first last e) ≤
+        length list.old }
+    ensures end { result ≡ to + board_row_size * length
+        (entry_departures w.now x.now s y.now n k first last e) }
+    ensures words { list.new ≡ write list.old to
+        (gathered board_row_words (entry_departures w.now x.now s y.now n k first
+        last e)) }
+{
     let b = call_batch(w, x, y, s, places, n, k, first, last, e);
     board_runs::put_batch(list, to, b)
 }
@@ -534,7 +562,7 @@ fn put_kept(
     let places = index::services_from(w);
     let mut to: usize = 0;
     for j in 0..m {
-        to = put_call(w, x, y, s, places, n, k, first, last, kept[j], list, to);
+        to = put_rows(w, x, y, s, places, n, k, first, last, kept[j], list, to);
     }
     to / ROW_WORDS
 }

@@ -7,8 +7,8 @@ gives_none-requires c = search one
 pub returns-then-gives_none : goal.returns-then-gives_none
 returns-then-gives_none c = search one
 
-pub put_batch-requires : goal.put_batch-requires
-put_batch-requires c = search one
+pub put_rows-requires : goal.put_rows-requires
+put_rows-requires c = search one
 
 pub shape_of-list : goal.shape_of-list
 shape_of-list c = search one

@@ -25,5 +25,5 @@ shape_of-list c = search tolds
 pub returns : goal.returns
 returns c = search tolds
 
-pub put_call-to-requires-clause-e_in_bounds : goal.put_call-to-requires-clause-e_in_bounds
-put_call-to-requires-clause-e_in_bounds c = search tolds
+pub put_rows-to-requires-clause-e_in_bounds : goal.put_rows-to-requires-clause-e_in_bounds
+put_rows-to-requires-clause-e_in_bounds c = search tolds
