@@ -4,7 +4,7 @@
 # names a file of any crate (src/lib.rt, specs/NAME), is not looked for.
 set -eu
 cd "$(dirname "$0")/.."
-[ $# -gt 0 ] || set -- README.md $(ls docs/*.md | grep -v -e PORT.md -e DESIGN-PASS.md)
+[ $# -gt 0 ] || set -- README.md $(ls docs/*.md | grep -v -e PORT.md -e DESIGN-PASS.md -e LOOK-BACK.md)
 files=$(find . \( -name .git -o -name target -o -name out -o -path ./lib \) -prune -o -type f -print | sed 's,^\./,,')
 known=$(mktemp)
 trap 'rm -f "$known"' EXIT
