@@ -24,7 +24,8 @@ from queue import Queue
 
 # an error that comes from another one, or from a name that is gone, says nothing of the fact
 SECONDARY = re.compile(r"was not admitted|were not admitted|was rejected|that can be named from here|has no field|is not in scope")
-ANSWER = re.compile(r"^\./(proofs/\S+?):\d+:\d+: error: `([^`]+)`: (.*)$", re.M)
+# a message goes on in the lines below that are set in
+ANSWER = re.compile(r"^\./(proofs/\S+?):\d+:\d+: error: `([^`]+)`: (.*(?:\n[ \t].*)*)", re.M)
 LEFT_OPEN = re.compile(r"expected answers in \./(proofs/\S+?); `search` did not prove (.*?)(?:; it calls|$)", re.M)
 
 

@@ -1,6 +1,6 @@
 -- The first offence of a delivery, file after file. Assumes nothing.
 use Rattle.std.specs.Prelude.{Result, Ok, Err}
-use mathlib.Core.Path.{◌≡◌, refl, sym, ap, ◌∙◌}
+use mathlib.Core.Path.{◌≡◌, refl, sym, ap, ◌∙◌, subst}
 use mathlib.Core.List.{List}
 use mathlib.Core.Bool.{Bool, true, false, cond}
 use mathlib.Core.Option.{Option, none, some}
@@ -26,8 +26,9 @@ use Rattle.reading.specs.Inner.Services.{block_words, most_plan_words}
 use Rattle.reading.proofs.Sizes.{words-fit}
 use Rattle.table_words.specs.declared.Header.{Header}
 use Rattle.load.specs.Inner.Helper.{Short}
-use Rattle.load.specs.Inner.Delivered.{long_in, header_by, header_of, refused_in, delivered_by}
+use Rattle.load.specs.Inner.Delivered.{long_in, header_by, header_of, refused_in, delivered_by, Few, FewHeld}
 use Rattle.load.specs.declared.FileOffence.{FileOffence}
+use Rattle.load.specs.declared.Counted.{Counted}
 use Rattle.load.proofs.Table.{header_is}
 
 -- ---- lengths
@@ -253,6 +254,10 @@ module _ (x : Result (ℕ × ℕ) Offence) (c k : ℕ) (y : x ≡ Ok (c, k)) whe
   pub words-few : (b s z p : List ℕ) (days : ℕ) → x ≡ checked_by (plan_first (bit_fields_in b) (stops_in s) (classes_in z) days (lines_of p)) (length (blocks (lines_of p))) (length (block_words (blocks (lines_of p)))) → length p ≤ most_file_bytes → k ≤ most_plan_words
   words-few b s z p days d l = let q : Plan b s z days p x = record { is = d } in omega (arith, words-fit p 0 1 l, counted-too q y)
 
+-- so what was counted fits a header
+pub few-held : {g : Counted} → Few g → FewHeld (Ok g)
+few-held {g} k = record { few = λ c e. let p : ◌≡◌ {A = Counted} g c = cc in subst Few p k }
+
 -- ---- the files, one after the other
 
 module _ (e b s u p z : List ℕ)
@@ -330,9 +335,9 @@ module _ (e b s u p z : List ℕ)
             pub plan-out : (r : Result (ℕ × ℕ) FileOffence) (o : FileOffence) → r ≡ refused_in 5 x₅ → r ≡ Err o → Err o ≡ answer e b s u p z
             plan-out r o v y = let k : Out 5 x₅ o = out 5 v y in refusal (same ∙ in-5 o₁ o₂ o₃ o₄ o₆ o₅ header o.offence (past c₁ y₁) (past c₂ y₂) (past c₃ y₃) (past c₄ y₄) (past c₆ y₆) (wrong c₅ k.is)) k.at
 
-            pub all_right : (v w : ℕ) (g : Header) → x₅ ≡ Ok (v, w) → g ≡ header_by start days nb ns nu nk v w → Ok g ≡ answer e b s u p z
-            all_right v w g y q =
-                ap Ok (q ∙ sym (header_is e b s u p z ∙ rw (counted c₁ y₁, days-are, counted c₂ y₂, counted c₃ y₃, counted c₄ y₄, counted c₆ y₆, counted c₅ y, counted-too c₅ y) refl))
+            pub all_right : (v w : ℕ) → x₅ ≡ Ok (v, w) → Ok (header_by start days nb ns nu nk v w) ≡ answer e b s u p z
+            all_right v w y =
+                ap Ok (sym (header_is e b s u p z ∙ rw (counted c₁ y₁, days-are, counted c₂ y₂, counted c₃ y₃, counted c₄ y₄, counted c₆ y₆, counted c₅ y, counted-too c₅ y) refl))
                 ∙ sym (same ∙ all_hold o₁ o₂ o₃ o₄ o₆ o₅ header (past c₁ y₁) (past c₂ y₂) (past c₃ y₃) (past c₄ y₄) (past c₆ y₆) (past c₅ y))
 
 pub ruleset orders = (tests, period-out, fields_out, stops-out, interchanges-out, plan-out)

@@ -14,8 +14,9 @@ ghost use Rattle.timetable.specs.Checks.{plan_first};
 ghost use Rattle.timetable.specs.Load.{delivered, content_offence, loaded, written, helped};
 ghost use Rattle.draft.specs.Inner.Draft.{calls_lent, ranges_lent};
 ghost use Rattle.reading.specs.Inner.Maps.{FieldMap, StopMap, ClassIndex};
-ghost use Rattle.reading.specs.Inner.Services.{block_words, most_plan_words};
-ghost use Rattle.load.specs.Inner.Delivered.{long_in, header_by, header_of, refused_in, delivered_by, answered, left};
+ghost use Rattle.reading.specs.Inner.Services.{block_words};
+ghost use Rattle.load.specs.Inner.Delivered.{long_in, Few, FewHeld, header_by, header_or_offence, header_of, refused_in};
+ghost use Rattle.load.specs.Inner.Delivered.{delivered_by, answered, left};
 ghost use Rattle.load.specs.Inner.Helper.{Short, needed_of, Emptied, LentAt, IndexLent, FieldsAfter, StopsAfter};
 ghost use Rattle.load.specs.Inner.Helper.{IndexAfter, StopsStand};
 
@@ -31,6 +32,19 @@ use timetable::{
 pub struct FileOffence {
     pub file: u32,
     pub offence: Offence,
+}
+
+// What was counted in the files: the first day and the days of the period, the records of each section, and the words of the services.
+#[derive(Clone, Copy)]
+struct Counted {
+    pub start: u32,
+    pub days: u32,
+    pub fields: u32,
+    pub stops: u32,
+    pub interchanges: u32,
+    pub classes: u32,
+    pub services: u32,
+    pub words: u32,
 }
 
 pub fn load(
@@ -212,9 +226,10 @@ fn load_drafting(
         (files_of eckdaten.now bitfeld.now bahnhof.now umsteigb.now fplan.now zugart.now)
         table.old }
 {
-    let delivered = check_delivery(
+    let counted = check_delivery(
         eckdaten, bitfeld, bahnhof, umsteigb, fplan, zugart, needed, m, calls, ranges,
     );
+    let delivered = header_or_offence(counted);
     match delivered {
         Err(first) => Loaded::Refused {
             number: first.offence.number,
@@ -267,11 +282,11 @@ fn check_delivery(
     m: &mut [u32],
     calls: &mut [u32],
     ranges: &mut [u32],
-) -> Result<Header, FileOffence>
+) -> Result<Counted, FileOffence>
     requires short { Short eckdaten.now bitfeld.now bahnhof.now umsteigb.now fplan.now zugart.now }
     requires emptied { Emptied bitfeld.now bahnhof.now umsteigb.now needed m.old }
     requires calls_lent_in_bounds { (calls_lent ≤ length calls.old) × (ranges_lent ≤ length ranges.old) }
-    ensures value { result ≡ delivered_by
+    ensures value { header_or_offence result ≡ delivered_by
         (content_offence
         (files_of eckdaten.now bitfeld.now bahnhof.now umsteigb.now fplan.now
         zugart.now))
@@ -279,7 +294,8 @@ fn check_delivery(
         (delivered
         (files_of eckdaten.now bitfeld.now bahnhof.now umsteigb.now fplan.now
         zugart.now))) }
-    ensures stops_stand { StopsStand bahnhof.now needed.fields needed.stops result m.new }
+    ensures few { FewHeld result }
+    ensures stops_stand { StopsStand bahnhof.now needed.fields needed.stops (header_or_offence result) m.new }
 {
     let (start, days) = in_file(1, period::check_period(eckdaten))?;
     let (fields, _) = in_file(2, fields_in(bitfeld, days, m, needed.fields))?;
@@ -295,7 +311,7 @@ fn check_delivery(
             fplan, bitfeld, bahnhof, zugart, days, m, needed, calls, ranges,
         ),
     )?;
-    Ok(header_of(
+    Ok(Counted {
         start,
         days,
         fields,
@@ -304,7 +320,7 @@ fn check_delivery(
         classes,
         services,
         words,
-    ))
+    })
 }
 
 // BITFELD, its map in the first words, so many.
@@ -436,35 +452,37 @@ fn in_file(file: u32, checked: Result<(u32, u32), Offence>) -> Result<(u32, u32)
     }
 }
 
+// The header of the table where no file offends, or the first offence.
+fn header_or_offence(counted: Result<Counted, FileOffence>) -> Result<Header, FileOffence>
+    requires { FewHeld counted }
+    ensures { result ≡ header_or_offence counted }
+{
+    match counted {
+        Err(first) => Err(first),
+        Ok(counts) => Ok(header_of(counts)),
+    }
+}
+
 // The table's header, from what was counted.
-fn header_of(
-    start: u32,
-    days: u32,
-    fields: u32,
-    stops: u32,
-    interchanges: u32,
-    classes: u32,
-    services: u32,
-    words: u32,
-) -> Header
-    requires { (fields ≤ most_file_bytes) × (stops ≤ most_file_bytes) × (interchanges ≤ most_file_bytes)
-        × (classes ≤ most_file_bytes) × (words ≤ most_plan_words) }
-    ensures { result ≡ header_by start days fields stops interchanges classes services words }
+fn header_of(counts: Counted) -> Header
+    requires { Few counts }
+    ensures { result ≡ header_by counts.start counts.days counts.fields counts.stops counts.interchanges
+        counts.classes counts.services counts.words }
 {
     let first = HEADER_WORDS as u32
-        + BIT_FIELD_WORDS as u32 * fields
-        + STOP_WORDS as u32 * stops
-        + INTERCHANGE_WORDS as u32 * interchanges
-        + CLASS_WORDS as u32 * classes;
+        + BIT_FIELD_WORDS as u32 * counts.fields
+        + STOP_WORDS as u32 * counts.stops
+        + INTERCHANGE_WORDS as u32 * counts.interchanges
+        + CLASS_WORDS as u32 * counts.classes;
     Header {
-        words: first + words,
-        start,
-        n: days,
-        fields,
-        stops,
-        interchanges,
-        services,
+        words: first + counts.words,
+        start: counts.start,
+        n: counts.days,
+        fields: counts.fields,
+        stops: counts.stops,
+        interchanges: counts.interchanges,
+        services: counts.services,
         first,
-        classes,
+        classes: counts.classes,
     }
 }

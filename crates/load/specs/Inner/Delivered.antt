@@ -1,5 +1,5 @@
--- What the checks of a delivery answer: the header of its table, or its first offence. Assumes nothing.
-use Rattle.std.specs.Prelude.{ℕ, ◌+◌, List, cond, length, ltb, Result, Ok, Err}
+-- What the checks of a delivery answer: what was counted, for the header of its table, or its first offence. Assumes nothing.
+use Rattle.std.specs.Prelude.{ℕ, ◌+◌, ◌≤◌, ◌≡◌, List, cond, length, ltb, Result, Ok, Err}
 use Rattle.std.proofs.Math.Option.{Option, none, some}
 use Rattle.timetable.specs.Layout.{header_size, most_file_bytes, first_service}
 use Rattle.timetable.specs.Delivery.{Files, Delivery}
@@ -9,6 +9,8 @@ use Rattle.timetable.specs.declared.Loaded.{Loaded}
 use Rattle.timetable.specs.declared.Loaded.TheVariants.{Accepted}
 use Rattle.table_words.specs.declared.Header.{Header}
 use Rattle.load.specs.declared.FileOffence.{FileOffence}
+use Rattle.load.specs.declared.Counted.{Counted}
+use Rattle.reading.specs.Inner.Services.{most_plan_words}
 use Rattle.timetable.specs.declared.Offence.{Offence}
 
 -- the first of six files that is too long, by their sizes, ZUGART's before FPLAN's; 0 where none is
@@ -30,6 +32,23 @@ header_by start days b s u k v w = record {
   first = first_service b s u k;
   classes = k;
 }
+
+-- what was counted fits the numbers of a header
+pub record Few (c : Counted) : Type 0 where
+  pub fields : c.fields ≤ most_file_bytes
+  pub stops : c.stops ≤ most_file_bytes
+  pub interchanges : c.interchanges ≤ most_file_bytes
+  pub classes : c.classes ≤ most_file_bytes
+  pub words : c.words ≤ most_plan_words
+
+-- where no file offends
+pub record FewHeld (r : Result Counted FileOffence) : Type 0 where
+  pub few : (c : Counted) → r ≡ Ok c → Few c
+
+-- the header of what was counted, or the first offence
+abbrev pub header_or_offence : Result Counted FileOffence → Result Header FileOffence
+header_or_offence (Err first) = Err first
+header_or_offence (Ok c) = Ok (header_by c.start c.days c.fields c.stops c.interchanges c.classes c.services c.words)
 
 -- the header of a delivery's table
 abbrev pub header_of : Delivery → Header
