@@ -6,4 +6,4 @@ use Rattle.examples.proofs.Computing.{computing}
 
 pub places : Hold rows
 unfolding computing
-places = (refl, (refl, (refl, (refl, (refl, (refl, (refl, (refl, (refl, (refl, (refl, (refl, (refl, tt)))))))))))))
+places = (refl, (refl, (refl, (refl, (refl, (refl, (refl, (refl, (refl, (refl, (refl, (refl, (refl, (refl, tt))))))))))))))

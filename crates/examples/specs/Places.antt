@@ -1,15 +1,14 @@
 -- Calls that point at stops (document 02, No. 10), in the trial week. Assumes nothing.
 use Rattle.std.specs.Prelude.{ℕ, ◌+◌, ◌*◌, List, [], ◌∷◌, ◌++◌, map, true, false, drop, take, set}
 use Rattle.base.specs.Lists.{gathered}
-use Rattle.timetable.specs.declared.refusal.Refusal.{Refusal}
-use Rattle.timetable.specs.declared.refusal.Refusal.TheVariants.{NoTable, StopUnknown}
+use Rattle.timetable.specs.declared.refusal.Refusal.TheVariants.{NoTable}
 use Rattle.timetable.specs.Delivery.{Files, Service}
 use Rattle.timetable.specs.Layout.{header_size, bit_field_size, stop_size, service_head}
 use Rattle.timetable.specs.Load.{delivered}
 use Rattle.timetable.specs.Table.{table_words, services#, services_place, services_in, is_table}
 use Rattle.timetable.specs.Questions.{Journey, refused, rows as listed, walk_of}
 use Rattle.timetable.specs.declared.Call.{Call}
-use Rattle.whole_runs.specs.OldTable.{old_table_words, old_walk_of}
+use Rattle.whole_runs.specs.OldTable.{as_now, retired, old_table_words, old_walk_of, old_walk_rows}
 use Rattle.examples.specs.Trial.{line, trial, friday_rows}
 use Rattle.examples.specs.Rows.{Row, row}
 
@@ -70,7 +69,9 @@ rows =
     ∷ row (on_friday (first_call_at 3 trial)) (refused NoTable)
     ∷ row (on_friday (old_table_words (delivered trial))) (refused NoTable)
     -- "each question answers as it did on the old table"
-    ∷ row (old_walk_of StopUnknown (old_table_words (delivered trial)) 0 0 5 12 2025) (listed friday_rows)
-    -- a walk left as it was would take a place for a number (its 32 is "stop unknown")
-    ∷ row (old_walk_of StopUnknown (table_words (delivered trial)) 0 0 5 12 2025) (refused StopUnknown)
+    ∷ row (old_walk_of (old_table_words (delivered trial)) 0 0 5 12 2025) (as_now (listed friday_rows))
+    -- a walk left as it was would take a place for a number
+    ∷ row (old_walk_of (table_words (delivered trial)) 0 0 5 12 2025) (retired 32)
+    -- and leave the rows as lent
+    ∷ row (old_walk_rows (table_words (delivered trial)) 0 0 5 12 2025 (7 ∷ [])) (7 ∷ [])
     ∷ []

@@ -3,7 +3,7 @@
 -- (`stops-found`), so that the old test would always pass (`test-passes`). Assumes nothing.
 use mathlib.Core.Path.{◌≡◌, refl, sym, ap, ◌∙◌, subst}
 use mathlib.Core.List.{List, [], ◌∷◌, ◌++◌, map}
-use mathlib.Core.Bool.{true, false, cond, not}
+use mathlib.Core.Bool.{Bool, true, false, cond, not}
 use mathlib.Core.Option.{Option, none, some}
 use Prim.Native.Nat.{ℕ, zero, suc, ◌+◌}
 use native.Mathlib.Omega.{arith}
@@ -23,9 +23,9 @@ use Rattle.timetable.specs.Runs.{has_run, lateness}
 use Rattle.timetable.specs.Table.{stop_place, with_stop, pointing, service_words, table_words, stop_at, stops#, stops_at, table_of, is_table}
 use Rattle.timetable.specs.StopNames.{stop_name_asked}
 use Rattle.timetable.specs.View.{View, view_of, service_by}
-use Rattle.timetable.specs.Run.{runs_along, not_running, leg_refusal, first_refusal, idle_legs, leading_legs, needed_last, calls_refusal, course_by, stretch_course, day_course, course_on, service_course, run_along, run_by, run_of}
+use Rattle.timetable.specs.Run.{Course, runs_along, not_running, leg_refusal, first_refusal, idle_legs, leading_legs, needed_last, call_refusal, calls_refusal, course_by, stretch_course, day_course, course_on, service_course, run_along, run_by, run_of}
 use Rattle.timetable.specs.Questions.{date_of, day_asked, interchange_asked, between_asked}
-use Rattle.timetable.specs.Questions.{Journey, rows_along, dated_run, journey, walk_of, Walked, walk_refusal, walked_by, walked, rows_by}
+use Rattle.timetable.specs.Questions.{Journey, rows_along, dated_run, journey, walk_of, Walked, walk_refusal, walked_by, walked}
 use Rattle.timetable.specs.declared.Call.{Call}
 use Rattle.timetable.specs.declared.Loaded.{Loaded}
 use Rattle.timetable.specs.declared.Loaded.TheVariants.{Accepted}
@@ -35,7 +35,7 @@ use Rattle.timetable.proofs.Rows.{length-rows}
 use Rattle.timetable.specs.declared.refusal.Refusal.{Refusal}
 use Rattle.timetable.specs.Refusals.{number_of}
 use Rattle.whole_runs.specs.OldTable.{old_table_words, old_table_of, old_is_table, old_loaded, old_written, old_day_asked, old_interchange_asked, old_between_asked, old_stop_name_asked}
-use Rattle.whole_runs.specs.OldTable.{old_calls_refusal, old_run_by, old_dated_run, old_service_course, old_journey, old_walk_of, points_below, AsBefore, TwoTables}
+use Rattle.whole_runs.specs.OldTable.{Old, as_now, old_by, refusal_now, old_course_by, old_rows_by, old_calls_refusal, old_run_by, old_dated_run, old_service_course, old_journey, old_walk_of, points_below, AsBefore, TwoTables}
 use Rattle.whole_runs.specs.Promise.{is_walk_refusal, AnyWalk, lists, short, nowhere, refuses}
 use Rattle.whole_runs.proofs.Lists.{all_drop, all-elem}
 use Rattle.whole_runs.proofs.Places.{StopsKnown, services-found, pointed, words-pointed, table-by-places}
@@ -65,18 +65,34 @@ load-as-before f room helper = rw (words_same (delivered f))
 
 -- ---- the test for 32 passes where each call's stop is known
 
-module _ (x : Refusal) (d : Delivery) (s : Service) where
-  calls_same : (a n i before : ℕ) (cs : List Call) → All (λ (c : Call). has_stop c.stop d.stops ≡ true) cs → old_calls_refusal x d s a n i before cs ≡ calls_refusal s a n i before cs
+-- what is as now throughout
+or-now : (o p : Option Refusal) → refusal_now o <|> refusal_now p ≡ refusal_now (o <|> p)
+unfolding ◌<|>◌
+or-now none p = refl
+or-now (some refusal) p = refl
+
+course-now : (not-found : Bool) (leg call : Option Refusal) (idle torn : Bool) (a b c e : Course)
+    → cond not-found (as_now a) (old_course_by (refusal_now leg) (cond idle (as_now b) (cond torn (as_now c) (old_course_by (refusal_now call) (as_now e))))) ≡ as_now (cond not-found a (course_by leg (cond idle b (cond torn c (course_by call e)))))
+course-now true leg call idle torn a b c e = refl
+course-now false (some refusal) call idle torn a b c e = refl
+course-now false none call true torn a b c e = refl
+course-now false none call false true a b c e = refl
+course-now false none (some refusal) false false a b c e = refl
+course-now false none none false false a b c e = refl
+
+module _ (d : Delivery) (s : Service) where
+  calls_same : (a n i before : ℕ) (cs : List Call) → All (λ (c : Call). has_stop c.stop d.stops ≡ true) cs → old_calls_refusal d s a n i before cs ≡ refusal_now (calls_refusal s a n i before cs)
   unfolding old_calls_refusal calls_refusal ◌<|>◌
   calls_same a n i before [] nil = refl
-  calls_same a n i before (c ∷ cs) (cons h t) = rw (h, calls_same a n (i + 1) (needed_last n i c) cs t)
+  calls_same a n i before (c ∷ cs) (cons h t) =
+      rw (h, calls_same a n (i + 1) (needed_last n i c) cs t) (or-now (call_refusal s a n i before c) (calls_refusal s a n (i + 1) (needed_last n i c) cs))
 
   all_take : (k : ℕ) (cs : List Call) → All (λ (c : Call). has_stop c.stop d.stops ≡ true) cs → All (λ (c : Call). has_stop c.stop d.stops ≡ true) (take k cs)
   all_take zero cs h = nil
   all_take (suc k) [] h = nil
   all_take (suc k) (c ∷ cs) (cons h t) = cons h (all_take k cs t)
 
-  course-same : (r k : ℕ) → StopsKnown d.stops s → old_service_course x d s r (operated_legs d.fields s k) ≡ service_course (view_of d) s r k
+  course-same : (r k : ℕ) → StopsKnown d.stops s → old_service_course d s r (operated_legs d.fields s k) ≡ as_now (service_course (view_of d) s r k)
   unfolding service_course course_on day_course stretch_course
   course-same r k h =
       let bs = operated_legs d.fields s k in
@@ -84,22 +100,24 @@ module _ (x : Refusal) (d : Delivery) (s : Service) where
       let n = leading_legs (drop a bs) in
       let cs = take (n + 1) (drop a s.calls) in
       let known = all_take (n + 1) (drop a s.calls) (all_drop (λ (c : Call). has_stop c.stop d.stops ≡ true) a s.calls h) in
+      let legs = first_refusal (leg_refusal (view_of d) s) (below (leg_count s)) in
       ap
-      (λ (o : Option Refusal). cond (not (has_run s.opening r)) (Err NoSuchRun)
-      (course_by (first_refusal (leg_refusal (view_of d) s) (below (leg_count s)))
-      (cond (eqb (stretches false bs) 0) not_running (cond (leb 2 (stretches false bs)) (Err TwoStretches) (course_by o (runs_along a n))))))
+      (λ (o : Option (Old Refusal)). cond (not (has_run s.opening r)) (as_now (Err NoSuchRun))
+      (old_course_by (refusal_now legs)
+      (cond (eqb (stretches false bs) 0) (as_now not_running) (cond (leb 2 (stretches false bs)) (as_now (Err TwoStretches)) (old_course_by o (as_now (runs_along a n)))))))
       (calls_same a n 0 0 cs known)
+      ∙ course-now (not (has_run s.opening r)) legs (calls_refusal s a n 0 0 cs) (eqb (stretches false bs) 0) (leb 2 (stretches false bs)) (Err NoSuchRun) not_running (Err TwoStretches) (runs_along a n)
 
-module _ (x : Refusal) (d : Delivery) (known : All (StopsKnown d.stops) d.services) where
-  pub journey-same : (i r day month year : ℕ) → old_journey x d i r day month year ≡ journey (view_of d) i r day month year
+module _ (d : Delivery) (known : All (StopsKnown d.stops) d.services) where
+  pub journey-same : (i r day month year : ℕ) → old_journey d i r day month year ≡ as_now (journey (view_of d) i r day month year)
   unfolding old_journey journey run_of
-  journey-same i r day month year = ap (rows_along (view_of d)) (on (date_of (view_of d) day month year))
+  journey-same i r day month year = ap (old_by (rows_along (view_of d))) (on (date_of (view_of d) day month year))
     where
-      found : (k : ℕ) (o : Option Service) → get_elem? d.services i ≡ o → old_run_by x d o r k ≡ run_by (view_of d) (service_by o) r k
+      found : (k : ℕ) (o : Option Service) → get_elem? d.services i ≡ o → old_run_by d o r k ≡ as_now (run_by (view_of d) (service_by o) r k)
       found k none e = refl
-      found k (some s) e = ap (run_along s (lateness s.opening r)) (course-same x d s r k (all-elem (StopsKnown d.stops) d.services i s known e))
+      found k (some s) e = ap (old_by (run_along s (lateness s.opening r))) (course-same d s r k (all-elem (StopsKnown d.stops) d.services i s known e))
 
-      on : (t : Result ℕ Refusal) → old_dated_run x d i r t ≡ dated_run (view_of d) i r t
+      on : (t : Result ℕ Refusal) → old_dated_run d i r t ≡ as_now (dated_run (view_of d) i r t)
       on (Err refusal) = refl
       on (Ok k) = found k (get_elem? d.services i) refl
 
@@ -116,8 +134,8 @@ module _ (w : List ℕ) (e : is_table w ≡ true) where
       services-found stops (old_table_of w).services (rw n places)
 
   -- So with the test for 32 every walk would be the same.
-  pub test-passes : (x : Refusal) (i r day month year : ℕ) → old_journey x (table_of w) i r day month year ≡ journey (view_of (table_of w)) i r day month year
-  test-passes x = journey-same x (table_of w) stops-found
+  pub test-passes : (i r day month year : ℕ) → old_journey (table_of w) i r day month year ≡ as_now (journey (view_of (table_of w)) i r day month year)
+  test-passes = journey-same (table_of w) stops-found
 
 abbrev numbered_by : Walked → ℕ
 numbered_by (Err w) = number_of w.refusal
@@ -143,9 +161,9 @@ no-32 w i r day month year room needed refusal n = go (any-walk w i r day month 
 
 -- words that are a table, and the old table's, which hold the same delivery
 module _ (w old : List ℕ) (d : Delivery) (is : is_table w ≡ true) (holds : table_of w ≡ d) (old_is : old_is_table old ≡ true) (old_holds : old_table_of old ≡ d) (known : All (StopsKnown d.stops) d.services) where
-  walks_same : (x : Refusal) (i r day month year : ℕ) → walk_of w i r day month year ≡ old_walk_of x old i r day month year
+  walks_same : (i r day month year : ℕ) → as_now (walk_of w i r day month year) ≡ old_walk_of old i r day month year
   unfolding walk_of old_walk_of
-  walks_same x i r day month year = rw (is, holds, old_is, old_holds) (sym (journey-same x d known i r day month year))
+  walks_same i r day month year = rw (is, holds, old_is, old_holds) (sym (journey-same d known i r day month year))
 
   answers-same : AsBefore w old
   unfolding day_asked old_day_asked interchange_asked old_interchange_asked between_asked old_between_asked stop_name_asked old_stop_name_asked
@@ -154,8 +172,8 @@ module _ (w old : List ℕ) (d : Delivery) (is : is_table w ≡ true) (holds : t
     interchange = λ n a b. rw (is, holds, old_is, old_holds) refl;
     between = λ n a b. rw (is, holds, old_is, old_holds) refl;
     stop_name = λ bahnhof stop language type. rw (is, holds, old_is, old_holds) refl;
-    walk = λ x i r day month year room. ap (λ (j : Journey). walked_by j room) (walks_same x i r day month year);
-    rows_walked = λ x i r day month year lent. ap (λ (j : Journey). rows_by j lent) (walks_same x i r day month year);
+    walk = λ i r day month year room. ap (old_by (λ (j : Journey). walked_by j room)) (walks_same i r day month year);
+    rows_walked = λ i r day month year lent. ap (λ (j : Old Journey). old_rows_by j lent) (walks_same i r day month year);
   }
 
 module _ (f : Files) (t : List ℕ) (helper u : ℕ) (e : loaded f (length t) helper ≡ Accepted u) where

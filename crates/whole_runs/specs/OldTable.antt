@@ -19,7 +19,7 @@ use Rattle.timetable.specs.Table.{word_count_in, used_words, first_day, period_d
 use Rattle.timetable.specs.Table.{legs_sound, sizes_sound, head_sound, class_sound, table_of, is_table}
 use Rattle.timetable.specs.Load.{length_offence, content_offence, helper_needed, refused_or, short_or, loaded, written_by, written, delivered}
 use Rattle.timetable.specs.View.{View, view_of}
-use Rattle.timetable.specs.Run.{Course, runs_along, not_running, refuse, leg_refusal, first_refusal, Stretch, stretch_of, stretch_calls, needed_last, call_refusal, course_by, RunFound, no_run, run_along}
+use Rattle.timetable.specs.Run.{Course, runs_along, not_running, leg_refusal, first_refusal, Stretch, stretch_of, stretch_calls, needed_last, call_refusal, course_by, RunFound, no_run, run_along}
 use Rattle.timetable.specs.Questions.{date_of, day_in, day_asked, interchange_in, interchange_asked, between_in, between_asked}
 use Rattle.timetable.specs.Questions.{Journey, refused, rows_along, Walked, walked_by, walked, rows_by, walk_rows}
 use Rattle.timetable.specs.StopNames.{stop_name_in, stop_name_asked}
@@ -129,43 +129,68 @@ unfoldable pub old_stop_name_asked : List ℕ → List ℕ → ℕ → ℕ → �
 old_stop_name_asked w bahnhof stop language type = old_asked Err (λ (v : View). stop_name_in v bahnhof stop language type) w
 
 -- the walk: the same course, but for the calls' test for 32
--- "Each call of the stretch: 32 stop unknown, 36 .., 33 .." 32 is retired, so that no refusal has that number today: x stands for it, and what is proved is proved of
--- any refusal in its place.
-abbrev pub old_call_refusal : Refusal → Delivery → Service → ℕ → ℕ → ℕ → ℕ → Call → Option Refusal
-old_call_refusal x d s a n i before c = refuse (not (has_stop c.stop d.stops)) x <|> call_refusal s a n i before c
 
-unfoldable pub old_calls_refusal : Refusal → Delivery → Service → ℕ → ℕ → ℕ → ℕ → List Call → Option Refusal
-old_calls_refusal x d s a n i before [] = none
-old_calls_refusal x d s a n i before (c ∷ cs) = old_call_refusal x d s a n i before c <|> old_calls_refusal x d s a n (i + 1) (needed_last n i c) cs
+-- 32 is retired: no refusal has that number today. So the old walk gives what a walk gives now, or a number that is retired.
+pub data Old (X : Type 0) : Type 0 where
+  as_now : X → Old X
+  retired : ℕ → Old X
 
-abbrev pub old_stretch_course : Refusal → Delivery → Service → Stretch → Course
-old_stretch_course x d s t = course_by (old_calls_refusal x d s t.start t.legs 0 0 (stretch_calls s t)) (runs_along t.start t.legs)
+-- carried on, where no retired number was given
+abbrev pub old_by : {X Y : Type 0} → (X → Y) → Old X → Old Y
+old_by f (as_now x) = as_now (f x)
+old_by f (retired number) = retired number
 
-abbrev pub old_service_course : Refusal → Delivery → Service → ℕ → List Bool → Course
-old_service_course x d s r bs =
-    cond (not (has_run s.opening r)) (Err NoSuchRun)
-    (course_by (first_refusal (leg_refusal (view_of d) s) (below (leg_count s)))
-    (cond (eqb (stretches false bs) 0) not_running (cond (leb 2 (stretches false bs)) (Err TwoStretches) (old_stretch_course x d s (stretch_of bs)))))
+-- a refusal of today's
+abbrev pub refusal_now : Option Refusal → Option (Old Refusal)
+refusal_now none = none
+refusal_now (some refusal) = some (as_now refusal)
 
-abbrev pub old_run_by : Refusal → Delivery → Option Service → ℕ → ℕ → RunFound
-old_run_by x d none r k = no_run NoSuchService
-old_run_by x d (some s) r k = run_along s (lateness s.opening r) (old_service_course x d s r (operated_legs d.fields s k))
+-- "Each call of the stretch: 32 stop unknown, 36 .., 33 .."
+abbrev pub old_call_refusal : Delivery → Service → ℕ → ℕ → ℕ → ℕ → Call → Option (Old Refusal)
+old_call_refusal d s a n i before c = cond (not (has_stop c.stop d.stops)) (some (retired 32)) none <|> refusal_now (call_refusal s a n i before c)
 
-abbrev pub old_dated_run : Refusal → Delivery → ℕ → ℕ → Result ℕ Refusal → RunFound
-old_dated_run x d i r (Err refusal) = no_run refusal
-old_dated_run x d i r (Ok k) = old_run_by x d (get_elem? d.services i) r k
+unfoldable pub old_calls_refusal : Delivery → Service → ℕ → ℕ → ℕ → ℕ → List Call → Option (Old Refusal)
+old_calls_refusal d s a n i before [] = none
+old_calls_refusal d s a n i before (c ∷ cs) = old_call_refusal d s a n i before c <|> old_calls_refusal d s a n (i + 1) (needed_last n i c) cs
 
-unfoldable pub old_journey : Refusal → Delivery → ℕ → ℕ → ℕ → ℕ → ℕ → Journey
-old_journey x d i r day month year = rows_along (view_of d) (old_dated_run x d i r (date_of (view_of d) day month year))
+-- a refusal, or the course
+abbrev pub old_course_by : Option (Old Refusal) → Old Course → Old Course
+old_course_by none c = c
+old_course_by (some refusal) c = old_by Err refusal
 
-unfoldable pub old_walk_of : Refusal → List ℕ → ℕ → ℕ → ℕ → ℕ → ℕ → Journey
-old_walk_of x w i r day month year = cond (old_is_table w) (old_journey x (old_table_of w) i r day month year) (refused NoTable)
+abbrev pub old_stretch_course : Delivery → Service → Stretch → Old Course
+old_stretch_course d s t = old_course_by (old_calls_refusal d s t.start t.legs 0 0 (stretch_calls s t)) (as_now (runs_along t.start t.legs))
 
-abbrev pub old_walked : Refusal → List ℕ → ℕ → ℕ → ℕ → ℕ → ℕ → ℕ → Walked
-old_walked x w i r day month year room = walked_by (old_walk_of x w i r day month year) room
+abbrev pub old_service_course : Delivery → Service → ℕ → List Bool → Old Course
+old_service_course d s r bs =
+    cond (not (has_run s.opening r)) (as_now (Err NoSuchRun))
+    (old_course_by (refusal_now (first_refusal (leg_refusal (view_of d) s) (below (leg_count s))))
+    (cond (eqb (stretches false bs) 0) (as_now not_running) (cond (leb 2 (stretches false bs)) (as_now (Err TwoStretches)) (old_stretch_course d s (stretch_of bs)))))
 
-abbrev pub old_walk_rows : Refusal → List ℕ → ℕ → ℕ → ℕ → ℕ → ℕ → List ℕ → List ℕ
-old_walk_rows x w i r day month year t = rows_by (old_walk_of x w i r day month year) t
+abbrev pub old_run_by : Delivery → Option Service → ℕ → ℕ → Old RunFound
+old_run_by d none r k = as_now (no_run NoSuchService)
+old_run_by d (some s) r k = old_by (run_along s (lateness s.opening r)) (old_service_course d s r (operated_legs d.fields s k))
+
+abbrev pub old_dated_run : Delivery → ℕ → ℕ → Result ℕ Refusal → Old RunFound
+old_dated_run d i r (Err refusal) = as_now (no_run refusal)
+old_dated_run d i r (Ok k) = old_run_by d (get_elem? d.services i) r k
+
+unfoldable pub old_journey : Delivery → ℕ → ℕ → ℕ → ℕ → ℕ → Old Journey
+old_journey d i r day month year = old_by (rows_along (view_of d)) (old_dated_run d i r (date_of (view_of d) day month year))
+
+unfoldable pub old_walk_of : List ℕ → ℕ → ℕ → ℕ → ℕ → ℕ → Old Journey
+old_walk_of w i r day month year = cond (old_is_table w) (old_journey (old_table_of w) i r day month year) (as_now (refused NoTable))
+
+abbrev pub old_walked : List ℕ → ℕ → ℕ → ℕ → ℕ → ℕ → ℕ → Old Walked
+old_walked w i r day month year room = old_by (λ (j : Journey). walked_by j room) (old_walk_of w i r day month year)
+
+-- Refusals "leave the rows as lent".
+abbrev pub old_rows_by : Old Journey → List ℕ → List ℕ
+old_rows_by (as_now j) t = rows_by j t
+old_rows_by (retired number) t = t
+
+abbrev pub old_walk_rows : List ℕ → ℕ → ℕ → ℕ → ℕ → ℕ → List ℕ → List ℕ
+old_walk_rows w i r day month year t = old_rows_by (old_walk_of w i r day month year) t
 
 -- ---- "each question answers as it did on the old table": of a table's words, and the old table's
 
@@ -175,8 +200,8 @@ pub record AsBefore (w old : List ℕ) : Type 0 where
   pub between : (n a b : ℕ) → between_asked w n a b ≡ old_between_asked old n a b
   pub stop_name : (bahnhof : List ℕ) (stop language type : ℕ) → stop_name_asked w bahnhof stop language type ≡ old_stop_name_asked old bahnhof stop language type
   -- rows and refusals alike, with any room
-  pub walk : (x : Refusal) (i r day month year room : ℕ) → walked w i r day month year room ≡ old_walked x old i r day month year room
-  pub rows_walked : (x : Refusal) (i r day month year : ℕ) (lent : List ℕ) → walk_rows w i r day month year lent ≡ old_walk_rows x old i r day month year lent
+  pub walk : (i r day month year room : ℕ) → as_now (walked w i r day month year room) ≡ old_walked old i r day month year room
+  pub rows_walked : (i r day month year : ℕ) (lent : List ℕ) → walk_rows w i r day month year lent ≡ old_walk_rows old i r day month year lent
 
 -- of an accepted delivery: either table is one, of as many words, and holds that same delivery (`same_load` and `same_length` hold of every delivery:
 -- `load-as-before`, `words_same`)
